@@ -1,0 +1,86 @@
+-- Blocks and texts from their parts, for the worked examples of this crate and those above it. Assumes nothing.
+use mathlib.Core.List.{List, [], _∷_, _++_}
+use Prim.Native.Nat.{ℕ, zero, suc, _+_, _*_}
+use Prim.Native.Char.{code}
+use Prim.Native.String as string
+use Prim.Native.String.{String}
+use lib.IntN.{ℤ}
+use lib.ListN.{length}
+use Rattle.arith.specs.Exact.{unsigned}
+use Rattle.wire.specs.Bytes.{bytesOf}
+
+-- The bytes of a text.
+unfoldable pub text : String → List ℕ
+text string.[] = []
+text (string._∷_ c s) = code c ∷ text s
+
+-- The parts, one behind the other.
+unfoldable pub joined : List (List ℕ) → List ℕ
+joined [] = []
+joined (p ∷ ps) = p ++ joined ps
+
+-- The same part several times.
+unfoldable pub times : ℕ → List ℕ → List ℕ
+times zero p = []
+times (suc n) p = p ++ times n p
+
+-- "Bytes: op, x, y, z, then w (32 bits)."
+abbrev pub instr : ℕ → ℕ → ℕ → ℕ → ℕ → List ℕ
+instr op x y z w = op ∷ x ∷ y ∷ z ∷ bytesOf 4 w
+
+-- The instructions, by their names.
+abbrev pub STOP : List ℕ
+STOP = instr 0 0 0 0 0
+
+abbrev pub THROW : List ℕ
+THROW = instr 1 0 0 0 0
+
+abbrev pub SET : ℕ → ℤ → List ℕ
+SET x value = instr 2 x 0 0 (unsigned 32 value)
+
+abbrev pub MUL : ℕ → ℕ → ℕ → List ℕ
+MUL x y z = instr 8 x y z 0
+
+abbrev pub DIV : ℕ → ℕ → ℕ → List ℕ
+DIV x y z = instr 9 x y z 0
+
+-- GET and PUT with a from a source and b zero.
+abbrev pub GET : ℕ → (field a : ℕ) → List ℕ
+GET x field a = instr 10 x a 0 field
+
+abbrev pub PUT : ℕ → (field a : ℕ) → List ℕ
+PUT x field a = instr 11 x a 0 field
+
+abbrev pub BAL : ℕ → List ℕ
+BAL x = instr 12 x 0 0 0
+
+-- PAY to a constant.
+abbrev pub PAY : ℕ → (target : ℕ) → List ℕ
+PAY x target = instr 13 x 6 0 (target * 65536)
+
+abbrev pub JEQ : ℕ → ℕ → (to : ℕ) → List ℕ
+JEQ x y to = instr 14 x y 0 to
+
+-- The records of a block.
+abbrev pub recordOf : ℕ → List ℕ → List ℕ
+recordOf kind body = bytesOf 2 (length body) ++ bytesOf 2 kind ++ body
+
+abbrev pub function : (contract number : ℕ) → List (List ℕ) → List ℕ
+function contract number instrs = recordOf 1 (bytesOf 2 contract ++ bytesOf 2 number ++ joined instrs)
+
+abbrev pub cell : (address field a b : ℕ) → ℤ → List ℕ
+cell address field a b value =
+    recordOf 2 (bytesOf 2 address ++ bytesOf 2 field ++ bytesOf 4 a ++ bytesOf 4 b ++ bytesOf 8 (unsigned 64 value))
+
+-- A call with its first argument; the others are zero.
+abbrev pub callWith : (sender contract number : ℕ) → ℤ → ℕ → List ℕ
+callWith sender contract number value argument =
+    recordOf 3
+    (bytesOf 2 sender
+    ++ bytesOf 2 contract ++ bytesOf 2 number ++ bytesOf 8 (unsigned 64 value) ++ bytesOf 4 argument ++ bytesOf 12 0)
+
+abbrev pub call : (sender contract number : ℕ) → ℤ → List ℕ
+call sender contract number value = callWith sender contract number value 0
+
+abbrev pub end : List ℕ
+end = recordOf 4 []

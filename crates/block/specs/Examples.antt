@@ -1,0 +1,52 @@
+-- What the reader makes of block P, and some refusals, computed. Assumes nothing.
+use mathlib.Core.Path.{_≡_, refl}
+use mathlib.Core.List.{List, [], _∷_, map}
+use Prim.Native.Nat.{ℕ, _*_, _^_}
+use lib.IntN.{pos}
+use lib.ListN.{length}
+use Rattle.block.specs.Record.{Block, functionId}
+use Rattle.block.specs.Reader.{Read, accepted, refused, readBlock}
+use Rattle.block.specs.Refusal.{numberOf, offsetOf}
+use Rattle.block.specs.Assemble.{text, joined, instr, SET, JEQ, function, cell, call, end}
+use Rattle.block.specs.Worked.{P}
+use Rattle.block.specs.Computing.{computing}
+
+-- A block's functions (contract and number), their codes' starts and lengths, its keys, the number of its calls and the first one's
+-- offset; of a refused file, the number and the offset.
+unfoldable pub outline : Read → List (List ℕ)
+outline (refused why) = (numberOf why ∷ offsetOf why ∷ []) ∷ []
+outline (accepted b) =
+    map functionId (b .functions)
+    ∷ map (λ f. f .start) (b .functions)
+    ∷ map (λ f. f .size) (b .functions)
+    ∷ map (λ c. c .key) (b .cells) ∷ (length (b .calls) ∷ b .first ∷ []) ∷ []
+
+abbrev reads : List (List ℕ) → List (List ℕ)
+reads parts = outline (readBlock (joined parts))
+
+pub record Read-P : Type 0 where
+  pub block-p : outline (readBlock P) ≡ (2147483648 ∷ 2147483649 ∷ 2147483650 ∷ []) ∷ (8 ∷ 32 ∷ 80 ∷ []) ∷ (2 ∷ 5 ∷ 2 ∷ []) ∷ ((5 * 2 ^ 80) ∷ []) ∷ (3 ∷ 120 ∷ []) ∷ []
+  -- 10 comes before 6: the second function is not rising and has a wrong instruction.
+  pub code-first : reads (function 32768 1 [] ∷ function 32768 1 (instr 16 0 0 0 0 ∷ []) ∷ end ∷ []) ≡ (10 ∷ 16 ∷ []) ∷ []
+  -- A jump goes forward, and to the code's length at most.
+  pub jump-back : reads (function 32768 0 (JEQ 0 0 0 ∷ []) ∷ end ∷ []) ≡ (10 ∷ 8 ∷ []) ∷ []
+  pub jump-past : reads (function 32768 0 (JEQ 0 0 2 ∷ []) ∷ end ∷ []) ≡ (10 ∷ 8 ∷ []) ∷ []
+  pub register-8 : reads (function 32768 0 (SET 8 (pos 0) ∷ []) ∷ end ∷ []) ≡ (10 ∷ 8 ∷ []) ∷ []
+  -- A contract is no sender, and an account no contract.
+  pub sender : reads (call 32768 32768 0 (pos 0) ∷ end ∷ []) ≡ (5 ∷ 0 ∷ []) ∷ []
+  pub contract : reads (call 32767 32767 0 (pos 0) ∷ end ∷ []) ≡ (5 ∷ 0 ∷ []) ∷ []
+  pub behind : reads (end ∷ (0 ∷ []) ∷ []) ≡ (8 ∷ 4 ∷ []) ∷ []
+
+pub read-p : Read-P
+unfolding computing text joined P outline
+read-p =
+    record {
+      block-p = refl;
+      code-first = refl;
+      jump-back = refl;
+      jump-past = refl;
+      register-8 = refl;
+      sender = refl;
+      contract = refl;
+      behind = refl;
+    }

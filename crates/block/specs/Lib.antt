@@ -1,0 +1,10 @@
+pub mod Limits
+pub mod Refusal
+pub mod Key
+pub mod Instruction
+pub mod Record
+pub mod Reader
+pub mod Assemble
+pub mod Worked
+pub mod Examples
+pub mod Computing

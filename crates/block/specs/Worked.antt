@@ -1,0 +1,16 @@
+-- Document 01's block P, as bytes. Assumes nothing.
+use mathlib.Core.List.{List, [], _∷_}
+use Prim.Native.Nat.{ℕ}
+use lib.IntN.{pos}
+use Rattle.block.specs.Assemble.{joined, STOP, SET, GET, PUT, PAY, JEQ, function, cell, call, end}
+
+-- "Block P (document 003, example 1): contract 32768; f0: SET 0 1, PUT 0 field 1; f1: GET 0 field 1, JEQ 0 1 to 3, STOP, SET 2 1,
+-- PAY 2 to constant 7; f2: SET 0 1, PAY 0 to constant 7. Account 5 opens with 2 and calls f0 value 0, f1 value 1, f2 value 1."
+unfoldable pub P : List ℕ
+P =
+    joined
+    (function 32768 0 (SET 0 (pos 1) ∷ PUT 0 1 0 ∷ [])
+    ∷ function 32768 1 (GET 0 1 0 ∷ JEQ 0 1 3 ∷ STOP ∷ SET 2 (pos 1) ∷ PAY 2 7 ∷ [])
+    ∷ function 32768 2 (SET 0 (pos 1) ∷ PAY 0 7 ∷ [])
+    ∷ cell 5 0 0 0 (pos 2)
+    ∷ call 5 32768 0 (pos 0) ∷ call 5 32768 1 (pos 1) ∷ call 5 32768 2 (pos 1) ∷ end ∷ [])

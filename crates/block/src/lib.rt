@@ -1,0 +1,145 @@
+// The block file: addresses, instructions, call records, and the refusals of an input.
+pub mod limits;
+
+// An account address, 0 to 32767.
+pub struct Account(pub u16);
+
+// A contract address, 32768 to 65535.
+pub struct Contract(pub u16);
+
+// What 16 bits name: the one or the other, never both.
+pub enum Address {
+    OfAccount(Account),
+    OfContract(Contract),
+}
+
+// Whom a number of 32 bits names as the target of PAY.
+pub enum Payee {
+    To(Account),
+    NoAccount,
+}
+
+// Where an instruction takes a part of a key, or a target, from.
+pub enum Source {
+    Zero,
+    Argument(usize),
+    Sender,
+    Constant(u16),
+}
+
+// An instruction; x, y and z are registers.
+pub enum Instr {
+    Stop,
+    Throw,
+    Set {
+        x: usize,
+        value: i64,
+    },
+    Arg {
+        x: usize,
+        argument: usize,
+    },
+    Sender {
+        x: usize,
+    },
+    Value {
+        x: usize,
+    },
+    Add {
+        x: usize,
+        y: usize,
+        z: usize,
+    },
+    Sub {
+        x: usize,
+        y: usize,
+        z: usize,
+    },
+    Mul {
+        x: usize,
+        y: usize,
+        z: usize,
+    },
+    Div {
+        x: usize,
+        y: usize,
+        z: usize,
+    },
+    Get {
+        x: usize,
+        field: u16,
+        a: Source,
+        b: Source,
+    },
+    Put {
+        x: usize,
+        field: u16,
+        a: Source,
+        b: Source,
+    },
+    Bal {
+        x: usize,
+    },
+    Pay {
+        x: usize,
+        target: Source,
+    },
+    Jeq {
+        x: usize,
+        y: usize,
+        to: usize,
+    },
+    Jlt {
+        x: usize,
+        y: usize,
+        to: usize,
+    },
+}
+
+// What eight bytes of code hold.
+pub enum Decoded {
+    Valid(Instr),
+    Invalid,
+}
+
+// A call record.
+pub struct Call {
+    pub sender: Account,
+    pub contract: Contract,
+    pub function: u16,
+    pub value: i64,
+    pub arg1: u32,
+    pub arg2: u32,
+    pub arg3: u32,
+    pub arg4: u32,
+}
+
+// What the body of a call record holds.
+pub enum CallBody {
+    InRange(Call),
+    OutOfRange,
+}
+
+// Why an input is refused, with the offset of the place in the file. specs/Refusal.antt has document 01's numbers.
+pub enum Refusal {
+    InputTooLong,
+    Missing(usize),
+    Kind(usize),
+    Length(usize),
+    Field(usize),
+    NotRising(usize),
+    BeyondLimit(usize),
+    Behind(usize),
+    Balances(usize),
+    Code(usize),
+    CallKeys(usize),
+    AllKeys(usize),
+    Workers,
+    Buffers,
+}
+
+// What an input is answered.
+pub enum Verdict {
+    Accepted,
+    Refused(Refusal),
+}

@@ -1,0 +1,7 @@
+pub mod Refusals
+pub mod Case
+pub mod Random1
+pub mod Random2
+pub mod Random3
+pub mod Random4
+pub mod Random5

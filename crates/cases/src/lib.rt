@@ -1,0 +1,1 @@
+// Computed examples: the refusals of an input, and random blocks with moves against the independent runner.

@@ -1,0 +1,7 @@
+pub mod Rule
+pub mod BlockTally
+pub mod Agreement
+pub mod Blocks
+pub mod Joint
+pub mod Unstarred
+pub mod OnP

@@ -1,0 +1,10 @@
+pub mod Answer
+pub mod Run
+pub mod Opening
+pub mod Action
+pub mod Step
+pub mod Moves
+pub mod Serial
+pub mod Damage
+pub mod Examples
+pub mod Computing

@@ -1,0 +1,234 @@
+-- "BEGIN, STEP and CANCEL change a run that the caller lends", with the refusals 20 to 26. "Number only; nothing changes": a refused move
+-- leaves the run as it was. "20 a lent buffer (the block and the sheet's output excepted) shorter than the fixed size for the limits
+-- above, or a code stretch needed by the move past the lent block's end, or a count, place, call state, call number, cell number or
+-- instruction that the run or the block holds, needed by the move and outside its range above, or a balance needed by it below zero or
+-- passing 2^63 - 1 (none after an opening and moves alone; kept old values are restored untested)." "Lowest number first, except that
+-- 20 for a value is tested where the test or the change first uses that value". Assumes nothing.
+use mathlib.Core.Bool.{Bool, true, false, _&&_, _||_, not}
+use mathlib.Core.List.{List, [], _∷_}
+use Prim.Native.Nat.{ℕ, zero, suc, _+_, _-_, _*_}
+use lib.IntN.{ℤ}
+use lib.Dec.{eqb, leb, ltb}
+use lib.ListN.{length, getD, take, drop, set}
+use Rattle.arith.specs.Choice.{if_then_else_}
+use Rattle.wire.specs.Bytes.{stored}
+use Rattle.wire.specs.Rows.{inRow}
+use Rattle.block.specs.Limits.{maxCalls, maxCallKeys, maxCode, maxWorkers}
+use Rattle.block.specs.Record.{headBytes, callBytes, callOf}
+use Rattle.block.specs.declared.Call.{Call}
+use Rattle.block.specs.declared.CallBody.{CallBody}
+use Rattle.block.specs.declared.CallBody.the-variants.{InRange, OutOfRange}
+use Rattle.schedule.specs.declared.Move.{Move}
+use Rattle.schedule.specs.declared.Move.the-variants.{Begin, Step, Cancel}
+use Rattle.machine.specs.Answer.{answerNumber}
+use Rattle.machine.specs.Run.{Run, sizesOf, largeEnough, seatOf, withSeat, idleSeat, zeroRegisters, planWord, entriesOf, rowIn, stateOf, isState, withState, withReceipt, waiting, running, finished}
+use Rattle.machine.specs.Step.{View, Local, Stepped, damaged, more, done, restorable, savedOf, restored, stepCall}
+use Rattle.machine.specs.declared.Seat.{Seat}
+use Rattle.machine.specs.declared.Head.{Head}
+use Rattle.machine.specs.declared.Answer.{Answer}
+use Rattle.machine.specs.declared.Answer.the-variants.{Accepted, Damaged, NoWorker, NoCall, WorkerBusy, NotWaiting, EarlierUnfinished, WorkerIdle}
+
+pub record Moved : Type 0 where
+  pub answer : Answer
+  pub run : Run
+
+abbrev pub stay : Run → Answer → Moved
+stay r a = record { answer = a; run = r }
+
+-- The number of keys of a call, and its entries.
+abbrev pub keysOf : List ℕ → ℕ → ℕ
+keysOf plan c = planWord plan c 2
+
+abbrev pub ownEntries : List ℕ → ℕ → List ℕ
+ownEntries plan c = entriesOf plan c (keysOf plan c)
+
+-- The old values that a worker keeps for the n entries of its call.
+abbrev pub oldsOf : List ℤ → ℕ → ℕ → List ℤ
+oldsOf olds w n = take n (drop (maxCallKeys * w) olds)
+
+-- "25 uses the states of all earlier conflicting calls": among the first n, one is no state; and all are finished.
+unfoldable pub earlierBroken : List ℕ → List ℕ → ℕ → Bool
+earlierBroken row status zero = false
+earlierBroken row status (suc n) = (inRow row n && not (isState (stateOf status n))) || earlierBroken row status n
+
+unfoldable pub earlierFinished : List ℕ → List ℕ → ℕ → Bool
+earlierFinished row status zero = true
+earlierFinished row status (suc n) = (not (inRow row n) || eqb (stateOf status n) finished) && earlierFinished row status n
+
+-- "BEGIN(worker, call): running, at entry, the write set's old values kept."
+unfoldable pub beginCall : Run → ℕ → ℕ → Run
+beginCall r w c =
+    record {
+      head = withSeat (r .head) w (record { call = c + 1; place = 0; count = 0; regs = zeroRegisters });
+      plan = r .plan;
+      keys = r .keys;
+      cells = r .cells;
+      status = withState (r .status) c running;
+      olds = stored (r .olds) (maxCallKeys * w) (savedOf (ownEntries (r .plan) c) (r .cells));
+    }
+
+-- The call's state, 24; the states of its earlier conflicting calls, 25; its entries.
+unfoldable pub beginChecked : Run → ℕ → ℕ → Moved
+beginChecked r w c =
+    if not (isState (stateOf (r .status) c))
+    then stay r Damaged
+    else if not (eqb (stateOf (r .status) c) waiting)
+    then stay r NotWaiting
+    else if earlierBroken (rowIn (r .plan) c) (r .status) c
+    then stay r Damaged
+    else if not (earlierFinished (rowIn (r .plan) c) (r .status) c)
+    then stay r EarlierUnfinished
+    else if not (restorable (keysOf (r .plan) c) (ownEntries (r .plan) c))
+    then stay r Damaged
+    else record { answer = Accepted; run = beginCall r w c }
+
+-- The number of calls, 22; the worker's held call, 23.
+unfoldable pub beginOf : Run → ℕ → ℕ → Moved
+beginOf r w c =
+    if not (largeEnough (sizesOf r)) || eqb (r .head .workers) 0 || ltb maxWorkers (r .head .workers)
+    then stay r Damaged
+    else if leb (r .head .workers) w
+    then stay r NoWorker
+    else if ltb maxCalls (r .head .calls)
+    then stay r Damaged
+    else if leb (r .head .calls) c
+    then stay r NoCall
+    else if ltb (r .head .calls) (seatOf (r .head) w .call)
+    then stay r Damaged
+    else if not (eqb (seatOf (r .head) w .call) 0)
+    then stay r WorkerBusy
+    else beginChecked r w c
+
+abbrev pub viewOf : List ℕ → Run → ℕ → Call → View
+viewOf block r c call =
+    record {
+      block = block;
+      call = call;
+      start = planWord (r .plan) c 0;
+      code = planWord (r .plan) c 1;
+      count = keysOf (r .plan) c;
+      entries = ownEntries (r .plan) c;
+      keys = r .keys;
+    }
+
+-- The state of the running call c, as its worker's seat and old values have it.
+abbrev pub localOf : Run → ℕ → ℕ → Local
+localOf r w c =
+    record {
+      place = seatOf (r .head) w .place;
+      count = seatOf (r .head) w .count;
+      regs = seatOf (r .head) w .regs;
+      saved = oldsOf (r .olds) w (keysOf (r .plan) c);
+    }
+
+-- The run after a step of call c on worker w. "A finished or cancelled call frees its worker."
+unfoldable pub stepped : Run → ℕ → ℕ → Stepped → Moved
+stepped r w c damaged = stay r Damaged
+stepped r w c (more l cells) =
+    record {
+      answer = Accepted;
+      run =
+          record {
+            head = withSeat (r .head) w (record { call = c + 1; place = l .place; count = l .count; regs = l .regs });
+            plan = r .plan;
+            keys = r .keys;
+            cells = cells;
+            status = r .status;
+            olds = r .olds;
+          };
+    }
+stepped r w c (done outcome count cells) =
+    record {
+      answer = Accepted;
+      run =
+          record {
+            head = withSeat (r .head) w idleSeat;
+            plan = r .plan;
+            keys = r .keys;
+            cells = cells;
+            status = withReceipt (r .status) c outcome count;
+            olds = r .olds;
+          };
+    }
+
+-- The call's record in the lent block, its fields in their ranges.
+unfoldable pub stepRecord : List ℕ → Run → ℕ → ℕ → CallBody → Moved
+stepRecord block r w c OutOfRange = stay r Damaged
+stepRecord block r w c (InRange call) = stepped r w c (stepCall (viewOf block r c call) (localOf r w c) (r .cells))
+
+-- The place (entry, or 0 to the code's length), the count, and the call's record.
+unfoldable pub stepHeld : List ℕ → Run → ℕ → ℕ → Moved
+stepHeld block r w c =
+    let at : ℕ = r .head .first + (headBytes + callBytes) * c in
+    if ltb (maxCode + 1) (planWord (r .plan) c 1) || ltb (planWord (r .plan) c 1) (seatOf (r .head) w .place)
+    then stay r Damaged
+    else if ltb maxCode (seatOf (r .head) w .count)
+    then stay r Damaged
+    else if ltb (length block) (at + (headBytes + callBytes))
+    then stay r Damaged
+    else stepRecord block r w c (callOf (drop (at + headBytes) block))
+
+-- "CANCEL(worker) restores likewise; the call waits again, count 0."
+unfoldable pub cancelHeld : Run → ℕ → ℕ → Moved
+cancelHeld r w c =
+    if restorable (keysOf (r .plan) c) (ownEntries (r .plan) c)
+    then
+    record {
+      answer = Accepted;
+      run =
+          record {
+            head = withSeat (r .head) w idleSeat;
+            plan = r .plan;
+            keys = r .keys;
+            cells = restored (ownEntries (r .plan) c) (oldsOf (r .olds) w (keysOf (r .plan) c)) (r .cells);
+            status = withState (r .status) c waiting;
+            olds = r .olds;
+          };
+    }
+    else stay r Damaged
+
+-- 20 for the run's sizes and numbers, 21, 26, and 20 for a held call that is none of the run: what STEP and CANCEL test first.
+pub data Held : Type 0 where
+  answered : Answer → Held
+  holds : ℕ → Held
+
+unfoldable pub heldBy : Run → ℕ → Held
+heldBy r w =
+    if not (largeEnough (sizesOf r)) || eqb (r .head .workers) 0 || ltb maxWorkers (r .head .workers)
+    then answered Damaged
+    else if leb (r .head .workers) w
+    then answered NoWorker
+    else if eqb (seatOf (r .head) w .call) 0
+    then answered WorkerIdle
+    else if ltb maxCalls (r .head .calls) || ltb (r .head .calls) (seatOf (r .head) w .call)
+    then answered Damaged
+    else holds (seatOf (r .head) w .call - 1)
+
+unfoldable pub stepFor : List ℕ → Run → ℕ → Held → Moved
+stepFor block r w (answered a) = stay r a
+stepFor block r w (holds c) = stepHeld block r w c
+
+unfoldable pub cancelFor : Run → ℕ → Held → Moved
+cancelFor r w (answered a) = stay r a
+cancelFor r w (holds c) = cancelHeld r w c
+
+abbrev pub stepOf : List ℕ → Run → ℕ → Moved
+stepOf block r w = stepFor block r w (heldBy r w)
+
+abbrev pub cancelOf : Run → ℕ → Moved
+cancelOf r w = cancelFor r w (heldBy r w)
+
+-- One move on a lent run and block.
+unfoldable pub moveOf : List ℕ → Run → Move → Moved
+moveOf block r (Begin w c) = beginOf r w c
+moveOf block r (Step w) = stepOf block r w
+moveOf block r (Cancel w) = cancelOf r w
+
+-- A list of moves, each lent the block and the run that the one before left: the run behind them, and their answers.
+unfoldable pub runAfter : List ℕ → Run → List Move → Run
+runAfter block r [] = r
+runAfter block r (m ∷ ms) = runAfter block (moveOf block r m .run) ms
+
+unfoldable pub answersOf : List ℕ → Run → List Move → List ℕ
+answersOf block r [] = []
+answersOf block r (m ∷ ms) = answerNumber (moveOf block r m .answer) ∷ answersOf block (moveOf block r m .run) ms

@@ -1,0 +1,119 @@
+-- The run that a caller lends: a head and five buffers, and where each thing stands in them. Assumes nothing.
+use mathlib.Core.Bool.{Bool, true, false, _&&_, _||_, not}
+use mathlib.Core.List.{List, [], _∷_}
+use Prim.Native.Nat.{ℕ, _+_, _*_, _/_, _%_, _^_}
+use lib.IntN.{ℤ, pos}
+use lib.Dec.{eqb, leb, ltb}
+use lib.ListN.{length, getD, take, drop, set}
+use Rattle.wire.specs.Bytes.{repeated}
+use Rattle.block.specs.Limits.{maxCalls, maxCallKeys, maxKeys, maxWorkers}
+use Rattle.footprint.specs.Plan.{planWords, highWord, lowWord}
+use Rattle.machine.specs.declared.Seat.{Seat}
+use Rattle.machine.specs.declared.Head.{Head}
+
+pub record Run : Type 0 where
+  pub head : Head
+  pub plan : List ℕ
+  pub keys : List ℕ
+  pub cells : List ℤ
+  pub status : List ℕ
+  pub olds : List ℤ
+
+-- A call has 32 words of the plan and 4 of the status; a worker has 24 old values.
+abbrev pub statusWords : ℕ
+statusWords = 4
+
+-- The lengths of the five buffers.
+pub record Sizes : Type 0 where
+  pub plan : ℕ
+  pub keys : ℕ
+  pub cells : ℕ
+  pub status : ℕ
+  pub olds : ℕ
+
+abbrev pub sizesOf : Run → Sizes
+sizesOf r = record { plan = length (r .plan); keys = length (r .keys); cells = length (r .cells); status = length (r .status); olds = length (r .olds) }
+
+-- "the fixed size for the limits above"
+abbrev pub fixedSizes : Sizes
+fixedSizes =
+    record {
+      plan = maxCalls * planWords;
+      keys = maxKeys * 2;
+      cells = maxKeys;
+      status = maxCalls * statusWords;
+      olds = maxWorkers * maxCallKeys;
+    }
+
+-- 20: "a lent buffer .. shorter than the fixed size"
+unfoldable pub largeEnough : Sizes → Bool
+largeEnough s =
+    leb (fixedSizes .plan) (s .plan)
+    && leb (fixedSizes .keys) (s .keys)
+    && leb (fixedSizes .cells) (s .cells)
+    && leb (fixedSizes .status) (s .status)
+    && leb (fixedSizes .olds) (s .olds)
+
+-- "A worker's eight registers start at zero at each BEGIN."
+abbrev pub zeroRegisters : List ℤ
+zeroRegisters = pos 0 ∷ pos 0 ∷ pos 0 ∷ pos 0 ∷ pos 0 ∷ pos 0 ∷ pos 0 ∷ pos 0 ∷ []
+
+abbrev pub idleSeat : Seat
+idleSeat = record { call = 0; place = 0; count = 0; regs = zeroRegisters }
+
+abbrev pub seatOf : Head → ℕ → Seat
+seatOf h w = getD (h .seats) w idleSeat
+
+abbrev pub withSeat : Head → ℕ → Seat → Head
+withSeat h w s = record { workers = h .workers; calls = h .calls; cells = h .cells; first = h .first; seats = set (h .seats) w s }
+
+-- The words of call c in the plan.
+abbrev pub planWord : List ℕ → ℕ → ℕ → ℕ
+planWord plan c k = getD plan (planWords * c + k) 0
+
+abbrev pub entriesOf : List ℕ → ℕ → ℕ → List ℕ
+entriesOf plan c n = take n (drop (planWords * c + 3) plan)
+
+abbrev pub rowIn : List ℕ → ℕ → List ℕ
+rowIn plan c = take 4 (drop (planWords * c + 27) plan)
+
+-- An entry's cell number and flags.
+abbrev pub entryCell : ℕ → ℕ
+entryCell e = e / 4
+
+abbrev pub entryReads : ℕ → Bool
+entryReads e = eqb (e % 2) 1
+
+abbrev pub entryWrites : ℕ → Bool
+entryWrites e = leb 2 (e % 4)
+
+-- Whether cell n has this key.
+abbrev pub hasKey : List ℕ → ℕ → ℕ → Bool
+hasKey keys n k = eqb (getD keys (2 * n) 0) (highWord k) && eqb (getD keys (2 * n + 1) 0) (lowWord k)
+
+-- "A call is waiting, running .. or finished": word 0 of its status; word 1 is its outcome, word 2 its count.
+abbrev pub waiting : ℕ
+waiting = 0
+
+abbrev pub running : ℕ
+running = 1
+
+abbrev pub finished : ℕ
+finished = 2
+
+abbrev pub statusWord : List ℕ → ℕ → ℕ → ℕ
+statusWord status c k = getD status (statusWords * c + k) 0
+
+abbrev pub stateOf : List ℕ → ℕ → ℕ
+stateOf status c = statusWord status c 0
+
+abbrev pub isState : ℕ → Bool
+isState s = leb s finished
+
+abbrev pub withState : List ℕ → ℕ → ℕ → List ℕ
+withState status c s = set status (statusWords * c) s
+
+-- The receipt of a finished call: its outcome and its count.
+abbrev pub withReceipt : List ℕ → ℕ → ℕ → ℕ → List ℕ
+withReceipt status c outcome count =
+    set (set (withState status c finished) (statusWords * c + 1) outcome) (statusWords * c + 2) count

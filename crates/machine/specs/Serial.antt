@@ -1,0 +1,59 @@
+-- "Serial run: calls 0, 1, .. each begun and stepped to its end." Assumes nothing.
+use mathlib.Core.Bool.{Bool, true, false}
+use mathlib.Core.List.{List, [], _∷_, _++_}
+use Prim.Native.Nat.{ℕ, zero, suc, _+_, min}
+use lib.Dec.{eqb}
+use Rattle.arith.specs.Choice.{if_then_else_}
+use Rattle.block.specs.Limits.{maxCode, maxCalls}
+use Rattle.machine.specs.Run.{Run, seatOf}
+use Rattle.machine.specs.Moves.{beginOf, stepOf}
+
+-- "A call's steps are its entry, its counted instructions, and one for reaching the end, so at most 66."
+abbrev pub maxSteps : ℕ
+maxSteps = maxCode + 2
+
+-- The serial run uses worker 0.
+abbrev pub isIdle : Run → Bool
+isIdle r = eqb (seatOf (r .head) 0 .call) 0
+
+-- Steps until the worker is free, `left` at most; and how many they are.
+unfoldable pub stepToEnd : ℕ → List ℕ → Run → Run
+stepToEnd zero block r = r
+stepToEnd (suc left) block r = elim (isIdle r) [ true ↦ r | false ↦ stepToEnd left block (stepOf block r 0 .run) ]
+
+unfoldable pub stepsToEnd : ℕ → List ℕ → Run → ℕ
+stepsToEnd zero block r = 0
+stepsToEnd (suc left) block r =
+    elim (isIdle r) [ true ↦ 0 | false ↦ suc (stepsToEnd left block (stepOf block r 0 .run)) ]
+
+abbrev pub runCall : List ℕ → Run → ℕ → Run
+runCall block r c = stepToEnd maxSteps block (beginOf r 0 c .run)
+
+unfoldable pub runCalls : List ℕ → Run → List ℕ → Run
+runCalls block r [] = r
+runCalls block r (c ∷ cs) = runCalls block (runCall block r c) cs
+
+-- The numbers below n, rising: the first n calls.
+unfoldable pub below : ℕ → List ℕ
+below zero = []
+below (suc n) = below n ++ (n ∷ [])
+
+-- The calls of a list that pass a test.
+unfoldable pub chosen : (ℕ → Bool) → List ℕ → List ℕ
+chosen test [] = []
+chosen test (c ∷ cs) = if test c then c ∷ chosen test cs else chosen test cs
+
+abbrev pub allCalls : Run → List ℕ
+allCalls r = below (min (r .head .calls) maxCalls)
+
+-- "It starts at the opening and is the serial run of demand 3."
+abbrev pub serialRun : List ℕ → Run → Run
+serialRun block r = runCalls block r (allCalls r)
+
+-- "The finished calls alone are the serial run of this same block in which only they are begun."
+abbrev pub serialRunOf : (ℕ → Bool) → List ℕ → Run → Run
+serialRunOf test block r = runCalls block r (chosen test (allCalls r))
+
+-- "the number of steps that the serial run takes for that call"
+abbrev pub serialSteps : List ℕ → Run → ℕ → ℕ
+serialSteps block r c = stepsToEnd maxSteps block (beginOf (runCalls block r (below c)) 0 c .run)

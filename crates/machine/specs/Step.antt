@@ -1,0 +1,179 @@
+-- "A call, step by step": one step of one call. It depends on the view of the call, its local state and the cells, and on nothing
+-- else. Assumes nothing.
+use mathlib.Core.Bool.{Bool, true, false, _&&_, _||_, not}
+use mathlib.Core.List.{List, [], _∷_}
+use Prim.Native.Nat.{ℕ, _+_, _-_, _*_, _%_}
+use lib.IntN.{ℤ, pos, _+ℤ_, _-ℤ_}
+use lib.Signed.{ltZ, leZ, nonNeg}
+use lib.Dec.{eqb, leb, ltb}
+use lib.ListN.{length, getD, drop, set}
+use Rattle.arith.specs.Choice.{if_then_else_}
+use Rattle.arith.specs.Balance.{largest}
+use Rattle.block.specs.Limits.{maxCallKeys, maxKeys, maxCode}
+use Rattle.block.specs.Key.{isBalance}
+use Rattle.block.specs.Instruction.{instrBytes, decode}
+use Rattle.block.specs.declared.Call.{Call}
+use Rattle.block.specs.declared.Decoded.{Decoded}
+use Rattle.block.specs.declared.Decoded.the-variants.{Valid, Invalid}
+use Rattle.footprint.specs.Access.{Access, reading, accesses, entryAccesses}
+use Rattle.machine.specs.Run.{entryCell, entryReads, entryWrites, hasKey}
+use Rattle.machine.specs.Action.{ended, unknownFunction, thrown, instrAction, entryAction}
+use Rattle.machine.specs.declared.Action.{Action}
+use Rattle.machine.specs.declared.Next.{Next}
+use Rattle.machine.specs.declared.Next.the-variants.{Go, End, Load, Store, Transfer}
+use Rattle.machine.specs.declared.Lookup.{Lookup}
+use Rattle.machine.specs.declared.Lookup.the-variants.{Cell, NoCell}
+
+-- What no move changes of a call: its record, its code in the block (start, and length plus 1, or 0 if unknown), the number of
+-- its keys and its entries, and the table of keys.
+pub record View : Type 0 where
+  pub block : List ℕ
+  pub call : Call
+  pub start : ℕ
+  pub code : ℕ
+  pub count : ℕ
+  pub entries : List ℕ
+  pub keys : List ℕ
+
+-- "running (place, registers, count of executed instructions, old values)"
+pub record Local : Type 0 where
+  pub place : ℕ
+  pub count : ℕ
+  pub regs : List ℤ
+  pub saved : List ℤ
+
+-- A step finds the lent run damaged (20); or the call goes on; or it is finished with an outcome and a count.
+pub data Stepped : Type 0 where
+  damaged : Stepped
+  more : Local → (cells : List ℤ) → Stepped
+  done : (outcome count : ℕ) (cells : List ℤ) → Stepped
+
+-- The cell that a call's entries keep for a key, with the flags that the access wants; an entry that is looked at has a cell
+-- number of the table.
+unfoldable pub findEntry : List ℕ → List ℕ → Access → Lookup
+findEntry keys [] a = NoCell
+findEntry keys (e ∷ es) a =
+    if not (ltb (entryCell e) maxKeys)
+    then NoCell
+    else if hasKey keys (entryCell e) (a .key)
+    then (if (not (a .reads) || entryReads e) && (not (a .writes) || entryWrites e) then Cell (entryCell e) else NoCell)
+    else findEntry keys es a
+
+unfoldable pub lookup : View → Access → Lookup
+lookup v a = if leb (v .count) maxCallKeys then findEntry (v .keys) (v .entries) a else NoCell
+
+abbrev pub cellAt : List ℤ → ℕ → ℤ
+cellAt cells n = getD cells n (pos 0)
+
+-- An entry can be used to keep and to restore: it has a flag, and where it is written, a cell number of the table.
+unfoldable pub entriesAllowed : List ℕ → Bool
+entriesAllowed [] = true
+entriesAllowed (e ∷ es) =
+    not (eqb (e % 4) 0) && (not (entryWrites e) || ltb (entryCell e) maxKeys) && entriesAllowed es
+
+abbrev pub restorable : ℕ → List ℕ → Bool
+restorable count es = leb count maxCallKeys && entriesAllowed es
+
+-- "the write set's old values kept": a value for each entry, 0 where the entry is only read.
+unfoldable pub savedOf : List ℕ → List ℤ → List ℤ
+savedOf [] cells = []
+savedOf (e ∷ es) cells = (if entryWrites e then cellAt cells (entryCell e) else pos 0) ∷ savedOf es cells
+
+-- "restores every cell of the write set"
+unfoldable pub restored : List ℕ → List ℤ → List ℤ → List ℤ
+restored [] saved cells = cells
+restored (e ∷ es) [] cells = cells
+restored (e ∷ es) (old ∷ saved) cells =
+    restored es saved (if entryWrites e then set cells (entryCell e) old else cells)
+
+-- The end of a call. "On 3, 4, 5 the same step restores every cell of the write set."
+unfoldable pub finish : View → Local → ℕ → ℕ → List ℤ → Stepped
+finish v l count outcome cells =
+    if ltb outcome thrown
+    then done outcome count cells
+    else if restorable (v .count) (v .entries)
+    then done outcome count (restored (v .entries) (l .saved) cells)
+    else damaged
+
+abbrev pub goOn : Local → ℕ → List ℤ → ℕ → List ℤ → Stepped
+goOn l count regs place cells = more (record { place = place; count = count; regs = regs; saved = l .saved }) cells
+
+-- A loaded value; of a balance, "below zero" is 20.
+unfoldable pub loadCell : Local → ℕ → List ℤ → ℕ → Access → List ℤ → Lookup → Stepped
+loadCell l count regs x a cells NoCell = damaged
+loadCell l count regs x a cells (Cell n) =
+    if isBalance (a .key) && not (nonNeg (cellAt cells n))
+    then damaged
+    else goOn l count (set regs x (cellAt cells n)) (l .place + 1) cells
+
+unfoldable pub storeCell : Local → ℕ → List ℤ → ℤ → List ℤ → Lookup → Stepped
+storeCell l count regs value cells NoCell = damaged
+storeCell l count regs value cells (Cell n) = goOn l count regs (l .place + 1) (set cells n value)
+
+-- The amount leaves cell n and reaches another; there "a balance .. below zero or passing 2^63 - 1" is 20.
+unfoldable pub depositCell : Local → ℕ → List ℤ → ℤ → ℕ → List ℤ → Lookup → Stepped
+depositCell l count regs amount n cells NoCell = damaged
+depositCell l count regs amount n cells (Cell m) =
+    if nonNeg (cellAt cells m) && leZ (cellAt cells m +ℤ amount) largest
+    then
+    goOn l count regs (l .place + 1)
+    (set (set cells n (cellAt cells n -ℤ amount)) m (cellAt cells m +ℤ amount))
+    else damaged
+
+-- The second cell is looked at only where the first holds enough.
+unfoldable pub transferCells : View → Local → ℕ → List ℤ → ℤ → ℕ → Access → List ℤ → Lookup → Stepped
+transferCells v l count regs amount short to cells NoCell = damaged
+transferCells v l count regs amount short to cells (Cell n) =
+    if not (nonNeg (cellAt cells n))
+    then damaged
+    else if ltZ (cellAt cells n) amount
+    then finish v l count short cells
+    else depositCell l count regs amount n cells (lookup v to)
+
+-- The first and second access of a place; a place that uses one has it.
+abbrev pub accessAt : List Access → ℕ → Access
+accessAt as′ k = getD as′ k (reading 0)
+
+-- An action is done on the cells that the place accesses. `count` is the count with this place's own instruction.
+unfoldable pub perform : View → Local → ℕ → List Access → List ℤ → Next → List ℤ → Stepped
+perform v l count as′ regs (Go place) cells = goOn l count regs place cells
+perform v l count as′ regs (End outcome) cells = finish v l count outcome cells
+perform v l count as′ regs (Load x) cells =
+    loadCell l count regs x (accessAt as′ 0) cells (lookup v (accessAt as′ 0))
+perform v l count as′ regs (Store value) cells = storeCell l count regs value cells (lookup v (accessAt as′ 0))
+perform v l count as′ regs (Transfer amount short) cells =
+    transferCells v l count regs amount short (accessAt as′ 1) cells (lookup v (accessAt as′ 0))
+
+abbrev pub performAction : View → Local → ℕ → List Access → Action → List ℤ → Stepped
+performAction v l count as′ a cells = perform v l count as′ (a .regs) (a .next) cells
+
+-- "STEP(worker), at entry: unknown function, outcome 1"
+unfoldable pub stepEntry : View → Local → List ℤ → Stepped
+stepEntry v l cells =
+    if eqb (v .code) 0
+    then done unknownFunction (l .count) cells
+    else performAction v l (l .count) (entryAccesses (v .call)) (entryAction (v .call) (l .regs)) cells
+
+-- "Else one instruction runs and counts 1, also the one that fails."
+unfoldable pub stepDecoded : View → Local → List ℤ → Decoded → Stepped
+stepDecoded v l cells Invalid = damaged
+stepDecoded v l cells (Valid i) =
+    performAction v l (l .count + 1) (accesses (v .call) i) (instrAction (v .call) (l .place) (l .regs) i) cells
+
+-- The code stretch lies in the lent block, and its instruction at this place is valid; 20 otherwise.
+unfoldable pub stepInstr : View → Local → List ℤ → Stepped
+stepInstr v l cells =
+    let index : ℕ = l .place - 1 in
+    let size : ℕ = v .code - 1 in
+    if leb (v .start + instrBytes * size) (length (v .block))
+    then stepDecoded v l cells (decode index size (drop (v .start + instrBytes * index) (v .block)))
+    else damaged
+
+-- One step of a call. "At place = length: outcome 0."
+unfoldable pub stepCall : View → Local → List ℤ → Stepped
+stepCall v l cells =
+    if eqb (l .place) 0
+    then stepEntry v l cells
+    else if eqb (l .place) (v .code)
+    then done ended (l .count) cells
+    else stepInstr v l cells

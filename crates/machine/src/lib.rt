@@ -1,0 +1,57 @@
+// The run of a block: its opening, the moves of its workers, and the serial run.
+
+// A worker's seat: the call it holds, as its number plus 1, or 0 for none; the call's place (0 at its entry, p + 1 at
+// instruction p); the count of its executed instructions; its registers.
+pub struct Seat {
+    pub call: usize,
+    pub place: usize,
+    pub count: u64,
+    pub regs: [i64; 8],
+}
+
+// The part of a run that is passed by value: the numbers of workers, calls and cells, the offset of the first call record,
+// and the seats.
+pub struct Head {
+    pub workers: usize,
+    pub calls: usize,
+    pub cells: usize,
+    pub first: usize,
+    pub seats: [Seat; 8],
+}
+
+// What a move, or the closing sheet, answers. specs/Answer.antt has document 01's numbers.
+pub enum Answer {
+    Accepted,
+    Damaged,
+    NoWorker,
+    NoCall,
+    WorkerBusy,
+    NotWaiting,
+    EarlierUnfinished,
+    WorkerIdle,
+    CallUnfinished,
+    SheetTooLong,
+}
+
+// What a place of a call does next, before any cell is looked at: it goes on at a place, ends with an outcome, loads its
+// cell into a register, stores a value in its cell, or moves an amount from its first cell to its second, ending with the
+// outcome `short` where the first holds less.
+pub enum Next {
+    Go(usize),
+    End(u64),
+    Load(usize),
+    Store(i64),
+    Transfer { amount: i64, short: u64 },
+}
+
+// That, with the registers it leaves.
+pub struct Action {
+    pub next: Next,
+    pub regs: [i64; 8],
+}
+
+// Where a call keeps a cell: its number, or nowhere with the flags that are wanted.
+pub enum Lookup {
+    Cell(usize),
+    NoCell,
+}

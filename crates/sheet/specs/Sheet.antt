@@ -1,0 +1,116 @@
+-- "Closing sheet": its bytes, and the refusals 20, 27 and 28. Assumes nothing.
+use mathlib.Core.Bool.{Bool, true, false, _&&_, _||_, not}
+use mathlib.Core.List.{List, [], _∷_, _++_}
+use Prim.Native.Nat.{ℕ, zero, suc, _+_, _*_, _/_, _%_, _^_}
+use lib.IntN.{ℤ, pos}
+use lib.Signed.{nonNeg}
+use lib.Dec.{eqb, leb, ltb}
+use lib.ListN.{length, getD}
+use Rattle.arith.specs.Choice.{if_then_else_}
+use Rattle.arith.specs.Exact.{unsigned}
+use Rattle.wire.specs.Bytes.{bytesOf, stored}
+use Rattle.block.specs.Limits.{maxCalls, maxCode, maxKeys}
+use Rattle.block.specs.Record.{cellKind, cellBytes, receiptKind, endKind}
+use Rattle.machine.specs.Answer.{answerNumber}
+use Rattle.machine.specs.Run.{Run, sizesOf, largeEnough, statusWord, stateOf, isState, finished}
+use Rattle.machine.specs.Action.{notPaid}
+use Rattle.machine.specs.Step.{cellAt}
+use Rattle.machine.specs.declared.Answer.{Answer}
+use Rattle.machine.specs.declared.Answer.the-variants.{Damaged, CallUnfinished, SheetTooLong}
+use Rattle.sheet.specs.declared.Closing.{Closing}
+use Rattle.sheet.specs.declared.Closing.the-variants.{Written, Refused}
+
+-- The number of a closing's answer; 0 stands for written.
+unfoldable pub closingNumber : Closing → ℕ
+closingNumber (Written n) = 0
+closingNumber (Refused a) = answerNumber a
+
+-- A record: "length (2 bytes, of the body), kind (2), body".
+abbrev pub recordOf : ℕ → List ℕ → List ℕ
+recordOf kind body = bytesOf 2 (length body) ++ bytesOf 2 kind ++ body
+
+-- The two words of a cell's key: address, field and a; then b.
+abbrev pub keyHigh : List ℕ → ℕ → ℕ
+keyHigh keys n = getD keys (2 * n) 0
+
+abbrev pub keyLow : List ℕ → ℕ → ℕ
+keyLow keys n = getD keys (2 * n + 1) 0
+
+abbrev pub keyBytes : ℕ → ℕ → List ℕ
+keyBytes high low = bytesOf 2 (high / 2 ^ 48) ++ bytesOf 2 (high / 2 ^ 32) ++ bytesOf 4 high ++ bytesOf 4 low
+
+-- "Kind 2 records of all non-zero cells by key": of the `left` cells from number n on.
+unfoldable pub cellRecords : List ℕ → List ℤ → ℕ → ℕ → List ℕ
+cellRecords keys cells zero n = []
+cellRecords keys cells (suc left) n =
+    (if eqb (unsigned 64 (cellAt cells n)) 0
+    then []
+    else recordOf cellKind (keyBytes (keyHigh keys n) (keyLow keys n) ++ bytesOf 8 (unsigned 64 (cellAt cells n))))
+    ++ cellRecords keys cells left (n + 1)
+
+-- "kind 5 receipts in block order (outcome 2, count 2)"
+unfoldable pub receiptRecords : List ℕ → ℕ → ℕ → List ℕ
+receiptRecords status zero c = []
+receiptRecords status (suc left) c =
+    recordOf receiptKind (bytesOf 2 (statusWord status c 1) ++ bytesOf 2 (statusWord status c 2))
+    ++ receiptRecords status left (c + 1)
+
+-- "Kind 2 records .., kind 5 receipts .., kind 4."
+unfoldable pub sheetBytes : Run → List ℕ
+sheetBytes r =
+    cellRecords (r .keys) (r .cells) (r .head .cells) 0 ++ receiptRecords (r .status) (r .head .calls) 0 ++ recordOf endKind []
+
+-- "Its kind 2 records open the next block": those records and an end.
+abbrev pub nextBlock : Run → List ℕ
+nextBlock r = cellRecords (r .keys) (r .cells) (r .head .cells) 0 ++ recordOf endKind []
+
+-- The states, and the receipts, of the first n calls; the balances of the first n cells.
+unfoldable pub statesAllowed : List ℕ → ℕ → Bool
+statesAllowed status zero = true
+statesAllowed status (suc n) = isState (stateOf status n) && statesAllowed status n
+
+unfoldable pub allFinished : List ℕ → ℕ → Bool
+allFinished status zero = true
+allFinished status (suc n) = eqb (stateOf status n) finished && allFinished status n
+
+unfoldable pub receiptsAllowed : List ℕ → ℕ → Bool
+receiptsAllowed status zero = true
+receiptsAllowed status (suc n) =
+    leb (statusWord status n 1) notPaid && leb (statusWord status n 2) maxCode && receiptsAllowed status n
+
+unfoldable pub balancesAllowed : List ℕ → List ℤ → ℕ → Bool
+balancesAllowed keys cells zero = true
+balancesAllowed keys cells (suc n) =
+    (not (eqb (keyHigh keys n / 2 ^ 32 % 2 ^ 16) 0) || nonNeg (cellAt cells n)) && balancesAllowed keys cells n
+
+-- What the sheet's caller gets: the answer, and the output with the sheet at its front. "Bytes of the output behind the sheet are
+-- unchanged."
+pub record Closed : Type 0 where
+  pub answer : Closing
+  pub output : List ℕ
+
+abbrev pub unwritten : List ℕ → Answer → Closed
+unwritten output a = record { answer = Refused a; output = output }
+
+-- 28: "sheet longer than the output buffer".
+unfoldable pub written : List ℕ → List ℕ → Closed
+written output bytes =
+    if ltb (length output) (length bytes)
+    then unwritten output SheetTooLong
+    else record { answer = Written (length bytes); output = stored output 0 bytes }
+
+-- The sheet of a run: 20 for the sizes, the number of calls and their states; 27; 20 for receipts, the number of cells and
+-- balances; 28.
+unfoldable pub sheetOf : Run → List ℕ → Closed
+sheetOf r output =
+    if not (largeEnough (sizesOf r)) || ltb maxCalls (r .head .calls)
+    then unwritten output Damaged
+    else if not (statesAllowed (r .status) (r .head .calls))
+    then unwritten output Damaged
+    else if not (allFinished (r .status) (r .head .calls))
+    then unwritten output CallUnfinished
+    else if not (receiptsAllowed (r .status) (r .head .calls)) || ltb maxKeys (r .head .cells)
+    then unwritten output Damaged
+    else if not (balancesAllowed (r .keys) (r .cells) (r .head .cells))
+    then unwritten output Damaged
+    else written output (sheetBytes r)

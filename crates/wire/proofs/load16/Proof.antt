@@ -1,0 +1,47 @@
+-- `wire::load16` meets its contract: two bytes are read one by one, the higher at 256. Assumes nothing.
+use borrow.Author.Needs.{needs}
+use native.Mathlib.Omega.{arith}
+use Prim.Native.Nat.{_+_}
+use mathlib.Core.Path.{sym}
+use Rattle.wire.specs.Laws.{read-two}
+use Rattle.wire.proofs.load16.Statement.{statement}
+use Rattle.wire.proofs.load16.Tie as tie
+use Rattle.wire.proofs.load16.Reads as reads
+use Rattle.wire.proofs.load16.Lts as lts
+
+shared-slice-read-low : tie.Need-shared-slice-read-low
+shared-slice-read-low c = search needs
+
+cast-low : tie.Need-cast-low
+cast-low c = omega (arith, c .shared-slice-known .given (c .before .args .at))
+
+add-high : tie.Need-add-high
+add-high c = search needs
+
+shared-slice-read-high : tie.Need-shared-slice-read-high
+shared-slice-read-high c = search needs
+
+cast-high : tie.Need-cast-high
+cast-high c = omega (arith, c .shared-slice-known2 .given (c .before .before .args .at + 1))
+
+mul-result : tie.Need-mul-result
+mul-result c = omega (arith, c .shared-slice-known2 .given (c .before .before .args .at + 1))
+
+add-result : tie.Need-add-result
+add-result c = omega (arith, c .shared-slice-known2 .given (c .before .before .args .at), c .shared-slice-known2 .given (c .before .before .args .at + 1))
+
+returns : tie.Need-returns
+returns c = sym (read-two (c .before .before .args .s .now) (c .before .before .args .at))
+
+pub load16-spec : {M : Type 1} → statement M
+load16-spec =
+    tie.close
+    (tie.spec
+    shared-slice-read-low
+    cast-low
+    add-high
+    shared-slice-read-high
+    cast-high
+    mul-result
+    add-result
+    returns)

@@ -1,0 +1,28 @@
+-- A row with one bit more, the union of two rows, and the next set bit of a row. Assumes nothing.
+use mathlib.Core.Bool.{Bool}
+use mathlib.Core.List.{List, [], _∷_}
+use Prim.Native.Nat.{ℕ, zero, suc, _+_, _-_, _/_, _%_, _^_}
+use lib.Bits.{bitOr}
+use lib.Dec.{ltb}
+use lib.ListN.{getD, set}
+use Rattle.arith.specs.Choice.{if_then_else_}
+use Rattle.wire.specs.Rows.{inRow}
+
+-- The row with bit i set as well; a bit past the row changes nothing.
+unfoldable pub withBit : List ℕ → ℕ → List ℕ
+withBit ws i = set ws (i / 64) (bitOr (getD ws (i / 64) 0) (2 ^ (i % 64)))
+
+-- The bits that are set in either of two rows of as many words.
+unfoldable pub unionOf : List ℕ → List ℕ → List ℕ
+unionOf [] ys = []
+unionOf (x ∷ xs) [] = []
+unionOf (x ∷ xs) (y ∷ ys) = bitOr x y ∷ unionOf xs ys
+
+-- The first of the n positions from i on that passes a test, or the position behind them all.
+unfoldable pub firstOf : (ℕ → Bool) → ℕ → ℕ → ℕ
+firstOf p zero i = i
+firstOf p (suc n) i = let rest = firstOf p n (i + 1) in if p i then i else rest
+
+-- The least set bit at or above a position; 256 where there is none.
+unfoldable pub nextBit : List ℕ → ℕ → ℕ
+nextBit ws from = if ltb from 256 then firstOf (inRow ws) (256 - from) from else 256

@@ -1,0 +1,25 @@
+//! A reference runner for the warrant register, written from document 01 alone.
+//! It aims to be plainly right: every module follows one section of the
+//! document, and arithmetic is exact.
+#![warn(missing_docs)]
+
+pub mod assemble;
+pub mod block;
+mod bytes;
+pub mod cells;
+pub mod code;
+pub mod console;
+pub mod coverage;
+pub mod emit;
+pub mod execute;
+pub mod generate;
+pub mod inspect;
+pub mod key;
+pub mod limits;
+pub mod literal;
+pub mod machine;
+pub mod refusal;
+pub mod rng;
+pub mod serial;
+pub mod sets;
+pub mod sheet;

@@ -1,0 +1,117 @@
+//! The commands of the runner.
+
+use std::fs;
+use std::io::{self, ErrorKind, Write};
+use std::path::Path;
+use std::process::ExitCode;
+
+use runner::assemble::assemble;
+use runner::console::{closing, read_input, refused_block, register};
+use runner::coverage::Coverage;
+use runner::generate::{large_cases, small_cases, Case};
+use runner::inspect::inspect;
+use runner::limits::MAX_WORKERS;
+use runner::literal::modules;
+use runner::machine::open;
+use runner::serial;
+
+const USAGE: &str = "usage:
+  runner assemble TEXT BLOCK        writes the block of a text
+  runner register BLOCK             REGISTER with the moves on standard input
+  runner inspect BLOCK              sizes and waiting rows
+  runner serial BLOCK               cells and receipts of the serial run
+  runner cases SEED COUNT DIR       small cases as modules of the crate cases
+  runner coverage SEED COUNT        what these cases show
+  runner generate SEED COUNT DIR [--large]
+                                    cases as files NNN.bin, NNN.moves, NNN.out
+";
+
+type Failure = Box<dyn std::error::Error>;
+
+fn main() -> ExitCode {
+    let arguments: Vec<String> = std::env::args().skip(1).collect();
+    let words: Vec<&str> = arguments.iter().map(String::as_str).collect();
+    match run(&words) {
+        Ok(()) => ExitCode::SUCCESS,
+        Err(failure) => {
+            eprintln!("runner: {failure}");
+            ExitCode::FAILURE
+        }
+    }
+}
+
+fn run(words: &[&str]) -> Result<(), Failure> {
+    match words {
+        ["assemble", text, block] => write_assembled(text, block),
+        ["register", block] => {
+            let input = read_input(io::stdin().lock())?;
+            print(&register(&read_block(block)?, &input))
+        }
+        ["inspect", block] => print(&inspect(&read_block(block)?)),
+        ["serial", block] => print(&serial_lines(&read_block(block)?)),
+        ["cases", seed, count, directory] => {
+            write_modules(&small_cases(seed.parse()?, count.parse()?), directory)
+        }
+        ["coverage", seed, count] => {
+            let cases = small_cases(seed.parse()?, count.parse()?);
+            print(&Coverage::of(&cases).table())
+        }
+        ["generate", seed, count, directory] => {
+            write_cases(&small_cases(seed.parse()?, count.parse()?), directory)
+        }
+        ["generate", seed, count, directory, "--large"] => {
+            write_cases(&large_cases(seed.parse()?, count.parse()?), directory)
+        }
+        _ => Err(USAGE.into()),
+    }
+}
+
+/// The bytes of a block file; a missing file is read as empty.
+fn read_block(path: &str) -> io::Result<Vec<u8>> {
+    match fs::read(path) {
+        Err(error) if error.kind() == ErrorKind::NotFound => Ok(Vec::new()),
+        read => read,
+    }
+}
+
+fn print(text: &str) -> Result<(), Failure> {
+    let mut output = io::stdout().lock();
+    output.write_all(text.as_bytes())?;
+    output.flush()?;
+    Ok(())
+}
+
+fn write_assembled(text: &str, block: &str) -> Result<(), Failure> {
+    let bytes = assemble(&fs::read_to_string(text)?).map_err(|error| format!("{text}, {error}"))?;
+    fs::write(block, bytes)?;
+    Ok(())
+}
+
+/// The k and t lines of the serial run, or the e line.
+fn serial_lines(block: &[u8]) -> String {
+    match open(block, MAX_WORKERS) {
+        Ok(opened) => {
+            let end = serial::run(&opened);
+            closing(&end.cells, end.ended.iter().map(|ended| ended.receipt))
+        }
+        Err(refusal) => refused_block(refusal),
+    }
+}
+
+fn write_modules(cases: &[Case], directory: &str) -> Result<(), Failure> {
+    for (name, text) in modules(cases) {
+        fs::write(Path::new(directory).join(name).with_extension("antt"), text)?;
+    }
+    Ok(())
+}
+
+fn write_cases(cases: &[Case], directory: &str) -> Result<(), Failure> {
+    fs::create_dir_all(directory)?;
+    for (index, case) in cases.iter().enumerate() {
+        let stem = Path::new(directory).join(format!("{index:03}"));
+        fs::write(stem.with_extension("bin"), &case.block)?;
+        fs::write(stem.with_extension("moves"), &case.input)?;
+        fs::write(stem.with_extension("out"), &case.output)?;
+    }
+    Ok(())
+}

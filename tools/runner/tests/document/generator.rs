@@ -1,0 +1,94 @@
+//! What the generated cases show.
+
+use std::collections::BTreeSet;
+
+use runner::coverage::Coverage;
+use runner::generate::{edges, large_cases, programs, small_cases};
+use runner::limits::{MAX_BLOCK_BYTES, MAX_WORKERS};
+use runner::literal::module;
+use runner::machine::open;
+
+/// As many small cases as a list of literals has.
+const COUNT: usize = 170;
+/// Most bytes of a small case's block.
+const SMALL_BYTES: usize = 700;
+
+#[test]
+fn small_cases_show_everything_that_small_blocks_can() {
+    for seed in 1..=10 {
+        let coverage = Coverage::of(&small_cases(seed, COUNT));
+        for number in [2, 3, 4, 5, 6, 8, 9, 10, 11] {
+            assert!(
+                coverage.refusals[number] >= 2,
+                "seed {seed}, refusal {number}"
+            );
+        }
+        for number in [0, 21, 22, 23, 24, 25, 26, 27] {
+            assert!(
+                coverage.refusals[number] >= 2,
+                "seed {seed}, refusal {number}"
+            );
+        }
+        assert!(
+            coverage.outcomes.iter().all(|count| *count > 0),
+            "seed {seed}"
+        );
+        assert!(
+            coverage.opcodes.iter().all(|count| *count > 0),
+            "seed {seed}"
+        );
+        assert!(coverage.cancels > 0 && coverage.jumps > 0, "seed {seed}");
+        assert!(coverage.complete > COUNT / 3, "seed {seed}");
+    }
+}
+
+#[test]
+fn small_cases_are_small_and_follow_from_the_seed() {
+    let cases = small_cases(7, COUNT);
+    assert!(cases.iter().all(|case| case.block.len() <= SMALL_BYTES));
+    assert_eq!(cases, small_cases(7, COUNT));
+    assert_ne!(cases, small_cases(8, COUNT));
+}
+
+#[test]
+fn edge_blocks_are_all_reached() {
+    let blocks: BTreeSet<Vec<u8>> = (0..1_000).map(edges::block).collect();
+    let numbers: BTreeSet<u16> = blocks
+        .iter()
+        .filter_map(|block| open(block, MAX_WORKERS).err())
+        .map(|refusal| refusal.fault.number())
+        .collect();
+    assert!(blocks.len() > 120);
+    assert_eq!(numbers, BTreeSet::from([2, 3, 4, 5, 6, 8, 9, 10]));
+}
+
+#[test]
+fn programs_are_good_blocks() {
+    assert!((0..8).all(|turn| open(&programs::block(turn), MAX_WORKERS).is_ok()));
+}
+
+#[test]
+fn large_cases_reach_the_limits_and_pass_them() {
+    let cases = large_cases(1, 9);
+    let coverage = Coverage::of(&cases);
+    assert_eq!(coverage.refusals[1], 1);
+    assert_eq!(coverage.refusals[7], 3);
+    assert_eq!(coverage.refusals[12], 1);
+    assert_eq!(coverage.complete, 4);
+    assert!(cases.iter().any(|case| case.block.len() == MAX_BLOCK_BYTES));
+}
+
+#[test]
+fn a_module_holds_a_numeral_and_two_texts_a_case() {
+    let mut case = small_cases(1, 1).remove(0);
+    case.block = vec![0, 0, 4, 0];
+    case.input = b"\"\t\xd9".to_vec();
+    case.output = b"r 1 0\n".to_vec();
+    let text = module(7, &[case]);
+    let element = "    -- 7: accepted, 0 calls, 1 lines
+    case 4 0x00000400 \"\\\"\\t\\u{d9}\" \"r 1 0\\n\"
+    ∷ []
+";
+    assert!(text.contains(element), "{text}");
+    assert!(text.contains("pub agree : failures 7 cases ≡ []"));
+}
