@@ -3,5 +3,12 @@ pub mod Sets
 pub mod Conflict
 pub mod Table
 pub mod Plan
+pub mod KeyTable
+pub mod TableLaws
+pub mod TableWords
+pub mod Masks
+pub mod Used
+pub mod MaskLaws
+pub mod MaskBuffers
 pub mod Examples
 pub mod Computing

@@ -1,0 +1,2 @@
+mod KeyLaws
+mod RowLoops
