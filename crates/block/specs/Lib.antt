@@ -1,9 +1,13 @@
 pub mod Limits
 pub mod Refusal
 pub mod Key
+pub mod KeyLaws
 pub mod Instruction
 pub mod Record
 pub mod Reader
+pub mod Layout
+pub mod Standing
+pub mod ReaderLaws
 pub mod Assemble
 pub mod Worked
 pub mod Examples

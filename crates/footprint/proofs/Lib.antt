@@ -1,2 +1,4 @@
+mod AccessLaws
+mod GatherLaws
 mod KeyLaws
 mod RowLoops

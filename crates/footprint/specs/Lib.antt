@@ -3,11 +3,15 @@ pub mod Sets
 pub mod Conflict
 pub mod Table
 pub mod Plan
+pub mod Uses
+pub mod Gathered
+pub mod SetLaws
+pub mod AccessLaws
+pub mod GatheredLaws
 pub mod KeyTable
 pub mod TableLaws
 pub mod TableWords
 pub mod Masks
-pub mod Used
 pub mod MaskLaws
 pub mod MaskBuffers
 pub mod Examples

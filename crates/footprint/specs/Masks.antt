@@ -113,15 +113,10 @@ pub record MasksOf (touched writers : List ℕ) (calls : List (List ℕ)) : Type
 abbrev pub entryWords : List ℕ → List Access → List ℕ
 entryWords keys s = map (entryWord keys) s
 
--- Sets whose accesses all read or write.
+-- An access that reads or writes; and sets of such accesses whose keys are all in the table.
 abbrev pub Used : Access → Type 0
 Used e = e .reads || e .writes ≡ true
 
-abbrev pub AllUsed : List Access → Type 0
-AllUsed [] = Unit {0}
-AllUsed (e ∷ s) = Used e × AllUsed s
-
--- Sets whose keys besides are all in the table.
 pub record Listed (keys : List ℕ) (e : Access) : Type 0 where
   pub in-table : member (e .key) keys ≡ true
   pub has-use : Used e

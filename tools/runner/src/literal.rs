@@ -80,7 +80,7 @@ fn quoted(bytes: &[u8]) -> String {
         b'\r' => "\\r".to_string(),
         b'\t' => "\\t".to_string(),
         b'"' | b'\\' => format!("\\{}", byte as char),
-        32..=126 => (byte as char).to_string(),
+        32..=126 | 161..=172 | 174..=255 => (byte as char).to_string(),
         _ => format!("\\u{{{byte:x}}}"),
     });
     format!("\"{}\"", escaped.collect::<String>())

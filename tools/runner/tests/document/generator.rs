@@ -82,11 +82,11 @@ fn large_cases_reach_the_limits_and_pass_them() {
 fn a_module_holds_a_numeral_and_two_texts_a_case() {
     let mut case = small_cases(1, 1).remove(0);
     case.block = vec![0, 0, 4, 0];
-    case.input = b"\"\t\xd9".to_vec();
+    case.input = b"\"\t\x01\xd9".to_vec();
     case.output = b"r 1 0\n".to_vec();
     let text = module(7, &[case]);
     let element = "    -- 7: accepted, 0 calls, 1 lines
-    case 4 0x00000400 \"\\\"\\t\\u{d9}\" \"r 1 0\\n\"
+    case 4 0x00000400 \"\\\"\\t\\u{1}Ù\" \"r 1 0\\n\"
     ∷ []
 ";
     assert!(text.contains(element), "{text}");

@@ -1,0 +1,212 @@
+// The decoder of instructions, "op, x, y, z, then w (32 bits)": a function for each rule of specs/Instruction.antt. What breaks a
+// rule is refusal 10.
+use crate::Decoded;
+use crate::Instr;
+use crate::Source;
+use crate::part::from;
+use crate::part::long;
+ghost use mathlib.Core.Path.{_≡_};
+ghost use lib.ListN.{drop};
+ghost use Rattle.block.specs.Instruction.{sourceOf, allowed, decodeEnd, decodeSet, decodeArg, decodeFact, decodeArith, decodeCell, decodePay, decodeJump, decodeParts, decode, isValid};
+
+// The highest register, argument and source; the source that is the constant.
+const LAST_REGISTER: usize = 7;
+
+const LAST_ARGUMENT: usize = 4;
+
+const LAST_SOURCE: usize = 6;
+
+const FROM_CONSTANT: usize = 6;
+
+// w holds the field in its lower half and the constant in its upper one.
+const HALF: u32 = 65536;
+
+// Where a part of a key or a target comes from.
+fn source_of(n: usize, w: u32) -> Source
+    ensures { λ r. ⌜ r ≡ sourceOf n w ⌝ }
+{
+    if n == 0 {
+        return Source::Zero;
+    }
+    if n == 5 {
+        return Source::Sender;
+    }
+    if n == FROM_CONSTANT {
+        return Source::Constant((w / HALF) as u16);
+    }
+    Source::Argument(n)
+}
+
+// An instruction whose parts keep its rule.
+fn allowed(rule: bool, i: Instr) -> Decoded
+    ensures { λ r. ⌜ r ≡ allowed rule i ⌝ }
+{
+    if rule {
+        Decoded::Valid(i)
+    } else {
+        Decoded::Invalid
+    }
+}
+
+fn decode_end(op: usize, x: usize, y: usize, z: usize, w: u32) -> Decoded
+    ensures { λ r. ⌜ r ≡ decodeEnd op x y z w ⌝ }
+{
+    let rule = (x == 0) & (y == 0) & (z == 0) & (w == 0);
+    if op == 0 {
+        return allowed(rule, Instr::Stop);
+    }
+    allowed(rule, Instr::Throw)
+}
+
+fn decode_set(x: usize, y: usize, z: usize, w: u32) -> Decoded
+    ensures { λ r. ⌜ r ≡ decodeSet x y z w ⌝ }
+{
+    let rule = (x <= LAST_REGISTER) & (y == 0) & (z == 0);
+    let value = arith::signed32(w);
+    allowed(rule, Instr::Set { x, value })
+}
+
+fn decode_arg(x: usize, y: usize, z: usize, w: u32) -> Decoded
+    ensures { λ r. ⌜ r ≡ decodeArg x y z w ⌝ }
+{
+    let rule = (x <= LAST_REGISTER) & ((1 <= y) & (y <= LAST_ARGUMENT)) & (z == 0) & (w == 0);
+    allowed(rule, Instr::Arg { x, argument: y })
+}
+
+fn decode_fact(x: usize, y: usize, z: usize, w: u32, i: Instr) -> Decoded
+    ensures { λ r. ⌜ r ≡ decodeFact x y z w i ⌝ }
+{
+    let rule = (x <= LAST_REGISTER) & (y == 0) & (z == 0) & (w == 0);
+    allowed(rule, i)
+}
+
+fn decode_arith(op: usize, x: usize, y: usize, z: usize, w: u32) -> Decoded
+    ensures { λ r. ⌜ r ≡ decodeArith op x y z w ⌝ }
+{
+    let rule = (x <= LAST_REGISTER) & (y <= LAST_REGISTER) & (z <= LAST_REGISTER) & (w == 0);
+    if op == 6 {
+        return allowed(rule, Instr::Add { x, y, z });
+    }
+    if op == 7 {
+        return allowed(rule, Instr::Sub { x, y, z });
+    }
+    if op == 8 {
+        return allowed(rule, Instr::Mul { x, y, z });
+    }
+    allowed(rule, Instr::Div { x, y, z })
+}
+
+// The constant in w is zero if no source is the constant.
+fn decode_cell(op: usize, x: usize, y: usize, z: usize, w: u32) -> Decoded
+    ensures { λ r. ⌜ r ≡ decodeCell op x y z w ⌝ }
+{
+    let constant = (y == FROM_CONSTANT) | (z == FROM_CONSTANT) | (w / HALF == 0);
+    let rule = (x <= LAST_REGISTER)
+        & (y <= LAST_SOURCE)
+        & (z <= LAST_SOURCE)
+        & (w % HALF != 0)
+        & constant;
+    let field = (w % HALF) as u16;
+    let a = source_of(y, w);
+    let b = source_of(z, w);
+    if op == 10 {
+        return allowed(rule, Instr::Get { x, field, a, b });
+    }
+    allowed(rule, Instr::Put { x, field, a, b })
+}
+
+fn decode_pay(x: usize, y: usize, z: usize, w: u32) -> Decoded
+    ensures { λ r. ⌜ r ≡ decodePay x y z w ⌝ }
+{
+    let constant = (y == FROM_CONSTANT) | (w / HALF == 0);
+    let rule = (x <= LAST_REGISTER) & (y <= LAST_SOURCE) & (z == 0) & (w % HALF == 0) & constant;
+    let target = source_of(y, w);
+    allowed(rule, Instr::Pay { x, target })
+}
+
+fn decode_jump(
+    index: usize,
+    size: usize,
+    op: usize,
+    x: usize,
+    y: usize,
+    z: usize,
+    w: u32,
+) -> Decoded
+    ensures { λ r. ⌜ r ≡ decodeJump index size op x y z w ⌝ }
+{
+    let to = w as usize;
+    let rule = (x <= LAST_REGISTER) & (y <= LAST_REGISTER) & (z == 0) & (index < to) & (to <= size);
+    if op == 14 {
+        return allowed(rule, Instr::Jeq { x, y, to });
+    }
+    allowed(rule, Instr::Jlt { x, y, to })
+}
+
+// The instruction of a code of `size` instructions at `index`, from its parts.
+fn decode_parts(
+    index: usize,
+    size: usize,
+    op: usize,
+    x: usize,
+    y: usize,
+    z: usize,
+    w: u32,
+) -> Decoded
+    ensures { λ r. ⌜ r ≡ decodeParts index size op x y z w ⌝ }
+{
+    if op < 2 {
+        return decode_end(op, x, y, z, w);
+    }
+    if op == 2 {
+        return decode_set(x, y, z, w);
+    }
+    if op == 3 {
+        return decode_arg(x, y, z, w);
+    }
+    if op < 6 {
+        if op == 4 {
+            return decode_fact(x, y, z, w, Instr::Sender { x });
+        }
+        return decode_fact(x, y, z, w, Instr::Value { x });
+    }
+    if op < 10 {
+        return decode_arith(op, x, y, z, w);
+    }
+    if op < 12 {
+        return decode_cell(op, x, y, z, w);
+    }
+    if op == 12 {
+        return decode_fact(x, y, z, w, Instr::Bal { x });
+    }
+    if op == 13 {
+        return decode_pay(x, y, z, w);
+    }
+    if op < 16 {
+        return decode_jump(index, size, op, x, y, z, w);
+    }
+    Decoded::Invalid
+}
+
+// The instruction at a position of the code, which is the one at `index` of `size`; bytes past the end count as 0.
+pub fn decode(code: &[u8], at: usize, index: usize, size: usize) -> Decoded
+    ensures { λ r. ⌜ r ≡ decode index size (drop at (now (code .entry))) ⌝ }
+{
+    let s = from(code, at);
+    let op = wire::byte(s, 0) as usize;
+    let x = wire::byte(s, 1) as usize;
+    let y = wire::byte(s, 2) as usize;
+    let z = wire::byte(s, 3) as usize;
+    let w = long(s, 4);
+    decode_parts(index, size, op, x, y, z, w)
+}
+
+// Whether bytes hold an instruction.
+pub fn is_valid(d: Decoded) -> bool
+    ensures { λ r. ⌜ r ≡ isValid d ⌝ }
+{
+    match d {
+        Decoded::Valid(_) => true,
+        Decoded::Invalid => false,
+    }
+}

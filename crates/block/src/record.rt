@@ -1,0 +1,171 @@
+// The bodies of records: the code of a function, call records, and the addresses they name.
+use crate::Account;
+use crate::Address;
+use crate::Call;
+use crate::CallBody;
+use crate::Contract;
+use crate::Payee;
+use crate::part::from;
+use crate::part::long;
+use crate::part::short;
+ghost use mathlib.Core.Path.{_≡_};
+ghost use lib.ListN.{drop};
+ghost use Prim.Native.Nat.{_+_, _*_, _^_};
+ghost use Rattle.block.specs.Key.{addressOf, payeeOf, keyAllowed};
+ghost use Rattle.block.specs.Record.{callOf, argument, codeAt, lengthAllowed};
+ghost use Rattle.block.specs.Standing.{valueAllowed};
+
+// "little-endian records: length (2 bytes, of the body), kind (2), body", and the kinds.
+pub const HEAD_BYTES: usize = 4;
+
+pub const FUNCTION_KIND: usize = 1;
+
+pub const CELL_KIND: usize = 2;
+
+pub const CALL_KIND: usize = 3;
+
+pub const END_KIND: usize = 4;
+
+// The length of an instruction, of what stands before a function's code, of the longest function, of a cell and of a call.
+pub const INSTR_BYTES: usize = 8;
+
+pub const FUNCTION_BYTES: usize = 4;
+
+pub const LONGEST_FUNCTION: usize = 516;
+
+pub const CELL_BYTES: usize = 20;
+
+pub const CALL_BYTES: usize = 30;
+
+// The place values of the parts of a key's first word.
+const ADDRESS_BASE: u64 = 281474976710656;
+
+const FIELD_BASE: u64 = 4294967296;
+
+// "contract addresses 32768 to 65535"
+pub const FIRST_CONTRACT: u16 = 32768;
+
+// What 16 bits name.
+pub fn address_of(n: u16) -> Address
+    ensures { λ r. ⌜ r ≡ addressOf n ⌝ }
+{
+    if n < FIRST_CONTRACT {
+        Address::OfAccount(Account(n))
+    } else {
+        Address::OfContract(Contract(n))
+    }
+}
+
+// Whom a number names as the target of PAY: all its bits count.
+pub fn payee_of(n: u64) -> Payee
+    ensures { λ r. ⌜ r ≡ payeeOf n ⌝ }
+{
+    if n < FIRST_CONTRACT as u64 {
+        Payee::To(Account(n as u16))
+    } else {
+        Payee::NoAccount
+    }
+}
+
+// "4 length not the kind's"
+pub fn length_allowed(kind: usize, len: usize) -> bool
+    ensures { λ r. ⌜ r ≡ lengthAllowed kind len ⌝ }
+{
+    if kind == FUNCTION_KIND {
+        if len < FUNCTION_BYTES {
+            return false;
+        }
+        return (len <= LONGEST_FUNCTION) & ((len - FUNCTION_BYTES) % INSTR_BYTES == 0);
+    }
+    if kind == CELL_KIND {
+        return len == CELL_BYTES;
+    }
+    if kind == CALL_KIND {
+        return len == CALL_BYTES;
+    }
+    len == 0
+}
+
+// "Field 0 has only a = b = 0 and is the balance; an account has no other key (5 otherwise)."
+pub fn key_allowed(address: Address, field: u16, a: u32, b: u32) -> bool
+    ensures { λ r. ⌜ r ≡ keyAllowed address field a b ⌝ }
+{
+    match address {
+        Address::OfAccount(_) => (field == 0) & (a == 0) & (b == 0),
+        Address::OfContract(_) => (field != 0) | ((a == 0) & (b == 0)),
+    }
+}
+
+// An opening cell's value, by its bits: "not zero, a balance above zero".
+pub fn value_allowed(field: u16, bits: u64) -> bool
+    ensures { λ r. ⌜ r ≡ valueAllowed field bits ⌝ }
+{
+    if field == 0 {
+        return arith::less(0, arith::signed64(bits));
+    }
+    bits != 0
+}
+
+// The first part of a key as a word: address, field, a.
+pub fn high_of(address: u16, field: u16, a: u32) -> u64
+    ensures { λ r. ⌜ r ≡ address * 2 ^ 48 + field * 2 ^ 32 + a ⌝ }
+{
+    address as u64 * ADDRESS_BASE + field as u64 * FIELD_BASE + a as u64
+}
+
+// The finder: the part of the lent block that holds the code of `size` instructions at `start`, cut where the block ends.
+pub fn code_at(block: &[u8], start: usize, size: usize) -> &[u8]
+    ensures { λ r. ⌜ now r ≡ codeAt (now (block .entry)) start size ⌝ }
+{
+    let code = from(block, start);
+    if code.len() / INSTR_BYTES < size {
+        return code;
+    }
+    let end = INSTR_BYTES * size;
+    &code[..end]
+}
+
+// The call whose body starts at a position of the block; bytes past the end count as 0.
+pub fn call_at(block: &[u8], at: usize) -> CallBody
+    ensures { λ r. ⌜ r ≡ callOf (drop at (now (block .entry))) ⌝ }
+{
+    let s = from(block, at);
+    let sender = short(s, 0);
+    let contract = short(s, 2);
+    let value = wire::get_i64(s, 6);
+    if FIRST_CONTRACT <= sender {
+        return CallBody::OutOfRange;
+    }
+    if contract < FIRST_CONTRACT {
+        return CallBody::OutOfRange;
+    }
+    if value < 0 {
+        return CallBody::OutOfRange;
+    }
+    CallBody::InRange(Call {
+        sender: Account(sender),
+        contract: Contract(contract),
+        function: short(s, 4),
+        value,
+        arg1: long(s, 14),
+        arg2: long(s, 18),
+        arg3: long(s, 22),
+        arg4: long(s, 26),
+    })
+}
+
+// Argument 1 to 4 of a call.
+pub fn argument(c: Call, k: usize) -> u64
+    ensures { λ r. ⌜ r ≡ argument c k ⌝ }
+{
+    if k == 1 {
+        return c.arg1 as u64;
+    }
+    if k == 2 {
+        return c.arg2 as u64;
+    }
+    if k == 3 {
+        return c.arg3 as u64;
+    }
+    c.arg4 as u64
+}

@@ -1,0 +1,150 @@
+// The uses of keys by a call's entry and by each instruction: the set analysis and a step ask the same functions.
+use crate::KeyUse;
+use crate::Uses;
+use block::Call;
+use block::Instr;
+use block::Payee;
+use block::Source;
+use block::record::argument;
+use block::record::payee_of;
+ghost use mathlib.Core.Path.{_≡_};
+ghost use Rattle.block.specs.Key.{keyOf};
+ghost use Rattle.footprint.specs.Access.{accesses, cellKey, entryAccesses, payAccesses, sourceValue};
+ghost use Rattle.footprint.specs.Uses.{noUse, useOf, usesOf};
+
+// The place values of field and address in a key's high word, above a.
+const FIELD_PLACE: u64 = 4294967296;
+
+const ADDRESS_PLACE: u64 = 281474976710656;
+
+// The number that a source gives in a call: 32 bits hold it.
+fn source_word(c: Call, s: Source) -> u32
+    ensures { λ r. ⌜ r ≡ sourceValue c s ⌝ }
+{
+    let sender = c.sender.0 as u32;
+    match s {
+        Source::Zero => 0,
+        Source::Argument(k) => argument(c, k) as u32,
+        Source::Sender => sender,
+        Source::Constant(n) => n as u32,
+    }
+}
+
+// The number that a source gives in a call.
+pub fn source_value(c: Call, s: Source) -> u64
+    ensures { λ r. ⌜ r ≡ sourceValue c s ⌝ }
+{
+    source_word(c, s) as u64
+}
+
+// The use of the key with these parts.
+fn key_use(address: u16, field: u16, a: u32, b: u32, reads: bool, writes: bool) -> KeyUse
+    ensures { λ r. ⌜ r ≡ useOf (record { key = keyOf address field a b; reads = reads; writes = writes }) ⌝ }
+{
+    KeyUse {
+        high: address as u64 * ADDRESS_PLACE + field as u64 * FIELD_PLACE + a as u64,
+        low: b as u64,
+        reads,
+        writes,
+    }
+}
+
+// The use of the balance of an address.
+fn balance_use(address: u16, reads: bool, writes: bool) -> KeyUse
+    ensures { λ r. ⌜ r ≡ useOf (record { key = keyOf address 0 0 0; reads = reads; writes = writes }) ⌝ }
+{
+    key_use(address, 0, 0, 0, reads, writes)
+}
+
+// The use of a cell of the called contract.
+fn cell_use(c: Call, field: u16, a: Source, b: Source, reads: bool, writes: bool) -> KeyUse
+    ensures { λ r. ⌜ r ≡ useOf (record { key = cellKey c field a b; reads = reads; writes = writes }) ⌝ }
+{
+    key_use(
+        c.contract.0,
+        field,
+        source_word(c, a),
+        source_word(c, b),
+        reads,
+        writes,
+    )
+}
+
+// None, one or two uses.
+fn no_use() -> KeyUse
+    ensures { λ r. ⌜ r ≡ noUse ⌝ }
+{
+    KeyUse {
+        high: 0,
+        low: 0,
+        reads: false,
+        writes: false,
+    }
+}
+
+fn none() -> Uses
+    ensures { λ r. ⌜ r ≡ record { count = 0; first = noUse; second = noUse } ⌝ }
+{
+    Uses {
+        count: 0,
+        first: no_use(),
+        second: no_use(),
+    }
+}
+
+fn one(u: KeyUse) -> Uses
+    ensures { λ r. ⌜ r ≡ record { count = 1; first = u; second = noUse } ⌝ }
+{
+    Uses {
+        count: 1,
+        first: u,
+        second: no_use(),
+    }
+}
+
+fn two(u: KeyUse, v: KeyUse) -> Uses
+    ensures { λ r. ⌜ r ≡ record { count = 2; first = u; second = v } ⌝ }
+{
+    Uses {
+        count: 2,
+        first: u,
+        second: v,
+    }
+}
+
+// "Value above 0: reads sender's balance, writes sender's and contract's."
+pub fn entry_uses(c: Call) -> Uses
+    ensures { λ r. ⌜ r ≡ usesOf (entryAccesses c) ⌝ }
+{
+    if 0 < c.value {
+        return two(
+            balance_use(c.sender.0, true, true),
+            balance_use(c.contract.0, false, true),
+        );
+    }
+    none()
+}
+
+// "PAY reads and writes it and writes the target's balance if the target is an account": it is the contract's balance.
+fn pay_uses(c: Call, target: Payee) -> Uses
+    ensures { λ r. ⌜ r ≡ usesOf (payAccesses c target) ⌝ }
+{
+    let own = balance_use(c.contract.0, true, true);
+    match target {
+        Payee::To(account) => two(own, balance_use(account.0, false, true)),
+        Payee::NoAccount => one(own),
+    }
+}
+
+// "GET reads its key, PUT writes its key, BAL reads the contract's balance"; the others but PAY use no key.
+pub fn instr_uses(c: Call, i: Instr) -> Uses
+    ensures { λ r. ⌜ r ≡ usesOf (accesses c i) ⌝ }
+{
+    match i {
+        Instr::Get { x: _, field, a, b } => one(cell_use(c, field, a, b, true, false)),
+        Instr::Put { x: _, field, a, b } => one(cell_use(c, field, a, b, false, true)),
+        Instr::Bal { x: _ } => one(balance_use(c.contract.0, true, false)),
+        Instr::Pay { x: _, target } => pay_uses(c, payee_of(source_value(c, target))),
+        _ => none(),
+    }
+}
