@@ -5,8 +5,6 @@ pub mod KeyLaws
 pub mod Instruction
 pub mod Record
 pub mod Reader
-pub mod Layout
-pub mod Standing
 pub mod ReaderLaws
 pub mod Assemble
 pub mod Worked

@@ -2,7 +2,6 @@
 pub mod instruction;
 pub mod limits;
 pub mod part;
-pub mod reader;
 pub mod record;
 
 // An account address, 0 to 32767.
@@ -146,18 +145,4 @@ pub enum Refusal {
 pub enum Verdict {
     Accepted,
     Refused(Refusal),
-}
-
-// What the reader leaves of a file: the counts, the offsets at which its opening cells and its calls begin, and of each function its
-// id, contract * 65536 + number, and where its code starts and how many instructions it has. All zero if the file is refused.
-pub struct Layout {
-    pub verdict: Verdict,
-    pub functions: usize,
-    pub cells: usize,
-    pub calls: usize,
-    pub opening: usize,
-    pub first: usize,
-    pub ids: [u64; 64],
-    pub starts: [usize; 64],
-    pub sizes: [usize; 64],
 }

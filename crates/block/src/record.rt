@@ -13,7 +13,6 @@ ghost use lib.ListN.{drop};
 ghost use Prim.Native.Nat.{_+_, _*_, _^_};
 ghost use Rattle.block.specs.Key.{addressOf, payeeOf, keyAllowed};
 ghost use Rattle.block.specs.Record.{callOf, argument, codeAt, lengthAllowed};
-ghost use Rattle.block.specs.Standing.{valueAllowed};
 
 // "little-endian records: length (2 bytes, of the body), kind (2), body", and the kinds.
 pub const HEAD_BYTES: usize = 4;
@@ -94,16 +93,6 @@ pub fn key_allowed(address: Address, field: u16, a: u32, b: u32) -> bool
         Address::OfAccount(_) => (field == 0) & (a == 0) & (b == 0),
         Address::OfContract(_) => (field != 0) | ((a == 0) & (b == 0)),
     }
-}
-
-// An opening cell's value, by its bits: "not zero, a balance above zero".
-pub fn value_allowed(field: u16, bits: u64) -> bool
-    ensures { λ r. ⌜ r ≡ valueAllowed field bits ⌝ }
-{
-    if field == 0 {
-        return arith::less(0, arith::signed64(bits));
-    }
-    bits != 0
 }
 
 // The first part of a key as a word: address, field, a.

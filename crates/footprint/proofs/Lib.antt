@@ -1,4 +1,1 @@
 mod AccessLaws
-mod GatherLaws
-mod KeyLaws
-mod RowLoops

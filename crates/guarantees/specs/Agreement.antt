@@ -5,6 +5,7 @@ use mathlib.Core.Bool.{Bool, true, false}
 use mathlib.Core.List.{List, []}
 use Prim.Native.Nat.{ℕ, zero, suc, _<_}
 use lib.ListN.{length, getD}
+use Rattle.wire.specs.Bytes.{below}
 use Rattle.schedule.specs.Tally.{Phase, waiting, running, finished, Seat, idle, holds, Tally}
 use Rattle.schedule.specs.declared.Move.{Move}
 use Rattle.footprint.specs.Access.{Access}
@@ -15,7 +16,7 @@ use Rattle.machine.specs.Run.{Run, fixedSizes, seatOf, stateOf}
 use Rattle.machine.specs.Opening.{openingOf}
 use Rattle.machine.specs.Step.{Local}
 use Rattle.machine.specs.Moves.{beginOf, stepOf, localOf, runAfter, answersOf}
-use Rattle.machine.specs.Serial.{below, runCalls}
+use Rattle.machine.specs.Serial.{runCalls}
 use Rattle.sheet.specs.Sheet.{sheetOf}
 use Rattle.guarantees.specs.BlockTally.{fileSets, tallyAfter, tallyAnswers}
 

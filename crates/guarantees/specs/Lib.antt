@@ -1,4 +1,3 @@
-pub mod Rule
 pub mod BlockTally
 pub mod Agreement
 pub mod Blocks

@@ -23,7 +23,7 @@ use Rattle.block.specs.Assemble.{text, joined}
 use Rattle.block.specs.Worked.{P}
 use Rattle.console.specs.Examples.{printedP}
 use Rattle.machine.specs.Opening.{opened}
-use Rattle.guarantees.specs.Rule.{Left, transactions, update, assignChecked, transfer, execute, executeAt, runBody, withInstr, bodyOf, settle, runFunction, transactionBy}
+use Rattle.footprint.specs.Rule.{Left, transactions, update, assignChecked, transfer, execute, executeAt, runBody, withInstr, bodyOf, settle, runFunction, transactionBy}
 use Rattle.guarantees.specs.BlockTally.{setsIn, tallyAnswers, stepsIn}
 
 -- The text of the sheet of a run whose calls are all finished.

@@ -4,10 +4,10 @@ use Rattle.machine.specs.Answer.{answerNumber}
 use Rattle.machine.specs.Moves.{earlierBroken, earlierFinished, beginCall, beginChecked, beginOf, stepped, stepRecord, stepHeld, cancelHeld, heldBy, stepFor, cancelFor, moveOf, runAfter, answersOf}
 use Rattle.machine.specs.Opening.{refusedRun, openPrepared, openingOf}
 use Rattle.machine.specs.Run.{largeEnough}
-use Rattle.machine.specs.Serial.{stepToEnd, stepsToEnd, runCalls, below, chosen}
+use Rattle.machine.specs.Serial.{stepToEnd, stepsToEnd, runCalls, chosen}
 use Rattle.machine.specs.Step.{findEntry, lookup, entriesAllowed, savedOf, restored, finish, loadCell, storeCell, depositCell, transferCells, perform, stepEntry, stepDecoded, stepInstr, stepCall}
 use Rattle.footprint.specs.Computing as footprint
 
 unfoldable pub computing : Unit {0}
-unfolding footprint.computing assignChecked payAction instrAction entryAction answerNumber earlierBroken earlierFinished beginCall beginChecked beginOf stepped stepRecord stepHeld cancelHeld heldBy stepFor cancelFor moveOf runAfter answersOf refusedRun openPrepared openingOf largeEnough stepToEnd stepsToEnd runCalls below chosen findEntry lookup entriesAllowed savedOf restored finish loadCell storeCell depositCell transferCells perform stepEntry stepDecoded stepInstr stepCall
+unfolding footprint.computing assignChecked payAction instrAction entryAction answerNumber earlierBroken earlierFinished beginCall beginChecked beginOf stepped stepRecord stepHeld cancelHeld heldBy stepFor cancelFor moveOf runAfter answersOf refusedRun openPrepared openingOf largeEnough stepToEnd stepsToEnd runCalls chosen findEntry lookup entriesAllowed savedOf restored finish loadCell storeCell depositCell transferCells perform stepEntry stepDecoded stepInstr stepCall
 computing = tt

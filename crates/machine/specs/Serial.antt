@@ -4,6 +4,7 @@ use mathlib.Core.List.{List, [], _∷_, _++_}
 use Prim.Native.Nat.{ℕ, zero, suc, _+_, min}
 use lib.Dec.{eqb}
 use Rattle.arith.specs.Choice.{if_then_else_}
+use Rattle.wire.specs.Bytes.{below}
 use Rattle.block.specs.Limits.{maxCode, maxCalls}
 use Rattle.machine.specs.Run.{Run, seatOf}
 use Rattle.machine.specs.Moves.{beginOf, stepOf}
@@ -32,11 +33,6 @@ runCall block r c = stepToEnd maxSteps block (beginOf r 0 c .run)
 unfoldable pub runCalls : List ℕ → Run → List ℕ → Run
 runCalls block r [] = r
 runCalls block r (c ∷ cs) = runCalls block (runCall block r c) cs
-
--- The numbers below n, rising: the first n calls.
-unfoldable pub below : ℕ → List ℕ
-below zero = []
-below (suc n) = below n ++ (n ∷ [])
 
 -- The calls of a list that pass a test.
 unfoldable pub chosen : (ℕ → Bool) → List ℕ → List ℕ

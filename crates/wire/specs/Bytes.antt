@@ -34,3 +34,8 @@ repeated n a = replicate n a
 -- A buffer of n elements that holds the list and then only the given element.
 abbrev pub padded {ℓ} : {A : Type ℓ} → ℕ → A → List A → List A
 padded n a l = l ++ repeated (n - length l) a
+
+-- The numbers below n, rising.
+unfoldable pub below : ℕ → List ℕ
+below zero = []
+below (suc n) = below n ++ (n ∷ [])

@@ -1,0 +1,162 @@
+-- The mathematics of the proofs of `gather`, over plain variables: the search for a place, the cases of a use, and the walks, turn by turn. Assumes nothing.
+use mathlib.Core.Path.{_≡_, sym, ap, ap₂, _∙_}
+use mathlib.Core.Bool.{Bool, true, false}
+use mathlib.Core.List.{List, [], _++_}
+use Prim.Native.Nat.{ℕ, suc, _+_, _-_, _*_, _≤_, _<_}
+use native.Mathlib.Nat.{zero-add}
+use native.Mathlib.Numerals.{add-one}
+use native.Mathlib.Omega.{arith}
+use borrow.Author.Tests.{lt-ltb, le-ltb, eq-eqb, ne-eqb}
+use lib.Dec.{eqb, ltb}
+use lib.ListN.{drop, set}
+use Rattle.arith.specs.Choice.{if_then_else_}
+use Rattle.wire.specs.RowOps.{firstOf}
+use Rattle.block.specs.Instruction.{instrBytes, decode}
+use Rattle.block.specs.Limits.{maxCallKeys}
+use Rattle.block.specs.declared.Call.{Call}
+use Rattle.block.specs.declared.Decoded.{Decoded}
+use Rattle.block.specs.declared.Decoded.the-variants.{Valid, Invalid}
+use Rattle.block.specs.declared.Instr.{Instr}
+use Rattle.footprint.specs.Access.{Access, accesses, entryAccesses}
+use Rattle.footprint.specs.AccessLaws.{entry-few, decoded-few}
+use Rattle.analysis.specs.Gathered.{gathered, holdsKey, placeIn, tooMany, useFlags, united, extended, withUseAt, withUse, withUses}
+use Rattle.analysis.specs.GatheredLaws.{if-true, if-false, gathered-count, gathered-uses}
+use Rattle.footprint.specs.SetLaws.{merged-append, code-more}
+use Rattle.footprint.specs.Sets.{mergeAll, decodedAccesses, codeAccesses}
+use Rattle.footprint.specs.Uses.{usesOf}
+use Rattle.footprint.specs.declared.KeyUse.{KeyUse}
+use Rattle.analysis.specs.declared.Sets.{Sets}
+use Rattle.footprint.specs.declared.Uses.{Uses}
+
+-- ---- the search for a place
+
+-- The search that starts at the first place.
+pub place-start : (s : Sets) (u : KeyUse) → placeIn s u ≡ firstOf (holdsKey s u) (s .count - 0) 0
+unfolding placeIn
+place-start s u = let all : s .count ≡ s .count - 0 = omega arith in ap (λ (n : ℕ). firstOf (holdsKey s u) n 0) all
+
+module _ (p : ℕ → Bool) (n at : ℕ) where
+  turn : at < n → firstOf p (n - at) at ≡ firstOf p (suc (n - (at + 1))) at
+  turn h = let one : n - at ≡ suc (n - (at + 1)) = omega arith in ap (λ (m : ℕ). firstOf p m at) one
+
+  pub place-found : at < n → p at ≡ true → firstOf p (n - at) at ≡ at
+  unfolding firstOf
+  place-found h e = turn h ∙ if-true at (firstOf p (n - (at + 1)) (at + 1)) e
+
+  pub place-next : at < n → p at ≡ false → firstOf p (n - at) at ≡ firstOf p (n - (at + 1)) (at + 1)
+  unfolding firstOf
+  place-next h e = turn h ∙ if-false at (firstOf p (n - (at + 1)) (at + 1)) e
+
+  pub place-end : at ≤ n → n ≤ at → firstOf p (n - at) at ≡ at
+  unfolding firstOf
+  place-end h e = let none : n - at ≡ 0 = omega arith in ap (λ (m : ℕ). firstOf p m at) none
+
+-- ---- the cases of a use
+
+pub use-over : (s : Sets) (u : KeyUse) → s .over ≡ true → s ≡ withUse s u
+unfolding withUse
+use-over s u over = sym (if-true s (withUseAt s u (placeIn s u)) over)
+
+module _ (s : Sets) (u : KeyUse) {at : ℕ} (fits : s .over ≡ false) (place : at ≡ placeIn s u) where
+  use-at : withUse s u ≡ withUseAt s u at
+  unfolding withUse
+  use-at = if-false s (withUseAt s u (placeIn s u)) fits ∙ ap (withUseAt s u) (sym place)
+
+  pub use-known : {f : ℕ} → f ≡ useFlags u → at < s .count → united s at f ≡ withUse s u
+  use-known flags h =
+      ap (united s at) flags
+      ∙ sym (use-at
+      ∙ if-true (united s at (useFlags u)) (if ltb at maxCallKeys then extended s at u else tooMany) (lt-ltb at (s .count) h))
+
+  new : s .count ≤ at → withUse s u ≡ (if ltb at maxCallKeys then extended s at u else tooMany)
+  new h =
+      use-at ∙ if-false (united s at (useFlags u)) (if ltb at maxCallKeys then extended s at u else tooMany) (le-ltb at (s .count) h)
+
+  pub use-new : {f : ℕ} → f ≡ useFlags u → s .count ≤ at → at < maxCallKeys
+      → _≡_ {A = Sets}
+      (record { over = s .over; count = at + 1; highs = set (s .highs) at (u .high); lows = set (s .lows) at (u .low); flags = set (s .flags) at f })
+      (withUse s u)
+  use-new {f} flags h room =
+      let flagged : set (s .flags) at f ≡ set (s .flags) at (useFlags u) = ap (set (s .flags) at) flags in
+      let made : _≡_ {A = Sets}
+      (record { over = s .over; count = at + 1; highs = set (s .highs) at (u .high); lows = set (s .lows) at (u .low); flags = set (s .flags) at f })
+      (extended s at u) =
+      λ i. record {
+        over = s .over;
+        count = at + 1;
+        highs = set (s .highs) at (u .high);
+        lows = set (s .lows) at (u .low);
+        flags = flagged i;
+      } in
+      made ∙ sym (new h ∙ if-true (extended s at u) tooMany (lt-ltb at maxCallKeys room))
+
+  pub use-past : {r : Sets} → r ≡ tooMany → s .count ≤ at → maxCallKeys ≤ at → r ≡ withUse s u
+  use-past e h full = e ∙ sym (new h ∙ if-false (extended s at u) tooMany (le-ltb at maxCallKeys full))
+
+module _ (s : Sets) (us : Uses) where
+  pub uses-none : us .count ≡ 0 → s ≡ withUses s us
+  unfolding withUses
+  uses-none e =
+      sym (if-true s (if eqb (us .count) 1 then withUse s (us .first) else withUse (withUse s (us .first)) (us .second))
+      (eq-eqb (us .count) 0 e))
+
+  some-uses : (us .count ≡ 0 → ⊥)
+      → withUses s us ≡ (if eqb (us .count) 1 then withUse s (us .first) else withUse (withUse s (us .first)) (us .second))
+  unfolding withUses
+  some-uses n =
+      if-false s (if eqb (us .count) 1 then withUse s (us .first) else withUse (withUse s (us .first)) (us .second)) (ne-eqb (us .count) 0 n)
+
+  pub uses-one : {t : Sets} → (us .count ≡ 0 → ⊥) → us .count ≡ 1 → t ≡ withUse s (us .first) → t ≡ withUses s us
+  uses-one n e f =
+      f
+      ∙ sym (some-uses n
+      ∙ if-true (withUse s (us .first)) (withUse (withUse s (us .first)) (us .second)) (eq-eqb (us .count) 1 e))
+
+  pub uses-two : {t r : Sets} → (us .count ≡ 0 → ⊥) → (us .count ≡ 1 → ⊥) → t ≡ withUse s (us .first) → r ≡ withUse t (us .second)
+      → r ≡ withUses s us
+  uses-two n m f g =
+      g ∙ ap (λ (x : Sets). withUse x (us .second)) f
+      ∙ sym (some-uses n
+      ∙ if-false (withUse s (us .first)) (withUse (withUse s (us .first)) (us .second)) (ne-eqb (us .count) 1 m))
+
+-- ---- the walks
+
+-- An instruction, as it was decoded.
+module _ (s : Sets) (c : Call) {d e : Decoded} (same : d ≡ e) where
+  pub walk-valid : {i : Instr} {us : Uses} {r : Sets} → d ≡ Valid i → us ≡ usesOf (accesses c i) → r ≡ withUses s us
+      → r ≡ withUses s (usesOf (decodedAccesses c e))
+  walk-valid valid uses sets =
+      sets ∙ ap (withUses s) (uses ∙ ap (λ (x : Decoded). usesOf (decodedAccesses c x)) (sym valid ∙ same))
+
+  pub walk-invalid : d ≡ Invalid → s ≡ withUses s (usesOf (decodedAccesses c e))
+  unfolding withUses usesOf
+  walk-invalid invalid = ap (λ (x : Decoded). withUses s (usesOf (decodedAccesses c x))) (sym invalid ∙ same)
+
+pub some-gathered : {s : Sets} (es : List Access) → s ≡ gathered es → s .count ≤ maxCallKeys
+some-gathered es e = rw e (gathered-count es)
+
+module _ (c : Call) (size : ℕ) (code : List ℕ) where
+  -- The accesses of the entry and of the first n instructions.
+  abbrev pub firstAccesses : ℕ → List Access
+  firstAccesses n = mergeAll (mergeAll [] (entryAccesses c)) (codeAccesses c n 0 size code)
+
+  pub walk-start : {k r : Sets} {us : Uses} → k ≡ gathered [] → us ≡ usesOf (entryAccesses c) → r ≡ withUses k us
+      → r ≡ gathered (firstAccesses 0)
+  unfolding mergeAll codeAccesses
+  walk-start empty uses sets = sets ∙ ap₂ withUses empty uses ∙ gathered-uses [] (entryAccesses c) (entry-few c)
+
+  pub walk-more : (n : ℕ) {s r : Sets} → s ≡ gathered (firstAccesses n)
+      → r ≡ withUses s (usesOf (decodedAccesses c (decode n size (drop (instrBytes * n) code)))) → r ≡ gathered (firstAccesses (n + 1))
+  walk-more n so-far sets =
+      let next : List Access = decodedAccesses c (decode n size (drop (instrBytes * n) code)) in
+      let more : codeAccesses c n 0 size code ++ next ≡ codeAccesses c (n + 1) 0 size code =
+      ap (λ (i : ℕ). codeAccesses c n 0 size code ++ decodedAccesses c (decode i size (drop (instrBytes * n) code))) (sym (zero-add n))
+      ∙ sym (code-more c n 0 size code) ∙ ap (λ (m : ℕ). codeAccesses c m 0 size code) (sym (add-one n)) in
+      sets ∙ ap (λ (x : Sets). withUses x (usesOf next)) so-far
+      ∙ gathered-uses (firstAccesses n) next (decoded-few c (decode n size (drop (instrBytes * n) code)))
+      ∙ ap gathered
+      (sym (merged-append (mergeAll [] (entryAccesses c)) (codeAccesses c n 0 size code) next)
+      ∙ ap (mergeAll (mergeAll [] (entryAccesses c))) more)
+
+  pub walk-end : (n : ℕ) {s : Sets} → s ≡ gathered (firstAccesses n) → n ≤ size → size ≤ n → s ≡ gathered (firstAccesses size)
+  walk-end n all h e = let end : n ≡ size = omega arith in all ∙ ap (λ (m : ℕ). gathered (firstAccesses m)) end

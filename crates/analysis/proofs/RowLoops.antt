@@ -1,0 +1,79 @@
+-- The mathematics of the proofs of `rows`, over plain variables: the words of a cell's row, and the loops over a call's entries. Assumes nothing.
+use mathlib.Core.Path.{_≡_, refl, sym, ap, _∙_}
+use mathlib.Core.Bool.{Bool}
+use mathlib.Core.List.{List, [], _∷_}
+use Prim.Native.Nat.{ℕ, zero, suc, _+_, _*_, _/_, _%_, _^_, _≤_, _<_}
+use native.Mathlib.Nat.{add-zero, mod-lt, one-mul}
+use native.Mathlib.Numerals.{add-one}
+use native.Mathlib.Omega.{arith}
+use lib.Bits.{bitOr}
+use lib.Dec.{lit<}
+use lib.ListN.{length, getD, set, take, drop, length-take, length-drop, drop-of-length-le}
+use lib.Pow.{shl-exact}
+use lib.Seq.{drop-cons, getD-take, getD-drop, ext-getD}
+use Rattle.wire.specs.RowOps.{unionOf}
+use Rattle.analysis.specs.Masks.{cellOf, unionOver, maskWords, rowAt, marked, markedIf, addCallWords, InTable}
+
+-- ---- one cell
+
+abbrev fourFrom : List ℕ → ℕ → List ℕ
+fourFrom ws at = getD ws at 0 ∷ getD ws (at + 1) 0 ∷ getD ws (at + 2) 0 ∷ getD ws (at + 3) 0 ∷ []
+
+four-at : (ws : List ℕ) (at i : ℕ) → i < 4 → getD (fourFrom ws at) i 0 ≡ getD ws (at + i) 0
+four-at ws at zero h = ap (λ (k : ℕ). getD ws k 0) (sym (add-zero at))
+four-at ws at (suc zero) h = refl
+four-at ws at (suc (suc zero)) h = refl
+four-at ws at (suc (suc (suc zero))) h = refl
+four-at ws at (suc (suc (suc (suc i)))) h = absurd (omega arith)
+
+-- The four words that are read are the cell's row.
+pub row-by-words : (ws : List ℕ) (x : ℕ) → 4 * x + 4 ≤ length ws → fourFrom ws (4 * x) ≡ rowAt ws x
+row-by-words ws x h =
+    let long : 4 ≡ length (rowAt ws x) = simp (length-take, length-drop) (omega arith) in
+    ext-getD 0 (fourFrom ws (4 * x)) (rowAt ws x) long
+    (λ i l. four-at ws (4 * x) i l ∙ sym (getD-take 4 (drop (4 * x) ws) i 0 l ∙ getD-drop (4 * x) ws i 0))
+
+-- 1 shifted by less than 64 is the bit's power of two.
+pub mark-by-mask : (ws : List ℕ) (x j : ℕ)
+    → set ws (4 * x + j / 64) (bitOr (getD ws (4 * x + j / 64) 0) (1 * 2 ^ (j % 64) % 2 ^ 64)) ≡ marked ws x j
+unfolding marked
+mark-by-mask ws x j =
+    let place : j % 64 < 64 = mod-lt j (lit< tt) in
+    ap (λ (m : ℕ). set ws (4 * x + j / 64) (bitOr (getD ws (4 * x + j / 64) 0) m))
+    (shl-exact 1 (j % 64) 64 (lit< tt) (omega arith) ∙ one-mul (2 ^ (j % 64)))
+
+-- ---- the entries that are left
+
+module _ (entries : List ℕ) (n : ℕ) (fits : n ≤ length entries) where
+  left-some : (k : ℕ) → k < n → drop k (take n entries) ≡ getD entries k 0 ∷ drop (k + 1) (take n entries)
+  left-some k l =
+      drop-cons (take n entries) k 0 (simp length-take (omega arith))
+      ∙ rw (getD-take n entries k 0 l, add-one k)
+
+  left-none : (k : ℕ) → n ≤ k → drop k (take n entries) ≡ []
+  left-none k l = drop-of-length-le (take n entries) {i = k} (simp length-take (omega arith))
+
+  pub entry-in : InTable (take n entries) → (k : ℕ) → k < n → getD entries k 0 < maskWords
+  entry-in h k l = rw (getD-take n entries k 0 l) at (h k)
+
+  -- A turn of the union takes the next entry's row; at the end the row is whole.
+  module _ (rowFrom : ℕ → List ℕ) where
+    pub union-turn : (row wider new : List ℕ) (k : ℕ) → k < n → new ≡ rowFrom (getD entries k 0) → wider ≡ unionOf row new
+        → unionOver rowFrom row (drop k (take n entries)) ≡ unionOver rowFrom wider (drop (k + 1) (take n entries))
+    unfolding unionOver
+    union-turn row wider new k l e f = rw (left-some k l, f, e)
+
+    pub union-end : (row : List ℕ) (k : ℕ) → n ≤ k → unionOver rowFrom row (drop k (take n entries)) ≡ row
+    unfolding unionOver
+    union-end row k l = rw (left-none k l)
+
+  -- A turn of a call's marks takes the next entry; at the end all are made.
+  module _ (how : ℕ → Bool) (j : ℕ) where
+    pub add-turn : (masks more : List ℕ) (k : ℕ) → k < n → more ≡ markedIf (how (getD entries k 0)) masks (cellOf (getD entries k 0)) j
+        → addCallWords how masks j (drop k (take n entries)) ≡ addCallWords how more j (drop (k + 1) (take n entries))
+    unfolding addCallWords
+    add-turn masks more k l e = rw (left-some k l, e)
+
+    pub add-end : (masks : List ℕ) (k : ℕ) → n ≤ k → addCallWords how masks j (drop k (take n entries)) ≡ masks
+    unfolding addCallWords
+    add-end masks k l = rw (left-none k l)

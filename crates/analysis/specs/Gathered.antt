@@ -1,0 +1,86 @@
+-- The set of a call as the code gathers it: the words and flags of its distinct keys in three buffers of 24 places. Assumes nothing.
+use mathlib.Core.Bool.{Bool, true, false, _&&_}
+use mathlib.Core.List.{List, map}
+use Prim.Native.Nat.{ℕ, _+_, _*_}
+use lib.Bits.{bitOr}
+use lib.Dec.{eqb, ltb}
+use lib.ListN.{length, getD, set}
+use Rattle.arith.specs.Choice.{if_then_else_}
+use Rattle.wire.specs.Bytes.{repeated, padded}
+use Rattle.wire.specs.Rows.{bit}
+use Rattle.wire.specs.RowOps.{firstOf}
+use Rattle.block.specs.Limits.{maxCallKeys}
+use Rattle.footprint.specs.Access.{Access}
+use Rattle.footprint.specs.Plan.{highWord, lowWord}
+use Rattle.footprint.specs.declared.KeyUse.{KeyUse}
+use Rattle.footprint.specs.declared.Uses.{Uses}
+use Rattle.analysis.specs.declared.Sets.{Sets}
+
+-- A column of the set: what each access has there, and zeros behind.
+abbrev pub column : (Access → ℕ) → List Access → List ℕ
+column f es = padded maxCallKeys 0 (map f es)
+
+abbrev pub highOf : Access → ℕ
+highOf e = highWord (e .key)
+
+abbrev pub lowOf : Access → ℕ
+lowOf e = lowWord (e .key)
+
+-- The flags of an access: 1 if it reads, plus 2 if it writes.
+abbrev pub flagsOf : Access → ℕ
+flagsOf e = bit (e .reads) + 2 * bit (e .writes)
+
+-- "At most 24 distinct keys a call": with more, all else is zero.
+abbrev pub tooMany : Sets
+tooMany = record { over = true; count = 0; highs = repeated maxCallKeys 0; lows = repeated maxCallKeys 0; flags = repeated maxCallKeys 0 }
+
+-- Accesses that fit.
+abbrev pub columns : List Access → Sets
+columns es = record { over = false; count = length es; highs = column highOf es; lows = column lowOf es; flags = column flagsOf es }
+
+unfoldable pub gathered : List Access → Sets
+gathered es = if ltb maxCallKeys (length es) then tooMany else columns es
+
+-- Whether a place holds the key of a use.
+abbrev pub holdsKey : Sets → KeyUse → ℕ → Bool
+holdsKey s u k = eqb (getD (s .highs) k 0) (u .high) && eqb (getD (s .lows) k 0) (u .low)
+
+-- The place of a use's key among those that stand, or their number.
+unfoldable pub placeIn : Sets → KeyUse → ℕ
+placeIn s u = firstOf (holdsKey s u) (s .count) 0
+
+abbrev pub useFlags : KeyUse → ℕ
+useFlags u = bit (u .reads) + 2 * bit (u .writes)
+
+-- The flags of the key at a place, joined by others.
+abbrev pub united : Sets → ℕ → ℕ → Sets
+united s at f =
+    record { over = s .over; count = s .count; highs = s .highs; lows = s .lows; flags = set (s .flags) at (bitOr (getD (s .flags) at 0) f) }
+
+-- A new key at a place behind the others.
+abbrev pub extended : Sets → ℕ → KeyUse → Sets
+extended s at u =
+    record {
+      over = s .over;
+      count = at + 1;
+      highs = set (s .highs) at (u .high);
+      lows = set (s .lows) at (u .low);
+      flags = set (s .flags) at (useFlags u);
+    }
+
+-- One more use where `at` is the place of its key.
+abbrev pub withUseAt : Sets → KeyUse → ℕ → Sets
+withUseAt s u at =
+    if ltb at (s .count) then united s at (useFlags u) else if ltb at maxCallKeys then extended s at u else tooMany
+
+unfoldable pub withUse : Sets → KeyUse → Sets
+withUse s u = if s .over then s else withUseAt s u (placeIn s u)
+
+-- The uses that stand, in their order.
+unfoldable pub withUses : Sets → Uses → Sets
+withUses s us =
+    if eqb (us .count) 0
+    then s
+    else if eqb (us .count) 1
+    then withUse s (us .first)
+    else withUse (withUse s (us .first)) (us .second)

@@ -1,0 +1,86 @@
+-- The table of keys in its buffer: two words a key, rising, and zeros behind the last; the place of a key in it, and what an insertion
+-- leaves. Assumes nothing.
+use mathlib.Core.Path.{_≡_}
+use mathlib.Core.Bool.{Bool, _&&_}
+use mathlib.Core.List.{List, [], _∷_, _++_, map}
+use Prim.Native.Nat.{ℕ, zero, suc, _+_, _*_, _^_, _≤_, _<_}
+use lib.Dec.{eqb, ltb, leb}
+use lib.ListN.{length, getD, take, drop}
+use lib.Seq.{slice}
+use Rattle.arith.specs.Choice.{if_then_else_}
+use Rattle.wire.specs.Bytes.{padded}
+use Rattle.block.specs.Limits.{maxKeys}
+use Rattle.footprint.specs.Access.{Access}
+use Rattle.footprint.specs.Conflict.{member}
+use Rattle.footprint.specs.Table.{insertKey, cellNumber}
+use Rattle.footprint.specs.Plan.{keyWords}
+
+-- The key that two words name.
+abbrev pub keyFrom : ℕ → ℕ → ℕ
+keyFrom high low = high * 2 ^ 32 + low
+
+-- The key at a place of a buffer.
+abbrev pub keyAt : List ℕ → ℕ → ℕ
+keyAt words i = keyFrom (getD words (2 * i) 0) (getD words (2 * i + 1) 0)
+
+-- The first n keys of a buffer.
+unfoldable pub keysIn : ℕ → List ℕ → List ℕ
+keysIn zero words = []
+keysIn (suc n) words = keyFrom (getD words 0 0) (getD words 1 0) ∷ keysIn n (drop 2 words)
+
+-- Every key of a list is above k.
+abbrev pub Above : ℕ → List ℕ → Type 0
+Above k [] = Unit {0}
+Above k (l ∷ ls) = (k < l) × Above k ls
+
+-- A list of keys, each above all before it.
+abbrev pub Rising : List ℕ → Type 0
+Rising [] = Unit {0}
+Rising (k ∷ ks) = Above k ks × Rising ks
+
+-- How many keys of a table are below k: where k stands in a rising table, or would stand.
+unfoldable pub placeIn : List ℕ → ℕ → ℕ
+placeIn [] k = 0
+placeIn (l ∷ ls) k = if ltb l k then suc (placeIn ls k) else placeIn ls k
+
+-- The number of a key's cell; for a key that the table lacks, the place where it would stand.
+unfoldable pub cellPlace : List ℕ → ℕ → ℕ
+cellPlace table k = if member k table then cellNumber table k else placeIn table k
+
+-- Whether the table has k at a place.
+unfoldable pub standsAt : List ℕ → ℕ → ℕ → Bool
+standsAt table i k = ltb i (length table) && eqb (getD table i 0) k
+
+-- The keys of a call's entries.
+abbrev pub keysOf : List Access → List ℕ
+keysOf es = map (λ e. e .key) es
+
+-- A list whose elements from one index up to another are copied two places up, over what was there.
+abbrev pub movedUp {ℓ} : {A : Type ℓ} → List A → ℕ → ℕ → List A
+movedUp s from to = take (from + 2) s ++ (slice from to s ++ drop (to + 2) s)
+
+-- The buffer after an insertion: the words of the new table, or unchanged where it has more than 1,024 keys.
+unfoldable pub insertedIn : ℕ → List ℕ → ℕ → List ℕ
+insertedIn n words k =
+    if leb (length (insertKey (keysIn n words) k)) maxKeys
+    then padded (length words) 0 (keyWords (insertKey (keysIn n words) k))
+    else words
+
+-- What a search asks of a buffer: its first n keys rise, and each low word is one of 32 bits.
+pub record Sorted (n : ℕ) (words : List ℕ) : Type 0 where
+  pub few : n ≤ maxKeys
+  pub room : 2 * n ≤ length words
+  pub lows : (i : ℕ) → i < n → getD words (2 * i + 1) 0 < 2 ^ 32
+  pub rising : Rising (keysIn n words)
+
+-- What an insertion asks, and leaves: the buffer has room for 1,024 keys and holds a rising table of n, with zeros behind it.
+pub record Tabled (n : ℕ) (words : List ℕ) : Type 0 where
+  pub few : n ≤ maxKeys
+  pub room : 2 * maxKeys ≤ length words
+  pub rising : Rising (keysIn n words)
+  pub same : words ≡ padded (length words) 0 (keyWords (keysIn n words))
+
+-- What an insertion answers: how many keys the new table has, and the buffer.
+pub record Inserted (n : ℕ) (words : List ℕ) (k count : ℕ) (after : List ℕ) : Type 0 where
+  pub counted : count ≡ length (insertKey (keysIn n words) k)
+  pub held : after ≡ insertedIn n words k
