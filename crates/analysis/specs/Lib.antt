@@ -1,3 +1,4 @@
+pub mod Laid
 pub mod Gathered
 pub mod GatheredLaws
 pub mod KeyTable

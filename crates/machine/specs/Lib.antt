@@ -5,6 +5,7 @@ pub mod Action
 pub mod Step
 pub mod Moves
 pub mod Serial
+pub mod Made
 pub mod Damage
 pub mod Examples
 pub mod Computing
