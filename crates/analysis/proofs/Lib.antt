@@ -1,3 +1,7 @@
 mod GatherLaws
 mod KeyLaws
 mod RowLoops
+mod CollectLaws
+mod OpeningLaws
+mod CallLaws
+mod PlanLoops

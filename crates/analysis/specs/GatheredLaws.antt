@@ -35,10 +35,27 @@ if-false x y e = rw e
 
 -- ---- the place of a key
 
--- The place of the first access of a key, or the number of them all.
-placeOf : List Access → ℕ → ℕ
+-- The place of the first such number in a list, or the length of the list.
+unfoldable pub placeOf : List ℕ → ℕ → ℕ
 placeOf [] k = 0
-placeOf (e ∷ es) k = if eqb (e .key) k then 0 else suc (placeOf es k)
+placeOf (l ∷ ls) k = if eqb l k then 0 else suc (placeOf ls k)
+
+-- A search by a test that passes exactly where the number stands.
+pub search-place : (p : ℕ → Bool) (k : ℕ) (ls : List ℕ) (at : ℕ)
+    → ((i : ℕ) → i < length ls → p (at + i) ≡ eqb (getD ls i 0) k) → firstOf p (length ls) at ≡ at + placeOf ls k
+unfolding firstOf placeOf
+search-place p k [] at h = sym (add-zero at)
+search-place p k (l ∷ ls) at h =
+    let here : p at ≡ eqb l k = ap p (sym (add-zero at)) ∙ h 0 (omega arith) in
+    let later : firstOf p (length ls) (at + 1) ≡ at + 1 + placeOf ls k =
+    search-place p k ls (at + 1)
+    (λ i lt. let step : at + 1 + i ≡ at + suc i = omega arith in ap p step ∙ h (suc i) (omega arith)) in
+    go (eqb l k) here later
+  where
+    go : (b : Bool) → p at ≡ b → firstOf p (length ls) (at + 1) ≡ at + 1 + placeOf ls k
+        → (if p at then at else firstOf p (length ls) (at + 1)) ≡ at + (if b then 0 else suc (placeOf ls k))
+    go true e later = if-true at (firstOf p (length ls) (at + 1)) e ∙ sym (add-zero at)
+    go false e later = if-false at (firstOf p (length ls) (at + 1)) e ∙ later ∙ omega arith
 
 -- Two keys are the same exactly if both their words are.
 same-words : (j k : ℕ) → (eqb (highWord j) (highWord k) && eqb (lowWord j) (lowWord k)) ≡ eqb j k
@@ -50,23 +67,6 @@ same-words j k = go (ℕ-discrete j k) (ℕ-discrete (j / 2 ^ 32) (k / 2 ^ 32))
     go (no n) (yes h) =
         simp (ne-eqb j k n, eq-eqb (j / 2 ^ 32) (k / 2 ^ 32) h, ne-eqb (j % 2 ^ 32) (k % 2 ^ 32) (λ (l : j % 2 ^ 32 ≡ k % 2 ^ 32). n (omega arith)))
 
--- A search by a test that passes exactly at accesses of the key.
-search-place : (p : ℕ → Bool) (k : ℕ) (es : List Access) (at : ℕ)
-    → ((i : ℕ) → i < length es → p (at + i) ≡ eqb (getD (keysOf es) i 0) k) → firstOf p (length es) at ≡ at + placeOf es k
-unfolding firstOf placeOf
-search-place p k [] at h = sym (add-zero at)
-search-place p k (e ∷ es) at h =
-    let here : p at ≡ eqb (e .key) k = ap p (sym (add-zero at)) ∙ h 0 (omega arith) in
-    let later : firstOf p (length es) (at + 1) ≡ at + 1 + placeOf es k =
-    search-place p k es (at + 1)
-    (λ i lt. let step : at + 1 + i ≡ at + suc i = omega arith in ap p step ∙ h (suc i) (omega arith)) in
-    go (eqb (e .key) k) here later
-  where
-    go : (b : Bool) → p at ≡ b → firstOf p (length es) (at + 1) ≡ at + 1 + placeOf es k
-        → (if p at then at else firstOf p (length es) (at + 1)) ≡ at + (if b then 0 else suc (placeOf es k))
-    go true e later = if-true at (firstOf p (length es) (at + 1)) e ∙ sym (add-zero at)
-    go false e later = if-false at (firstOf p (length es) (at + 1)) e ∙ later ∙ omega arith
-
 noAccess : Access
 noAccess = record { key = 0; reads = false; writes = false }
 
@@ -76,48 +76,52 @@ column-at f z es i h =
     List·getD-append (map f es) (repeated (maxCallKeys - length (map f es)) 0) 0 i (simp length-map h)
     ∙ ap (getD (map f es) i) (sym z) ∙ List·getD-map f es i noAccess
 
-place-columns : (es : List Access) (a : Access) → placeIn (columns es) (useOf a) ≡ placeOf es (a .key)
+place-columns : (es : List Access) (a : Access) → placeIn (columns es) (useOf a) ≡ placeOf (keysOf es) (a .key)
 unfolding placeIn useOf noAccess
 place-columns es a =
-    search-place (holdsKey (columns es) (useOf a)) (a .key) es 0
-    (λ i h. ap (λ (n : ℕ). holdsKey (columns es) (useOf a) n) (zero-add i)
-    ∙ ap₂ (λ (x y : ℕ). eqb x (highWord (a .key)) && eqb y (lowWord (a .key))) (column-at highOf refl es i h) (column-at lowOf refl es i h)
-    ∙ same-words (getD es i noAccess .key) (a .key)
-    ∙ ap (λ (x : ℕ). eqb x (a .key)) (sym (List·getD-map (λ e. e .key) es i noAccess)))
-    ∙ zero-add (placeOf es (a .key))
+    ap (λ (n : ℕ). firstOf (holdsKey (columns es) (useOf a)) n 0) (sym (length-map es (λ e. e .key)))
+    ∙ search-place (holdsKey (columns es) (useOf a)) (a .key) (keysOf es) 0 (λ i h. at-key i (simp length-map at h))
+    ∙ zero-add (placeOf (keysOf es) (a .key))
+  where
+    at-key : (i : ℕ) → i < length es → holdsKey (columns es) (useOf a) (0 + i) ≡ eqb (getD (keysOf es) i 0) (a .key)
+    at-key i h =
+        ap (λ (n : ℕ). holdsKey (columns es) (useOf a) n) (zero-add i)
+        ∙ ap₂ (λ (x y : ℕ). eqb x (highWord (a .key)) && eqb y (lowWord (a .key))) (column-at highOf refl es i h) (column-at lowOf refl es i h)
+        ∙ same-words (getD es i noAccess .key) (a .key)
+        ∙ ap (λ (x : ℕ). eqb x (a .key)) (sym (List·getD-map (λ e. e .key) es i noAccess))
 
-place-le : (es : List Access) (k : ℕ) → placeOf es k ≤ length es
+place-le : (es : List Access) (k : ℕ) → placeOf (keysOf es) k ≤ length es
 unfolding placeOf
 place-le [] k = omega arith
 place-le (e ∷ es) k = go (eqb (e .key) k) (place-le es k)
   where
-    go : (b : Bool) → placeOf es k ≤ length es → (if b then 0 else suc (placeOf es k)) ≤ suc (length es)
+    go : (b : Bool) → placeOf (keysOf es) k ≤ length es → (if b then 0 else suc (placeOf (keysOf es) k)) ≤ suc (length es)
     go true h = omega arith
     go false h = omega arith
 
 -- ---- merging, by the place
 
-merge-found : (es : List Access) (a : Access) → placeOf es (a .key) < length es
-    → merge es a ≡ set es (placeOf es (a .key)) (joined (getD es (placeOf es (a .key)) noAccess) a)
+merge-found : (es : List Access) (a : Access) → placeOf (keysOf es) (a .key) < length es
+    → merge es a ≡ set es (placeOf (keysOf es) (a .key)) (joined (getD es (placeOf (keysOf es) (a .key)) noAccess) a)
 unfolding placeOf merge
 merge-found [] a = λ h. absurd (omega arith)
 merge-found (e ∷ es) a = go (eqb (e .key) (a .key)) (merge-found es a)
   where
     go : (b : Bool)
-        → (placeOf es (a .key) < length es → merge es a ≡ set es (placeOf es (a .key)) (joined (getD es (placeOf es (a .key)) noAccess) a))
-        → (if b then 0 else suc (placeOf es (a .key))) < suc (length es)
+        → (placeOf (keysOf es) (a .key) < length es → merge es a ≡ set es (placeOf (keysOf es) (a .key)) (joined (getD es (placeOf (keysOf es) (a .key)) noAccess) a))
+        → (if b then 0 else suc (placeOf (keysOf es) (a .key))) < suc (length es)
         → (if b then joined e a ∷ es else e ∷ merge es a)
-        ≡ set (e ∷ es) (if b then 0 else suc (placeOf es (a .key))) (joined (getD (e ∷ es) (if b then 0 else suc (placeOf es (a .key))) noAccess) a)
+        ≡ set (e ∷ es) (if b then 0 else suc (placeOf (keysOf es) (a .key))) (joined (getD (e ∷ es) (if b then 0 else suc (placeOf (keysOf es) (a .key))) noAccess) a)
     go true ih h = refl
     go false ih h = ap (λ (t : List Access). e ∷ t) (ih (omega arith))
 
-merge-new : (es : List Access) (a : Access) → length es ≤ placeOf es (a .key) → merge es a ≡ es ++ (a ∷ [])
+merge-new : (es : List Access) (a : Access) → length es ≤ placeOf (keysOf es) (a .key) → merge es a ≡ es ++ (a ∷ [])
 unfolding placeOf merge
 merge-new [] a = λ h. refl
 merge-new (e ∷ es) a = go (eqb (e .key) (a .key)) (merge-new es a)
   where
-    go : (b : Bool) → (length es ≤ placeOf es (a .key) → merge es a ≡ es ++ (a ∷ []))
-        → suc (length es) ≤ (if b then 0 else suc (placeOf es (a .key)))
+    go : (b : Bool) → (length es ≤ placeOf (keysOf es) (a .key) → merge es a ≡ es ++ (a ∷ []))
+        → suc (length es) ≤ (if b then 0 else suc (placeOf (keysOf es) (a .key)))
         → (if b then joined e a ∷ es else e ∷ merge es a) ≡ e ∷ (es ++ (a ∷ []))
     go true ih h = absurd (omega arith)
     go false ih h = ap (λ (t : List Access). e ∷ t) (ih (omega arith))
@@ -155,7 +159,8 @@ padded-set : (n : ℕ) (xs : List ℕ) (i v : ℕ) → i < length xs → padded 
 padded-set n xs i v h =
     ap (λ (m : ℕ). set xs i v ++ repeated (n - m) 0) (length-set xs i v) ∙ sym (set-append-left xs (repeated (n - length xs) 0) i v h)
 
-padded-last : (n : ℕ) (xs : List ℕ) (v : ℕ) → length xs < n → padded n 0 (xs ++ (v ∷ [])) ≡ set (padded n 0 xs) (length xs) v
+-- One more element before the zeros.
+pub padded-last : (n : ℕ) (xs : List ℕ) (v : ℕ) → length xs < n → padded n 0 (xs ++ (v ∷ [])) ≡ set (padded n 0 xs) (length xs) v
 unfolding repeated
 padded-last n xs v h =
     let left : n - length xs ≡ suc (n - suc (length xs)) = omega arith in
@@ -244,10 +249,10 @@ with-columns : (es : List Access) (a : Access) → length es ≤ maxCallKeys →
 unfolding withUse
 with-columns es a fits =
     ap (withUseAt (columns es) (useOf a)) (place-columns es a)
-    ∙ go (decLt (placeOf es (a .key)) (length es)) (decLt (length es) maxCallKeys) (place-le es (a .key))
+    ∙ go (decLt (placeOf (keysOf es) (a .key)) (length es)) (decLt (length es) maxCallKeys) (place-le es (a .key))
   where
     at : ℕ
-    at = placeOf es (a .key)
+    at = placeOf (keysOf es) (a .key)
 
     go : Dec (at < length es) → Dec (length es < maxCallKeys) → at ≤ length es → withUseAt (columns es) (useOf a) at ≡ gathered (merge es a)
     go (yes h) d le =

@@ -1,4 +1,7 @@
 pub mod Laid
+pub mod Coded
+pub mod CodedLaws
+pub mod LaidLaws
 pub mod Gathered
 pub mod GatheredLaws
 pub mod KeyTable
@@ -7,3 +10,10 @@ pub mod TableWords
 pub mod Masks
 pub mod MaskLaws
 pub mod MaskBuffers
+pub mod Filling
+pub mod FillingLaws
+pub mod Collected
+pub mod CollectedLaws
+pub mod Planned
+pub mod PlanLaws
+pub mod OpeningLaws

@@ -76,7 +76,8 @@ keys-of-words (k ∷ ks) ws = ap₂ (λ (l : ℕ) (ls : List ℕ). l ∷ ls) (ke
 pub keys-padded : (m : ℕ) (t : List ℕ) → keysIn (length t) (padded m 0 (keyWords t)) ≡ t
 keys-padded m t = keys-of-words t (repeated (m - length (keyWords t)) 0)
 
-padded-length : (m : ℕ) (l : List ℕ) → length l ≤ m → length (padded m 0 l) ≡ m
+-- A buffer with room for a list is as long with it.
+pub padded-length : (m : ℕ) (l : List ℕ) → length l ≤ m → length (padded m 0 l) ≡ m
 unfolding repeated
 padded-length m l h = simp (length-append, length-replicate) (omega arith)
 

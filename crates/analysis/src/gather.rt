@@ -1,13 +1,13 @@
 // The set analysis of a call: its distinct keys with their flags, at most 24, gathered by a function walk over an instruction walk.
-use footprint::KeyUse;
 use crate::Sets;
-use footprint::Uses;
-use footprint::access::entry_uses;
-use footprint::access::instr_uses;
 use block::Call;
 use block::Decoded;
 use block::instruction::decode;
 use block::limits::MAX_CALL_KEYS;
+use footprint::KeyUse;
+use footprint::Uses;
+use footprint::access::entry_uses;
+use footprint::access::instr_uses;
 ghost use mathlib.Core.Path.{_≡_};
 ghost use mathlib.Core.List.{[]};
 ghost use Prim.Native.Nat.{_*_, _<_, _≤_};
@@ -23,7 +23,7 @@ ghost use Rattle.footprint.specs.Uses.{usesOf};
 const INSTR_BYTES: usize = 8;
 
 // No keys.
-fn no_keys() -> Sets
+pub(crate) fn no_keys() -> Sets
     ensures { λ r. ⌜ r ≡ gathered [] ⌝ }
 {
     Sets {

@@ -12,7 +12,7 @@ const ROW_WORDS: usize = 4;
 const WORD_BITS: usize = 64;
 
 // An entry word is a cell number times FLAGS, plus its flags; those from WRITES on have the one for a cell that is written.
-const FLAGS: u64 = 4;
+pub(crate) const FLAGS: u64 = 4;
 
 const WRITES: u64 = 2;
 

@@ -47,7 +47,7 @@ fn under(n: u64) -> i64
 }
 
 // A number without its sign.
-fn magnitude(z: i64) -> u64
+pub fn magnitude(z: i64) -> u64
     ensures { λ r. ⌜ r ≡ natAbs z ⌝ }
 {
     if z < 0 { mag(z) + 1 } else { mag(z) }

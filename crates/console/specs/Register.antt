@@ -22,7 +22,8 @@ use Rattle.sheet.specs.declared.Closing.{Closing}
 use Rattle.sheet.specs.declared.Closing.the-variants.{Written, Refused}
 use Rattle.wire.specs.Decimal.{lineFeed}
 use Rattle.console.specs.Line.{readByte, lineMove}
-use Rattle.console.specs.Text.{refusedText, blockRefusedText, sheetText}
+use Rattle.text.specs.Lines.{refusedText, blockRefusedText}
+use Rattle.console.specs.Text.{sheetText}
 use Rattle.console.specs.declared.Line.{Line}
 use Rattle.console.specs.declared.Line.the-variants.{Empty, Named, Spaced, First, Between, Second, Malformed}
 

@@ -1,4 +1,4 @@
--- The text lines of standard output. Assumes nothing.
+-- The sheet as lines of standard output. Assumes nothing.
 use mathlib.Core.Bool.{Bool, true, false}
 use mathlib.Core.List.{List, [], _∷_, _++_}
 use Prim.Native.Nat.{ℕ, zero, suc, _+_}
@@ -6,28 +6,16 @@ use lib.Dec.{eqb}
 use lib.ListN.{length, drop}
 use Rattle.arith.specs.Exact.{signed}
 use Rattle.wire.specs.Bytes.{number, readLe}
-use Rattle.wire.specs.Decimal.{decimal, signedDecimal, textLine}
+use Rattle.text.specs.Lines.{cellText, receiptText}
 use Rattle.block.specs.Record.{headBytes, cellKind, receiptKind}
 
--- "A refused move prints `r`, its line from 1, its number"; "a refused sheet `r 0 27`".
-abbrev pub refusedText : ℕ → ℕ → List ℕ
-refusedText line n = textLine 114 (decimal line ∷ decimal n ∷ [])
+-- The line of a cell, from the body of its record.
+abbrev pub cellLine : List ℕ → List ℕ
+cellLine body = cellText (number 2 body) (readLe 2 body 2) (readLe 4 body 4) (readLe 4 body 8) (signed 64 (readLe 8 body 12))
 
--- "a refused block only `e`, number, offset"
-abbrev pub blockRefusedText : ℕ → ℕ → List ℕ
-blockRefusedText n offset = textLine 101 (decimal n ∷ decimal offset ∷ [])
-
--- "k: address, field, a, b, value", from the body of a cell's record.
-abbrev pub cellText : List ℕ → List ℕ
-cellText body =
-    textLine 107
-    (decimal (number 2 body)
-    ∷ decimal (readLe 2 body 2)
-    ∷ decimal (readLe 4 body 4) ∷ decimal (readLe 4 body 8) ∷ signedDecimal (signed 64 (readLe 8 body 12)) ∷ [])
-
--- "t: call, outcome, count", from the body of a receipt.
-abbrev pub receiptText : ℕ → List ℕ → List ℕ
-receiptText call body = textLine 116 (decimal call ∷ decimal (number 2 body) ∷ decimal (readLe 2 body 2) ∷ [])
+-- The line of a receipt, from the body of its record.
+abbrev pub receiptLine : ℕ → List ℕ → List ℕ
+receiptLine call body = receiptText call (number 2 body) (readLe 2 body 2)
 
 -- The records of a sheet as lines, the receipts numbered from `call` on; its end is no line. Each record takes four bytes at
 -- least, so there are fewer turns than bytes.
@@ -38,9 +26,9 @@ recordsText (suc turns) call s =
     let body : List ℕ = drop headBytes s in
     let rest : List ℕ = drop (number 2 s) body in
     elim (eqb kind cellKind) [
-      | true ↦ cellText body ++ recordsText turns call rest
+      | true ↦ cellLine body ++ recordsText turns call rest
       | false ↦ elim (eqb kind receiptKind) [
-        | true ↦ receiptText call body ++ recordsText turns (call + 1) rest
+        | true ↦ receiptLine call body ++ recordsText turns (call + 1) rest
         | false ↦ []
       ]
     ]

@@ -1,12 +1,12 @@
 -- Laws of the accesses of a call: at most two of an instruction, each used, each key below 2^96; and so in the sets. Assumes nothing.
 use mathlib.Core.Path.{_≡_, refl, subst}
 use mathlib.Core.Logic.{_⊎_, inl, inr, ⊎-elim}
-use mathlib.Core.Bool.{Bool, true, false, _&&_, _||_, not, or-true, false≢true}
+use mathlib.Core.Bool.{Bool, true, false, _&&_, _||_, not, or-true, and-eq-true-iff, false≢true}
 use mathlib.Core.List.{List, [], _∷_}
 use mathlib.Core.Option.{Option, none, some}
 use Prim.Native.Nat.{ℕ, zero, suc, _+_, _*_, _/_, _%_, _^_, _≤_, _<_}
 use native.Mathlib.Omega.{arith}
-use borrow.Author.Tests.{ltb-true}
+use borrow.Author.Tests.{ltb-true, eqb-false, not-true}
 use lib.Dec.{eqb, ltb, leb, lit<}
 use lib.IntN.{pos}
 use lib.Signed.{ltZ}
@@ -196,6 +196,33 @@ InstrFits (Pay x target) = Unit {0}
 InstrFits (Jeq x y to) = Unit {0}
 InstrFits (Jlt x y to) = Unit {0}
 
+-- GET and PUT use "field w mod 65536 (not 0)".
+abbrev pub FieldAbove : Instr → Type 0
+FieldAbove Stop = Unit {0}
+FieldAbove Throw = Unit {0}
+FieldAbove (Set x value) = Unit {0}
+FieldAbove (Arg x k) = Unit {0}
+FieldAbove (Sender x) = Unit {0}
+FieldAbove (Value x) = Unit {0}
+FieldAbove (Add x y z) = Unit {0}
+FieldAbove (Sub x y z) = Unit {0}
+FieldAbove (Mul x y z) = Unit {0}
+FieldAbove (Div x y z) = Unit {0}
+FieldAbove (Get x field a b) = 0 < field
+FieldAbove (Put x field a b) = 0 < field
+FieldAbove (Bal x) = Unit {0}
+FieldAbove (Pay x target) = Unit {0}
+FieldAbove (Jeq x y to) = Unit {0}
+FieldAbove (Jlt x y to) = Unit {0}
+
+-- Both of them, of an instruction and of what bytes decode to.
+abbrev pub InstrSound : Instr → Type 0
+InstrSound i = InstrFits i × FieldAbove i
+
+abbrev pub DecodedSound : Decoded → Type 0
+DecodedSound (Valid i) = InstrSound i
+DecodedSound Invalid = Unit {0}
+
 abbrev pub DecodedFits : Decoded → Type 0
 DecodedFits (Valid i) = InstrFits i
 DecodedFits Invalid = Unit {0}
@@ -253,18 +280,18 @@ module _ (c : Call) (r : InRanges c) where
 abbrev pub Bytes : List ℕ → Type 0
 Bytes s = (i : ℕ) → getD s i 0 < 256
 
-drop-bytes : (n : ℕ) (s : List ℕ) → Bytes s → Bytes (drop n s)
+pub drop-bytes : (n : ℕ) (s : List ℕ) → Bytes s → Bytes (drop n s)
 drop-bytes n s h i = rw (getD-drop n s i 0) (h (n + i))
 
-take-bytes : (n : ℕ) (s : List ℕ) → Bytes s → Bytes (take n s)
+pub take-bytes : (n : ℕ) (s : List ℕ) → Bytes s → Bytes (take n s)
 take-bytes zero s h i = lit< tt
 take-bytes (suc n) [] h i = lit< tt
 take-bytes (suc n) (b ∷ s) h zero = h 0
 take-bytes (suc n) (b ∷ s) h (suc i) = take-bytes n s (λ j. h (suc j)) i
 
-allowed-fits : (b : Bool) (i : Instr) → InstrFits i → DecodedFits (allowed b i)
-allowed-fits true i h = h
-allowed-fits false i h = tt
+allowed-sound : (b : Bool) (i : Instr) → (b ≡ true → InstrSound i) → DecodedSound (allowed b i)
+allowed-sound true i h = h refl
+allowed-sound false i h = tt
 
 source-fits : (n w : ℕ) → w < 2 ^ 32 → SourceFits (sourceOf n w)
 unfolding sourceOf
@@ -272,45 +299,65 @@ source-fits n w h =
     if-both SourceFits (eqb n 0) tt
     (if-both SourceFits (eqb n 5) tt (if-both SourceFits (eqb n 6) (omega arith) tt))
 
-cell-fits : (op x y z w : ℕ) → w < 2 ^ 32 → DecodedFits (decodeCell op x y z w)
+-- The rule of GET and PUT asks for a field above 0.
+field-above : (first rest : Bool) (field : ℕ) → (first && not (eqb field 0) && rest) ≡ true → 0 < field
+field-above first rest field e =
+    let both = and-eq-true-iff (first && not (eqb field 0)) rest .0 e in
+    let apart = eqb-false field 0 (not-true (eqb field 0) (and-eq-true-iff first (not (eqb field 0)) .0 (both .0) .1)) in
+    omega arith
+
+cell-sound : (op x y z w : ℕ) → w < 2 ^ 32 → DecodedSound (decodeCell op x y z w)
 unfolding decodeCell
-cell-fits op x y z w h =
+cell-sound op x y z w h =
     let fits : (w % 65536 < 2 ^ 16) × (SourceFits (sourceOf y w) × SourceFits (sourceOf z w)) =
     (omega arith, (source-fits y w h, source-fits z w h)) in
-    allowed-fits
-    (isRegister x && isSource y && isSource z && not (eqb (w % 65536) 0) && (eqb y 6 || eqb z 6 || eqb (w / 65536) 0))
+    let first : Bool = isRegister x && isSource y && isSource z in
+    let rest : Bool = eqb y 6 || eqb z 6 || eqb (w / 65536) 0 in
+    allowed-sound (first && not (eqb (w % 65536) 0) && rest)
     (if eqb op 10 then Get x (w % 65536) (sourceOf y w) (sourceOf z w) else Put x (w % 65536) (sourceOf y w) (sourceOf z w))
-    (if-both InstrFits (eqb op 10) fits fits)
+    (λ e.
+    let above = field-above first rest (w % 65536) e in
+    if-both InstrSound (eqb op 10) (fits, above) (fits, above))
 
--- An instruction that decodes has fields in their types' ranges.
-pub parts-fits : (index size op x y z w : ℕ) → w < 2 ^ 32 → DecodedFits (decodeParts index size op x y z w)
+-- An instruction that decodes has fields in their types' ranges, and a field above 0.
+pub parts-sound : (index size op x y z w : ℕ) → w < 2 ^ 32 → DecodedSound (decodeParts index size op x y z w)
 unfolding decodeParts decodeEnd decodeSet decodeArg decodeFact decodeArith decodePay decodeJump
-parts-fits index size op x y z w h =
-    if-both DecodedFits (ltb op 2)
-    (allowed-fits (eqb x 0 && eqb y 0 && eqb z 0 && eqb w 0) (if eqb op 0 then Stop else Throw) (if-both InstrFits (eqb op 0) tt tt))
-    (if-both DecodedFits (eqb op 2) (allowed-fits (isRegister x && eqb y 0 && eqb z 0) (Set x (signed 32 w)) tt)
-    (if-both DecodedFits (eqb op 3)
-    (allowed-fits (isRegister x && isArgument y && eqb z 0 && eqb w 0) (Arg x y) tt)
-    (if-both DecodedFits (ltb op 6)
-    (allowed-fits (isRegister x && eqb y 0 && eqb z 0 && eqb w 0) (if eqb op 4 then Sender x else Value x)
-    (if-both InstrFits (eqb op 4) tt tt))
-    (if-both DecodedFits (ltb op 10)
-    (allowed-fits (isRegister x && isRegister y && isRegister z && eqb w 0)
+parts-sound index size op x y z w h =
+    if-both DecodedSound (ltb op 2)
+    (allowed-sound (eqb x 0 && eqb y 0 && eqb z 0 && eqb w 0) (if eqb op 0 then Stop else Throw)
+    (λ e. if-both InstrSound (eqb op 0) (tt, tt) (tt, tt)))
+    (if-both DecodedSound (eqb op 2) (allowed-sound (isRegister x && eqb y 0 && eqb z 0) (Set x (signed 32 w)) (λ e. (tt, tt)))
+    (if-both DecodedSound (eqb op 3)
+    (allowed-sound (isRegister x && isArgument y && eqb z 0 && eqb w 0) (Arg x y) (λ e. (tt, tt)))
+    (if-both DecodedSound (ltb op 6)
+    (allowed-sound (isRegister x && eqb y 0 && eqb z 0 && eqb w 0) (if eqb op 4 then Sender x else Value x)
+    (λ e. if-both InstrSound (eqb op 4) (tt, tt) (tt, tt)))
+    (if-both DecodedSound (ltb op 10)
+    (allowed-sound (isRegister x && isRegister y && isRegister z && eqb w 0)
     (if eqb op 6 then Add x y z else if eqb op 7 then Sub x y z else if eqb op 8 then Mul x y z else Div x y z)
-    (if-both InstrFits (eqb op 6) tt (if-both InstrFits (eqb op 7) tt (if-both InstrFits (eqb op 8) tt tt))))
-    (if-both DecodedFits (ltb op 12) (cell-fits op x y z w h)
-    (if-both DecodedFits (eqb op 12) (allowed-fits (isRegister x && eqb y 0 && eqb z 0 && eqb w 0) (Bal x) tt)
-    (if-both DecodedFits (eqb op 13)
-    (allowed-fits (isRegister x && isSource y && eqb z 0 && eqb (w % 65536) 0 && (eqb y 6 || eqb (w / 65536) 0)) (Pay x (sourceOf y w)) tt)
-    (if-both DecodedFits (ltb op 16)
-    (allowed-fits (isRegister x && isRegister y && eqb z 0 && ltb index w && leb w size) (if eqb op 14 then Jeq x y w else Jlt x y w)
-    (if-both InstrFits (eqb op 14) tt tt))
+    (λ e.
+    if-both InstrSound (eqb op 6) (tt, tt) (if-both InstrSound (eqb op 7) (tt, tt) (if-both InstrSound (eqb op 8) (tt, tt) (tt, tt)))))
+    (if-both DecodedSound (ltb op 12) (cell-sound op x y z w h)
+    (if-both DecodedSound (eqb op 12) (allowed-sound (isRegister x && eqb y 0 && eqb z 0 && eqb w 0) (Bal x) (λ e. (tt, tt)))
+    (if-both DecodedSound (eqb op 13)
+    (allowed-sound (isRegister x && isSource y && eqb z 0 && eqb (w % 65536) 0 && (eqb y 6 || eqb (w / 65536) 0)) (Pay x (sourceOf y w))
+    (λ e. (tt, tt)))
+    (if-both DecodedSound (ltb op 16)
+    (allowed-sound (isRegister x && isRegister y && eqb z 0 && ltb index w && leb w size) (if eqb op 14 then Jeq x y w else Jlt x y w)
+    (λ e. if-both InstrSound (eqb op 14) (tt, tt) (tt, tt)))
     tt))))))))
 
-pub decode-fits : (index size : ℕ) (s : List ℕ) → Bytes s → DecodedFits (decode index size s)
-decode-fits index size s h =
-    parts-fits index size (number 1 s) (number 1 (drop 1 s)) (number 1 (drop 2 s)) (number 1 (drop 3 s)) (number 4 (drop 4 s))
+pub decode-sound : (index size : ℕ) (s : List ℕ) → Bytes s → DecodedSound (decode index size s)
+decode-sound index size s h =
+    parts-sound index size (number 1 s) (number 1 (drop 1 s)) (number 1 (drop 2 s)) (number 1 (drop 3 s)) (number 4 (drop 4 s))
     (number-lt 4 (drop 4 s) (drop-bytes 4 s h))
+
+sound-fits : (d : Decoded) → DecodedSound d → DecodedFits d
+sound-fits (Valid i) h = h .0
+sound-fits Invalid h = tt
+
+pub decode-fits : (index size : ℕ) (s : List ℕ) → Bytes s → DecodedFits (decode index size s)
+decode-fits index size s h = sound-fits (decode index size s) (decode-sound index size s h)
 
 -- Every key in the sets of a call has 96 bits.
 pub sets-below : (block : List ℕ) → Bytes block → (c : Call) → InRanges c → (f : Option Function) → Each (Keyed below96) (functionSets block c f)

@@ -2,11 +2,13 @@
 use mathlib.Core.Path.{_≡_, refl, sym, ap, ap₂, _∙_}
 use mathlib.Core.Bool.{Bool, true, false, _&&_, _||_, not, or-assoc}
 use mathlib.Core.List.{List, [], _∷_, _++_}
-use Prim.Native.Nat.{ℕ, zero, suc, _≤_}
-use native.Mathlib.Decide.{ℕ-discrete}
-use borrow.Author.Tests.{eq-eqb, ne-eqb}
-use lib.Dec.{eqb}
-use lib.ListN.{length, getD}
+use Prim.Native.Nat.{ℕ, zero, suc, _<_, _≤_}
+use native.Mathlib.Omega.{arith}
+use native.Mathlib.Decide.{decLt, ℕ-discrete}
+use borrow.Author.Tests.{eq-eqb, ne-eqb, lt-ltb, le-ltb}
+use lib.Dec.{eqb, ltb}
+use lib.ListN.{length, getD, take, List·getD-eq-default}
+use lib.Seq.{length-take-le, getD-take}
 use Rattle.arith.specs.Choice.{if_then_else_}
 use Rattle.wire.specs.Rows.{inRow}
 use Rattle.wire.specs.RowLaws.{inRow-rowOf}
@@ -106,3 +108,20 @@ bit-conflict t (s ∷ sets) (suc i) = bit-conflict t sets i
 -- Bit i of a call's row is set exactly when there is a call i before it and the strong-swap test of the two fails.
 pub row-bit : (sets : List (List Access)) (t : List Access) (i : ℕ) → length sets ≤ maxCalls → inRow (rowFor sets t) i ≡ conflict (getD sets i []) t
 row-bit sets t i short = inRow-rowOf (conflictBits sets t) i (rw (conflict-length sets t) short) ∙ bit-conflict t sets i
+
+-- "Call i is before j if i < j and either one's write set meets the other's reads or writes": every bit of the row of call j.
+pub row-exact : (sets : List (List Access)) (j i : ℕ) → j < length sets → length sets ≤ maxCalls
+    → inRow (rowFor (take j sets) (getD sets j [])) i ≡ (ltb i j && not (strongSwap (getD sets i []) (getD sets j [])))
+unfolding conflictBits
+row-exact sets j i h short =
+    let few : length (take j sets) ≡ j = length-take-le j sets (omega arith) in
+    row-bit (take j sets) later i (omega (arith, few)) ∙ go (decLt i j) few
+  where
+    later : List Access
+    later = getD sets j []
+
+    go : Dec (i < j) → length (take j sets) ≡ j → conflict (getD (take j sets) i []) later ≡ (ltb i j && conflict (getD sets i []) later)
+    go (yes l) few = rw (lt-ltb i j l) (ap (λ (s : List Access). conflict s later) (getD-take j sets i [] l))
+    go (no l) few =
+        rw (le-ltb i j (omega arith))
+        (ap (λ (s : List Access). conflict s later) (List·getD-eq-default (take j sets) [] (omega (arith, few))) ∙ sym (bit-conflict later [] i))

@@ -4,9 +4,16 @@ pub mod Conflict
 pub mod Table
 pub mod Plan
 pub mod Rule
+pub mod LimitLaws
 pub mod ConflictLaws
 pub mod Uses
 pub mod SetLaws
 pub mod AccessLaws
+pub mod SetsExact
+pub mod RunLaws
+pub mod RuleLimit
+pub mod AlikeLaws
+pub mod SafeSets
+pub mod Exchange
 pub mod Examples
 pub mod Computing

@@ -1,5 +1,16 @@
 pub mod BlockTally
 pub mod Agreement
+pub mod ViewCalls
+pub mod ViewEntries
+pub mod ViewSteps
+pub mod ViewFrame
+pub mod ViewEnds
+pub mod ViewLaws
+pub mod PlanLaws
+pub mod OpeningLaws
+pub mod OpeningLimit
+pub mod OpenedCalls
+pub mod AfterOpening
 pub mod Blocks
 pub mod Joint
 pub mod Unstarred

@@ -7,5 +7,12 @@ pub mod Moves
 pub mod Serial
 pub mod Made
 pub mod Damage
+pub mod CallRanges
+pub mod CodeLaws
+pub mod LookupLaws
+pub mod RestoreLaws
+pub mod HoldLaws
+pub mod StepRule
+pub mod CallRule
 pub mod Examples
 pub mod Computing

@@ -1,0 +1,19 @@
+-- `action::instruction::sender` meets its contract: an account has 16 bits, so a register holds it. Assumes nothing.
+use borrow.Author.Needs.{needs}
+use mathlib.Core.Path.{_∙_}
+use lib.IntN.{pos}
+use Rattle.arith.proofs.Laws.{back}
+use Rattle.action.proofs.instruction.sender.Statement.{statement}
+use Rattle.action.proofs.instruction.sender.Tie as tie
+
+cast-assign : tie.Need-cast-assign
+cast-assign c = search needs
+
+assign-requires : tie.Need-assign-requires
+assign-requires c κs = search needs
+
+returns : tie.Need-returns
+returns c = c .assign .ensures ∙ simp (back {z = pos (c .before .before .args .c .sender .0)} (cast-assign (c .before)))
+
+pub sender-spec : {M : Type 1} → statement M
+sender-spec = tie.close (tie.spec cast-assign assign-requires returns)

@@ -1,0 +1,2 @@
+pub mod Acted
+pub mod JumpLaws

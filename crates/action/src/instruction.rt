@@ -1,0 +1,232 @@
+// What each instruction does, before any cell is looked at: a function for each clause of `instrAction`. A place is 0 at a call's
+// entry and p + 1 at instruction p.
+use arith::Checked;
+use block::Call;
+use block::Payee;
+use block::Source;
+use block::record::argument;
+use block::record::payee_of;
+use footprint::access::source_value;
+use machine::Action;
+use machine::Next;
+ghost use mathlib.Core.Path.{_≡_};
+ghost use lib.IntN.{pos};
+ghost use lib.ListN.{getD};
+ghost use lib.Signed.{ltZ};
+ghost use Rattle.arith.specs.Compare.{eqZ};
+ghost use Rattle.arith.specs.Exact.{addOf, subOf, mulOf, divOf};
+ghost use Rattle.block.specs.Record.{argument};
+ghost use Rattle.footprint.specs.Access.{targetOf};
+ghost use Rattle.machine.specs.Action.{assign, assignChecked, doing, ended, jump, payAction, thrown};
+
+// The number of registers.
+const REGISTERS: usize = 8;
+
+// The outcomes: ended, thrown, no result, and not paid.
+const ENDED: u64 = 0;
+
+const THROWN: u64 = 3;
+
+const NO_RESULT: u64 = 4;
+
+const NOT_PAID: u64 = 5;
+
+// The value of register x, 0 for one that does not exist.
+fn register(regs: [i64; 8], x: usize) -> i64
+    ensures { λ r. ⌜ r ≡ getD regs x (pos 0) ⌝ }
+{
+    if x < REGISTERS { regs[x] } else { 0 }
+}
+
+// x takes a value, and the call goes on behind the place.
+fn assign(place: u32, mut regs: [i64; 8], x: usize, v: i64) -> Action
+    ensures { λ r. ⌜ r ≡ assign place regs x v ⌝ }
+{
+    let next = Next::Go(place as usize + 1);
+    if x < REGISTERS {
+        regs[x] = v;
+    }
+    Action { next, regs }
+}
+
+// The call ends with an outcome.
+fn end(regs: [i64; 8], outcome: u64) -> Action
+    ensures { λ r. ⌜ r ≡ doing regs (Next.End outcome) ⌝ }
+{
+    Action {
+        next: Next::End(outcome),
+        regs,
+    }
+}
+
+// x takes an exact result; "a result outside 64 signed bits or a zero divisor with 4".
+fn assign_checked(place: u32, regs: [i64; 8], x: usize, r: Checked) -> Action
+    ensures { λ a. ⌜ a ≡ assignChecked place regs x r ⌝ }
+{
+    match r {
+        Checked::Value(v) => assign(place, regs, x, v),
+        Checked::Overflow => end(regs, NO_RESULT),
+        Checked::ZeroDivisor => end(regs, NO_RESULT),
+    }
+}
+
+// 0 STOP
+pub(crate) fn stop(regs: [i64; 8]) -> Action
+    ensures { λ r. ⌜ r ≡ doing regs (Next.End ended) ⌝ }
+{
+    end(regs, ENDED)
+}
+
+// 1 THROW
+pub(crate) fn throw(regs: [i64; 8]) -> Action
+    ensures { λ r. ⌜ r ≡ doing regs (Next.End thrown) ⌝ }
+{
+    end(regs, THROWN)
+}
+
+// "2 SET x to w read as signed"
+pub(crate) fn set(place: u32, regs: [i64; 8], x: usize, value: i64) -> Action
+    ensures { λ r. ⌜ r ≡ assign place regs x value ⌝ }
+{
+    assign(place, regs, x, value)
+}
+
+// "3 ARG x from argument y (1 to 4)"
+pub(crate) fn arg(c: Call, place: u32, regs: [i64; 8], x: usize, k: usize) -> Action
+    ensures { λ r. ⌜ r ≡ assign place regs x (pos (argument c k)) ⌝ }
+{
+    assign(place, regs, x, argument(c, k) as i64)
+}
+
+// "4 SENDER x"
+pub(crate) fn sender(c: Call, place: u32, regs: [i64; 8], x: usize) -> Action
+    ensures { λ r. ⌜ r ≡ assign place regs x (pos (c .sender .0)) ⌝ }
+{
+    assign(place, regs, x, c.sender.0 as i64)
+}
+
+// "5 VALUE x"
+pub(crate) fn value(c: Call, place: u32, regs: [i64; 8], x: usize) -> Action
+    ensures { λ r. ⌜ r ≡ assign place regs x (c .value) ⌝ }
+{
+    assign(place, regs, x, c.value)
+}
+
+// "6 ADD, 7 SUB, 8 MUL, 9 DIV: x from y and z"
+pub(crate) fn add(place: u32, regs: [i64; 8], x: usize, y: usize, z: usize) -> Action
+    ensures { λ r. ⌜ r ≡ assignChecked place regs x (addOf (getD regs y (pos 0)) (getD regs z (pos 0))) ⌝ }
+{
+    let sum = arith::add(register(regs, y), register(regs, z));
+    assign_checked(place, regs, x, sum)
+}
+
+pub(crate) fn sub(place: u32, regs: [i64; 8], x: usize, y: usize, z: usize) -> Action
+    ensures { λ r. ⌜ r ≡ assignChecked place regs x (subOf (getD regs y (pos 0)) (getD regs z (pos 0))) ⌝ }
+{
+    let difference = arith::sub(register(regs, y), register(regs, z));
+    assign_checked(place, regs, x, difference)
+}
+
+pub(crate) fn mul(place: u32, regs: [i64; 8], x: usize, y: usize, z: usize) -> Action
+    ensures { λ r. ⌜ r ≡ assignChecked place regs x (mulOf (getD regs y (pos 0)) (getD regs z (pos 0))) ⌝ }
+{
+    let product = arith::mul(register(regs, y), register(regs, z));
+    assign_checked(place, regs, x, product)
+}
+
+pub(crate) fn div(place: u32, regs: [i64; 8], x: usize, y: usize, z: usize) -> Action
+    ensures { λ r. ⌜ r ≡ assignChecked place regs x (divOf (getD regs y (pos 0)) (getD regs z (pos 0))) ⌝ }
+{
+    let quotient = arith::div(register(regs, y), register(regs, z));
+    assign_checked(place, regs, x, quotient)
+}
+
+// "10 GET x": x takes the cell's value.
+pub(crate) fn get(regs: [i64; 8], x: usize) -> Action
+    ensures { λ r. ⌜ r ≡ doing regs (Next.Load x) ⌝ }
+{
+    Action {
+        next: Next::Load(x),
+        regs,
+    }
+}
+
+// "11 PUT x": the cell takes x.
+pub(crate) fn put(regs: [i64; 8], x: usize) -> Action
+    ensures { λ r. ⌜ r ≡ doing regs (Next.Store (getD regs x (pos 0))) ⌝ }
+{
+    Action {
+        next: Next::Store(register(regs, x)),
+        regs,
+    }
+}
+
+// "12 BAL x, the contract's own balance"
+pub(crate) fn bal(regs: [i64; 8], x: usize) -> Action
+    ensures { λ r. ⌜ r ≡ doing regs (Next.Load x) ⌝ }
+{
+    Action {
+        next: Next::Load(x),
+        regs,
+    }
+}
+
+// "PAY with 5 if the amount is negative, the target no account, or the contract's balance lower."
+fn pay_to(regs: [i64; 8], amount: i64, target: Payee) -> Action
+    ensures { λ r. ⌜ r ≡ payAction regs amount target ⌝ }
+{
+    match target {
+        Payee::NoAccount => end(regs, NOT_PAID),
+        Payee::To(_) => {
+            if amount < 0 {
+                return end(regs, NOT_PAID);
+            }
+            Action {
+                next: Next::Transfer {
+                    amount,
+                    short: NOT_PAID,
+                },
+                regs,
+            }
+        }
+    }
+}
+
+// "13 PAY amount x to the account that source y names"
+pub(crate) fn pay(c: Call, regs: [i64; 8], x: usize, target: Source) -> Action
+    ensures { λ r. ⌜ r ≡ payAction regs (getD regs x (pos 0)) (targetOf c target) ⌝ }
+{
+    let amount = register(regs, x);
+    pay_to(regs, amount, payee_of(source_value(c, target)))
+}
+
+// A jump: to the instruction if the test holds, else on.
+fn jump(place: u32, regs: [i64; 8], to: u16, test: bool) -> Action
+    ensures { λ r. ⌜ r ≡ jump place regs to test ⌝ }
+{
+    if test {
+        return Action {
+            next: Next::Go(to as usize + 1),
+            regs,
+        };
+    }
+    Action {
+        next: Next::Go(place as usize + 1),
+        regs,
+    }
+}
+
+// "14 JEQ, 15 JLT: to instruction w if x = y, or x < y"
+pub(crate) fn jeq(place: u32, regs: [i64; 8], x: usize, y: usize, to: u16) -> Action
+    ensures { λ r. ⌜ r ≡ jump place regs to (eqZ (getD regs x (pos 0)) (getD regs y (pos 0))) ⌝ }
+{
+    let test = arith::same(register(regs, x), register(regs, y));
+    jump(place, regs, to, test)
+}
+
+pub(crate) fn jlt(place: u32, regs: [i64; 8], x: usize, y: usize, to: u16) -> Action
+    ensures { λ r. ⌜ r ≡ jump place regs to (ltZ (getD regs x (pos 0)) (getD regs y (pos 0))) ⌝ }
+{
+    let test = arith::less(register(regs, x), register(regs, y));
+    jump(place, regs, to, test)
+}

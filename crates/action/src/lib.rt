@@ -1,0 +1,117 @@
+// What a place of a call does, as a function of the call and the registers alone.
+mod instruction;
+
+use block::Call;
+use block::Decoded;
+use block::Instr;
+use block::instruction::decode;
+use instruction::add;
+use instruction::arg;
+use instruction::bal;
+use instruction::div;
+use instruction::get;
+use instruction::jeq;
+use instruction::jlt;
+use instruction::mul;
+use instruction::pay;
+use instruction::put;
+use instruction::sender;
+use instruction::set;
+use instruction::stop;
+use instruction::sub;
+use instruction::throw;
+use instruction::value;
+use machine::Action;
+use machine::Next;
+ghost use mathlib.Core.Path.{_≡_};
+ghost use Prim.Native.Nat.{_+_, _<_};
+ghost use lib.ListN.{drop};
+ghost use Rattle.block.specs.Instruction.{decode};
+ghost use Rattle.machine.specs.Action.{entryAction, instrAction};
+ghost use Rattle.action.specs.Acted.{actedOf, jumpOf};
+
+// The outcome of a call whose sender has less than its value, and the place of the first instruction.
+const BALANCE_TOO_LOW: u64 = 2;
+
+const FIRST_PLACE: usize = 1;
+
+// What eight bytes of code hold, and what the call does there.
+pub struct Acted {
+    pub decoded: Decoded,
+    pub action: Action,
+}
+
+// What an instruction does at a place. Its jump is that of a code's instruction, which 16 bits hold.
+fn act(c: Call, place: u32, regs: [i64; 8], i: Instr) -> Action
+    requires { ⌜ jumpOf i < 65536 ⌝ }
+    ensures { λ r. ⌜ r ≡ instrAction c place regs i ⌝ }
+{
+    match i {
+        Instr::Stop => stop(regs),
+        Instr::Throw => throw(regs),
+        Instr::Set { x, value } => set(place, regs, x, value),
+        Instr::Arg { x, argument } => arg(c, place, regs, x, argument),
+        Instr::Sender { x } => sender(c, place, regs, x),
+        Instr::Value { x } => value(c, place, regs, x),
+        Instr::Add { x, y, z } => add(place, regs, x, y, z),
+        Instr::Sub { x, y, z } => sub(place, regs, x, y, z),
+        Instr::Mul { x, y, z } => mul(place, regs, x, y, z),
+        Instr::Div { x, y, z } => div(place, regs, x, y, z),
+        Instr::Get {
+            x,
+            field: _,
+            a: _,
+            b: _,
+        } => get(regs, x),
+        Instr::Put {
+            x,
+            field: _,
+            a: _,
+            b: _,
+        } => put(regs, x),
+        Instr::Bal { x } => bal(regs, x),
+        Instr::Pay { x, target } => pay(c, regs, x, target),
+        Instr::Jeq { x, y, to } => jeq(place, regs, x, y, to as u16),
+        Instr::Jlt { x, y, to } => jlt(place, regs, x, y, to as u16),
+    }
+}
+
+// What the bytes at a position of the code hold, which are the instruction at `index` of `size`, and what the call does there.
+pub fn act_at(code: &[u8], at: usize, index: u16, size: u16, c: Call, regs: [i64; 8]) -> Acted
+    ensures { λ r. ⌜ r ≡ actedOf c (index + 1) regs (decode index size (drop at (now (code .entry)))) ⌝ }
+{
+    let decoded = decode(code, at, index as usize, size as usize);
+    match decoded {
+        Decoded::Valid(i) => Acted {
+            decoded,
+            action: act(c, index as u32 + 1, regs, i),
+        },
+        Decoded::Invalid => Acted {
+            decoded,
+            action: Action {
+                next: Next::Go(index as usize + 1),
+                regs,
+            },
+        },
+    }
+}
+
+// "sender's balance below value, outcome 2; else value moves from sender to contract and the place is 0"
+pub fn enter(c: Call, regs: [i64; 8]) -> Action
+    ensures { λ r. ⌜ r ≡ entryAction c regs ⌝ }
+{
+    let amount = c.value;
+    if 0 < amount {
+        return Action {
+            next: Next::Transfer {
+                amount,
+                short: BALANCE_TOO_LOW,
+            },
+            regs,
+        };
+    }
+    Action {
+        next: Next::Go(FIRST_PLACE),
+        regs,
+    }
+}

@@ -1,0 +1,151 @@
+-- The balance limit is kept by every call, whatever its outcome. Assumes nothing.
+use mathlib.Core.Path.{_≡_, refl, subst}
+use mathlib.Core.Bool.{Bool, true, false, _&&_}
+use mathlib.Core.List.{List}
+use Prim.Native.Nat.{ℕ, zero, suc, _+_, _*_, _<_, _≤_}
+use native.Mathlib.Omega.{arith}
+use borrow.Author.Tests.{ltb-true, leb-true}
+use lib.Dec.{ltb, leb}
+use lib.ListN.{drop}
+use lib.Signed.{nonNeg}
+use Rattle.arith.specs.Choice.{if_then_else_}
+use Rattle.arith.specs.Exact.{signed}
+use Rattle.wire.specs.Bytes.{number, readLe}
+use Rattle.wire.specs.Laws.{number-lt}
+use Rattle.block.specs.Key.{firstContract, payeeOf}
+use Rattle.block.specs.Instruction.{instrBytes, decode}
+use Rattle.block.specs.Record.{Function, callOf}
+use Rattle.block.specs.declared.Call.{Call}
+use Rattle.block.specs.declared.CallBody.the-variants.{InRange, OutOfRange}
+use Rattle.block.specs.declared.Payee.the-variants.{To, NoAccount}
+use Rattle.block.specs.declared.Decoded.{Decoded}
+use Rattle.block.specs.declared.Decoded.the-variants.{Valid, Invalid}
+use Rattle.block.specs.declared.Instr.{Instr}
+use Rattle.block.specs.declared.Instr.the-variants.{Stop, Throw, Set, Arg, Sender, Value, Add, Sub, Mul, Div, Get, Put, Bal, Pay, Jeq, Jlt}
+use Rattle.footprint.specs.Access.{sourceValue}
+use Rattle.footprint.specs.Sets.{functionOf}
+use Rattle.footprint.specs.AccessLaws.{Bytes, drop-bytes, take-bytes, InRanges, source-below, InstrSound, DecodedSound, decode-sound}
+use Rattle.footprint.specs.LimitLaws.{limit-move, limit-other, cell-is-not}
+use Rattle.footprint.specs.SetsExact.{instructionsOf}
+use Rattle.footprint.specs.RunLaws.{Every, every-map, Keeps, PayKeeps, transaction-keeps}
+use Rattle.footprint.specs.Rule.{State, withInstr, bodyOf, stateWithinLimit, transaction}
+
+-- ---- the ranges of a call
+
+-- "sender account 2, contract 2, function 2, value 8 (signed, 0 or more), four arguments of 4 (unsigned)"
+pub record CallFits (c : Call) : Type 0 where
+  pub ranges : InRanges c
+  pub account : c .sender .0 < firstContract
+  pub contract : firstContract ≤ c .contract .0
+  pub value : nonNeg (c .value) ≡ true
+
+-- A call that the reader lets pass has them.
+pub call-fits : (s : List ℕ) → Bytes s → (c : Call) → callOf s ≡ InRange c → CallFits c
+unfolding callOf
+call-fits s h c e = go account contract value refl refl refl e
+  where
+    account : Bool
+    account = ltb (number 2 s) firstContract
+
+    contract : Bool
+    contract = leb firstContract (readLe 2 s 2)
+
+    value : Bool
+    value = nonNeg (signed 64 (readLe 8 s 6))
+
+    read : Call
+    read = record {
+      sender = record { 0 = number 2 s };
+      contract = record { 0 = readLe 2 s 2 };
+      function = readLe 2 s 4;
+      value = signed 64 (readLe 8 s 6);
+      arg1 = readLe 4 s 14;
+      arg2 = readLe 4 s 18;
+      arg3 = readLe 4 s 22;
+      arg4 = readLe 4 s 26;
+    }
+
+    ranges : InRanges read
+    ranges = record {
+      sender = number-lt 2 s h;
+      contract = number-lt 2 (drop 2 s) (drop-bytes 2 s h);
+      arg1 = number-lt 4 (drop 14 s) (drop-bytes 14 s h);
+      arg2 = number-lt 4 (drop 18 s) (drop-bytes 18 s h);
+      arg3 = number-lt 4 (drop 22 s) (drop-bytes 22 s h);
+      arg4 = number-lt 4 (drop 26 s) (drop-bytes 26 s h);
+    }
+
+    other : OutOfRange ≡ InRange c → CallFits c
+    other f = let n : _≡_ {A = ℕ} 0 1 = cc in absurd (omega arith)
+
+    go : (a b v : Bool) → account ≡ a → contract ≡ b → value ≡ v → (if a && b && v then InRange read else OutOfRange) ≡ InRange c → CallFits c
+    go true true true ea eb ev f =
+        let same : read ≡ c = cc in
+        subst CallFits same
+        (record {
+          ranges = ranges;
+          account = ltb-true (number 2 s) firstContract ea;
+          contract = leb-true firstContract (readLe 2 s 2) eb;
+          value = ev;
+        })
+    go true true false ea eb ev f = other f
+    go true false v ea eb ev f = other f
+    go false b v ea eb ev f = other f
+
+-- ---- the instructions of a code
+
+body-sound : (left index size : ℕ) (s : List ℕ) → Bytes s → Every InstrSound (bodyOf left index size s)
+unfolding bodyOf withInstr
+body-sound zero index size s h = tt
+body-sound (suc left) index size s h =
+    go (decode index size s) (decode-sound index size s h) (body-sound left (index + 1) size (drop instrBytes s) (drop-bytes instrBytes s h))
+  where
+    go : (d : Decoded) → DecodedSound d → Every InstrSound (bodyOf left (index + 1) size (drop instrBytes s))
+        → Every InstrSound (withInstr d (bodyOf left (index + 1) size (drop instrBytes s)))
+    go (Valid i) f ih = (f, ih)
+    go Invalid f ih = ih
+
+-- ---- the limit
+
+abbrev pub Within : State → Type 0
+Within σ = stateWithinLimit σ ≡ true
+
+module _ (c : Call) (fits : CallFits c) where
+  pay-within : (n : ℕ) → PayKeeps c Within (payeeOf n)
+  unfolding payeeOf
+  pay-within n = go (ltb n firstContract) refl
+    where
+      go : (b : Bool) → ltb n firstContract ≡ b → PayKeeps c Within (if b then To (record { 0 = n }) else NoAccount)
+      go true e = λ σ m s l within. limit-move σ within (c .contract .0) n (fits .ranges .contract) (omega (arith, ltb-true n firstContract e)) m s l
+      go false e = tt
+
+  instr-within : (i : Instr) → InstrSound i → Keeps c Within i
+  instr-within Stop f = tt
+  instr-within Throw f = tt
+  instr-within (Set x v) f = tt
+  instr-within (Arg x k) f = tt
+  instr-within (Sender x) f = tt
+  instr-within (Value x) f = tt
+  instr-within (Add x y z) f = tt
+  instr-within (Sub x y z) f = tt
+  instr-within (Mul x y z) f = tt
+  instr-within (Div x y z) f = tt
+  instr-within (Get x field a b) f = tt
+  instr-within (Put x field a b) f =
+      λ σ v within. limit-other σ within _ v
+      (cell-is-not (c .contract .0) field (sourceValue c a) (sourceValue c b) (f .0 .0) (source-below c a (fits .ranges) (f .0 .1 .0))
+      (source-below c b (fits .ranges) (f .0 .1 .1)) (λ e. omega (arith, f .1)))
+  instr-within (Bal x) f = tt
+  instr-within (Pay x target) f = pay-within (sourceValue c target)
+  instr-within (Jeq x y to) f = tt
+  instr-within (Jlt x y to) f = tt
+
+  -- A state within the limit is followed by one within the limit.
+  pub limit-kept : (block : List ℕ) → Bytes block → (functions : List Function) (σ : State) → stateWithinLimit σ ≡ true
+      → stateWithinLimit (transaction block functions c σ .state) ≡ true
+  limit-kept block h functions σ within =
+      transaction-keeps c Within block σ within (functionOf functions c)
+      (λ g e. limit-move σ within (c .sender .0) (c .contract .0) (fits .ranges .sender) (fits .ranges .contract) (c .value) (fits .value))
+      (λ g e. every-map InstrSound (Keeps c Within) instr-within (instructionsOf block g)
+      (body-sound (g .size) 0 (g .size) _
+      (take-bytes (instrBytes * g .size) (drop (g .start) block) (drop-bytes (g .start) block h))))

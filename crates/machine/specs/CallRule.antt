@@ -1,0 +1,369 @@
+-- A call of a made run, stepped to its end, leaves what the published transaction rule gives: the outcome, the count, and cells that
+-- hold the rule's state. "A call's steps are .. at most 66." Assumes nothing.
+use mathlib.Core.Path.{_≡_, refl, sym, _∙_, subst}
+use mathlib.Core.Bool.{Bool, true, false}
+use mathlib.Core.List.{List, [], _∷_, map}
+use mathlib.Core.Option.{Option, none, some}
+use Prim.Native.Nat.{ℕ, zero, suc, _+_, _-_, _*_, _≤_, _<_, suc-le-suc}
+use native.Mathlib.Decide.{decLt, ℕ-discrete}
+use native.Mathlib.Nat.{le-of-suc-le-suc}
+use native.Mathlib.Omega.{arith}
+use borrow.Author.Tests.{eq-eqb, ne-eqb, le-leb}
+use lib.Dec.{eqb}
+use lib.IntN.{ℤ, pos, _+ℤ_, _-ℤ_}
+use lib.ListN.{length, getD, getElem?, drop}
+use lib.Seq.{getD-drop}
+use lib.Signed.{ltZ, nonNeg}
+use Rattle.arith.specs.Choice.{if_then_else_}
+use Rattle.arith.specs.Laws.{equal, sum, diff, ltZ-true, ltZ-false, nonNeg-true}
+use Rattle.wire.specs.Bytes.{padded}
+use Rattle.block.specs.Limits.{maxCallKeys, maxKeys}
+use Rattle.block.specs.Instruction.{instrBytes, decode}
+use Rattle.block.specs.Record.{Function, functionId, callId, codeAt}
+use Rattle.block.specs.ReaderLaws as reader
+use Rattle.block.specs.ReaderLaws.{Sound}
+use Rattle.block.specs.declared.Call.{Call}
+use Rattle.block.specs.declared.Decoded.the-variants.{Valid}
+use Rattle.block.specs.declared.Instr.{Instr}
+use Rattle.footprint.specs.Access.{Access, changing, writing, accesses, entryAccesses}
+use Rattle.footprint.specs.AccessLaws.{Bytes, DecodedFits, InstrFits, decode-fits, sets-used}
+use Rattle.footprint.specs.Sets.{functionOf, functionSets, setsOf, writeSet}
+use Rattle.footprint.specs.SetLaws.{Each}
+use Rattle.footprint.specs.Plan.{entryWord, codeWords, keyWords}
+use Rattle.footprint.specs.Rule.{State, update, credit, debit, stateWithinLimit, Result, Course, before, over, executeAt, runBody, bodyOf, settle, runFunction, transactionBy, transaction}
+use Rattle.footprint.specs.LimitLaws.{update-same, update-other, balanceKey, limit-balance, limit-move}
+use Rattle.machine.specs.Run.{zeroRegisters}
+use Rattle.machine.specs.Action.{instrAction, entryAction}
+use Rattle.machine.specs.Step.{View, Local, Stepped, damaged, more, done, finish, perform, performAction, stepEntry, stepDecoded, stepInstr, stepCall}
+use Rattle.machine.specs.Made.{madeView, begun, stepsOf, Hold}
+use Rattle.machine.specs.Serial.{maxSteps}
+use Rattle.machine.specs.CallRanges.{CallRanges}
+use Rattle.machine.specs.CodeLaws.{InstrOf, instr-of, function-length, function-end, decode-placed}
+use Rattle.machine.specs.LookupLaws.{Covered, entry-covered, instr-covered, sets-distinct, lookup-covered, InTable}
+use Rattle.machine.specs.RestoreLaws.{made-restorable}
+use Rattle.machine.specs.HoldLaws.{Now, movedCells, hold-alike}
+use Rattle.machine.specs.StepRule.{Leaves, MadeOf, localAt, Match, transfer-short, transfer-moves, transfer-now, instr-match}
+
+-- ---- nothing moves
+
+-- A key that takes its own value.
+still : (σ : State) (k : ℕ) (x : ℤ) → x ≡ σ k → (l : ℕ) → update σ k x l ≡ σ l
+still σ k x e l = go (ℕ-discrete l k)
+  where
+    go : Dec (l ≡ k) → update σ k x l ≡ σ l
+    go (yes s) = rw s (update-same σ k x ∙ e)
+    go (no d) = update-other σ k x l d
+
+plus-zero : (x m : ℤ) → m ≡ pos 0 → x +ℤ m ≡ x
+plus-zero x m z = rw z (equal (x +ℤ pos 0) x (omega (arith, sum x (pos 0))))
+
+minus-zero : (x m : ℤ) → m ≡ pos 0 → x -ℤ m ≡ x
+minus-zero x m z = rw z (equal (x -ℤ pos 0) x (omega (arith, diff x (pos 0))))
+
+-- At value 0 the rule's entry leaves the state as it was.
+zero-moved : (σ : State) (a b : ℕ) (m : ℤ) → m ≡ pos 0 → (l : ℕ) → credit (debit σ a m) b m l ≡ σ l
+zero-moved σ a b m z l =
+    still (debit σ a m) b (debit σ a m b +ℤ m) (plus-zero (debit σ a m b) m z) l ∙ still σ a (σ a -ℤ m) (minus-zero (σ a) m z) l
+
+no-value : (m : ℤ) → nonNeg m ≡ true → ltZ (pos 0) m ≡ false → m ≡ pos 0
+no-value m s e = equal m (pos 0) (omega (arith, ltZ-false (pos 0) m e, nonNeg-true m s))
+
+-- ---- steps and turns
+
+-- What has ended stays so.
+body-over : (turns : ℕ) (c : Call) (body : List Instr) (r : Result) → runBody turns c body (over r) ≡ r
+unfolding runBody
+body-over zero c body r = refl
+body-over (suc turns) c body r = refl
+
+steps-done : (fuel : ℕ) (v : View) (outcome count : ℕ) (cells : List ℤ) → stepsOf fuel v (done outcome count cells) ≡ done outcome count cells
+unfolding stepsOf
+steps-done zero v outcome count cells = refl
+steps-done (suc fuel) v outcome count cells = refl
+
+-- A view with the entries and the keys of a call's sets and table finds and restores its cells.
+made-of : (file : List ℕ) (c : Call) (o : Option Function) (table : List ℕ) (room : ℕ) (v : View) → length table ≤ maxKeys
+    → InTable table (functionSets file c o) → v .count ≤ maxCallKeys
+    → v .entries ≡ map (entryWord table) (functionSets file c o) → v .keys ≡ padded room 0 (keyWords table)
+    → MadeOf v table (functionSets file c o)
+made-of file c o table room v few known small entries keys =
+    record {
+      few = few;
+      known = known;
+      found = λ a covered. lookup-covered v room table (functionSets file c o) a small keys entries few (sets-distinct file c o) known covered;
+      able = rw entries (made-restorable table few (functionSets file c o) (v .count) small (sets-used file c o) known);
+      entries = entries;
+    }
+
+-- So does a call's view in a made run.
+pub made-view : (file : List ℕ) (functions : List Function) (c : Call) (table : List ℕ) (room : ℕ) → length table ≤ maxKeys
+    → InTable table (setsOf file functions c) → length (setsOf file functions c) ≤ maxCallKeys
+    → MadeOf (madeView file room functions table c) table (setsOf file functions c)
+made-view file functions c table room few known small =
+    made-of file c (functionOf functions c) table room (madeView file room functions table c) few known small refl refl
+
+-- The view of a call whose function is f.
+abbrev viewIn : (file : List ℕ) (room : ℕ) (table : List ℕ) → Call → Function → View
+viewIn file room table c f =
+    record {
+      block = file;
+      call = c;
+      start = f .start;
+      code = f .size + 1;
+      count = length (functionSets file c (some f));
+      entries = map (entryWord table) (functionSets file c (some f));
+      keys = padded room 0 (keyWords table);
+    }
+
+-- A call of the function f, begun at a state that the old cells hold.
+module _ (file : List ℕ) (bytes : Bytes file) (c : Call) (ranges : CallRanges c) (f : Function) (sound : Sound file f) (table : List ℕ)
+    (few : length table ≤ maxKeys) (known : InTable table (functionSets file c (some f))) (small : length (functionSets file c (some f)) ≤ maxCallKeys)
+    (room : ℕ) (start : State) (within : stateWithinLimit start ≡ true) (old : List ℤ) (first : Hold table start old) where
+  abbrev es : List Access
+  es = functionSets file c (some f)
+
+  abbrev view : View
+  view = viewIn file room table c f
+
+  abbrev body : List Instr
+  body = bodyOf (f .size) 0 (f .size) (codeAt file (f .start) (f .size))
+
+  made : MadeOf view table es
+  made = made-of file c (some f) table room view few known small refl refl
+
+  abbrev at : ℕ → List ℤ → ℕ → Local
+  at place ρ n = localAt view table es (f .size) start old place ρ n
+
+  abbrev Matches : ℕ → Course → Stepped → Type 0
+  Matches = Match view table es (f .size) start old
+
+  abbrev Here : State → List ℤ → Type 0
+  Here σ cells = Now table (writeSet es) start σ cells
+
+  -- ---- one step from an instruction
+
+  fits-file : (p : ℕ) (i : Instr) → decode p (f .size) (drop (f .start + instrBytes * p) file) ≡ Valid i → InstrFits i
+  fits-file p i e =
+      subst DecodedFits e
+      (decode-fits p (f .size) (drop (f .start + instrBytes * p) file)
+      (λ j. rw (getD-drop (f .start + instrBytes * p) file j 0) (bytes (f .start + instrBytes * p + j))))
+
+  step-instr : (p : ℕ) (ρ : List ℤ) (n : ℕ) (cells : List ℤ) (i : Instr) → p < f .size → decode p (f .size) (drop (f .start + instrBytes * p) file) ≡ Valid i
+      → stepCall view (at (p + 1) ρ n) cells ≡ performAction view (at (p + 1) ρ n) (n + 1) (accesses c i) (instrAction c (p + 1) ρ i) cells
+  unfolding stepCall stepInstr stepDecoded
+  step-instr p ρ n cells i l e =
+      let index : p + 1 - 1 ≡ p = omega arith in
+      let length′ : f .size + 1 - 1 ≡ f .size = omega arith in
+      rw (
+        ne-eqb (p + 1) 0 (omega arith),
+        ne-eqb (p + 1) (f .size + 1) (omega arith),
+        index,
+        length′,
+        le-leb (f .start + instrBytes * f .size) (length file) (sound .within),
+        e,
+      )
+
+  instr-step : (p : ℕ) (ρ : List ℤ) (n : ℕ) (σ : State) (cells : List ℤ) → p < f .size → Here σ cells
+      → Matches p (executeAt c p ρ n σ (getElem? body p)) (stepCall view (at (p + 1) ρ n) cells)
+  unfolding executeAt
+  instr-step p ρ n σ cells l now =
+      let this : InstrOf file f p = instr-of file f sound p l in
+      rw (this .listed, step-instr p ρ n cells (this .instr) l (this .decoded))
+      (instr-match view table es made (f .size) start old first p l σ cells now ρ n (n + 1) c ranges (this .instr)
+      (decode-placed p (f .size) (drop (f .start + instrBytes * p) file) (this .instr) (this .decoded))
+      (fits-file p (this .instr) (this .decoded)) (instr-covered file c f p l (this .instr) (this .decoded)))
+
+  -- "At place = length: outcome 0."
+  end-step : (ρ : List ℤ) (n : ℕ) (σ : State) (cells : List ℤ) → Here σ cells
+      → Matches (f .size) (executeAt c (f .size) ρ n σ (getElem? body (f .size))) (stepCall view (at (f .size + 1) ρ n) cells)
+  unfolding executeAt stepCall settle
+  end-step ρ n σ cells now =
+      rw (function-end file f sound, ne-eqb (f .size + 1) 0 (omega arith), eq-eqb (f .size + 1) (f .size + 1) refl)
+      (record { same-outcome = refl; same-count = refl; hold = now .hold })
+
+  any-step : (p : ℕ) (ρ : List ℤ) (n : ℕ) (σ : State) (cells : List ℤ) → p ≤ f .size → Here σ cells
+      → Matches p (executeAt c p ρ n σ (getElem? body p)) (stepCall view (at (p + 1) ρ n) cells)
+  any-step p ρ n σ cells l now = go (decLt p (f .size))
+    where
+      go : Dec (p < f .size) → Matches p (executeAt c p ρ n σ (getElem? body p)) (stepCall view (at (p + 1) ρ n) cells)
+      go (yes less) = instr-step p ρ n σ cells less now
+      go (no not-less) = let e : p ≡ f .size = omega arith in rw e (end-step ρ n σ cells now)
+
+  -- ---- all steps
+
+  -- Each turn of the rule is one step, and jumps go forward, so the turns that are left suffice.
+  run : (turns fuel p : ℕ) (ρ : List ℤ) (n : ℕ) (σ : State) (cells : List ℤ) → f .size + 1 ≤ turns + p → turns ≤ fuel → p ≤ f .size → Here σ cells
+      → Leaves table (settle start (runBody turns c body (before p ρ n σ))) (stepsOf fuel view (more (at (p + 1) ρ n) cells))
+  unfolding runBody stepsOf
+  run zero fuel p ρ n σ cells enough more′ l now = absurd (omega arith)
+  run (suc turns) zero p ρ n σ cells enough more′ l now = absurd (omega arith)
+  run (suc turns) (suc fuel) p ρ n σ cells enough more′ l now =
+      go (executeAt c p ρ n σ (getElem? body p)) (stepCall view (at (p + 1) ρ n) cells) (any-step p ρ n σ cells l now) (run turns fuel)
+    where
+      go : (t : Course) (s : Stepped) → Matches p t s
+          → ((q : ℕ) (ρ′ : List ℤ) (m : ℕ) (τ : State) (cells′ : List ℤ) → f .size + 1 ≤ turns + q → turns ≤ fuel → q ≤ f .size → Here τ cells′
+          → Leaves table (settle start (runBody turns c body (before q ρ′ m τ))) (stepsOf fuel view (more (at (q + 1) ρ′ m) cells′)))
+          → Leaves table (settle start (runBody turns c body t)) (stepsOf fuel view s)
+      go (before q ρ′ m τ) damaged match ih = absurd match
+      go (before q ρ′ m τ) (more l′ cells′) match ih =
+          rw (match .here) (ih q ρ′ m τ cells′ (omega (arith, match .forward)) (le-of-suc-le-suc more′) (match .inside) (match .now))
+      go (before q ρ′ m τ) (done outcome count cells′) match ih = absurd match
+      go (over r) damaged match ih = absurd match
+      go (over r) (more l′ cells′) match ih = absurd match
+      go (over r) (done outcome count cells′) match ih = rw (body-over turns c body r, steps-done fuel view outcome count cells′) match
+
+  -- ---- the entry
+
+  abbrev payer : ℕ
+  payer = c .sender .0
+
+  abbrev paid : ℕ
+  paid = c .contract .0
+
+  -- The rule's state when the body begins.
+  abbrev entered : State
+  entered = credit (debit start (balanceKey payer) (c .value)) (balanceKey paid) (c .value)
+
+  began : Here start old
+  began = record { hold = first; limit = within; outside = λ k out. refl }
+
+  payer-small : payer < 65536
+  payer-small = let low : c .sender .0 < 32768 = ranges .sender in omega arith
+
+  apart : paid ≡ payer → ⊥
+  apart e = let low : c .sender .0 < 32768 = ranges .sender in let high : 32768 ≤ c .contract .0 = ranges .contract in omega arith
+
+  -- The entry step, where the value is above 0 and where it is 0.
+  step-entry : stepCall view (at 0 zeroRegisters 0) old ≡ performAction view (at 0 zeroRegisters 0) 0 (entryAccesses c) (entryAction c zeroRegisters) old
+  unfolding stepCall stepEntry
+  step-entry = rw (ne-eqb (f .size + 1) 0 (omega arith))
+
+  module _ (above : ltZ (pos 0) (c .value) ≡ true) where
+    both-covered : Covered es (changing (balanceKey payer)) × Covered es (writing (balanceKey paid))
+    unfolding entryAccesses
+    both-covered =
+        let all : Each (Covered es) (changing (balanceKey payer) ∷ writing (balanceKey paid) ∷ []) = rw above at (entry-covered file c f) in
+        (all .0, all .1 .0)
+
+    entry-short : ltZ (start (balanceKey payer)) (c .value) ≡ true → stepCall view (at 0 zeroRegisters 0) old ≡ done 2 0 old
+    unfolding perform entryAction entryAccesses finish
+    entry-short less =
+        step-entry ∙ rw (
+          above,
+          transfer-short view table es made (f .size) start old first start old began payer paid payer-small (ranges .parts .contract) apart
+              (both-covered .0) (both-covered .1) (at 0 zeroRegisters 0) 0 zeroRegisters (c .value) 2 less,
+        )
+
+    entry-moves : ltZ (start (balanceKey payer)) (c .value) ≡ false
+        → stepCall view (at 0 zeroRegisters 0) old ≡ more (at 1 zeroRegisters 0) (movedCells table old (balanceKey payer) (balanceKey paid) (c .value))
+    unfolding perform entryAction entryAccesses
+    entry-moves enough =
+        step-entry ∙ rw (
+          above,
+          transfer-moves view table es made (f .size) start old first start old began payer paid payer-small (ranges .parts .contract) apart
+              (both-covered .0) (both-covered .1) (at 0 zeroRegisters 0) 0 zeroRegisters (c .value) 2 (ranges .value) enough,
+        )
+
+    entry-now : ltZ (start (balanceKey payer)) (c .value) ≡ false → Here entered (movedCells table old (balanceKey payer) (balanceKey paid) (c .value))
+    entry-now enough =
+        transfer-now view table es made (f .size) start old first start old began payer paid payer-small (ranges .parts .contract) apart
+        (both-covered .0) (both-covered .1) (at 0 zeroRegisters 0) 0 zeroRegisters (c .value) 2 (ranges .value) enough
+
+  module _ (none′ : ltZ (pos 0) (c .value) ≡ false) where
+    entry-passes : stepCall view (at 0 zeroRegisters 0) old ≡ more (at 1 zeroRegisters 0) old
+    unfolding perform entryAction entryAccesses
+    entry-passes = step-entry ∙ rw none′
+
+    -- A balance is not below zero, so it is not below the value.
+    never-short : ltZ (start (balanceKey payer)) (c .value) ≡ true → ⊥
+    never-short less =
+        omega (
+          arith,
+          ltZ-true (start (balanceKey payer)) (c .value) less,
+          ltZ-false (pos 0) (c .value) none′,
+          nonNeg-true (c .value) (ranges .value),
+          nonNeg-true (start (balanceKey payer)) (limit-balance start within payer payer-small .0),
+        )
+
+    passes-now : ltZ (start (balanceKey payer)) (c .value) ≡ false → Here entered old
+    passes-now enough =
+        let same : (k : ℕ) → entered k ≡ start k =
+        zero-moved start (balanceKey payer) (balanceKey paid) (c .value) (no-value (c .value) (ranges .value) none′) in
+        record {
+          hold = hold-alike table start entered old (λ k. sym (same k)) first;
+          limit = limit-move start within payer paid payer-small (ranges .parts .contract) (c .value) (ranges .value) enough;
+          outside = λ k out. same k;
+        }
+
+  -- ---- the call
+
+  -- The body behind the entry, in the 65 steps that are left.
+  body-run : (cells : List ℤ) → Here entered cells → Leaves table (runFunction file c start f) (stepsOf 65 view (more (at 1 zeroRegisters 0) cells))
+  unfolding runFunction
+  body-run cells now =
+      let size : length body ≡ f .size = function-length file f sound in
+      let few′ : f .size ≤ 64 = sound .few in
+      run (length body + 1) 65 0 zeroRegisters 0 entered cells (omega arith) (omega arith) (omega arith) now
+
+  known-function : Leaves table (transactionBy file c start (some f)) (stepsOf maxSteps view (more (begun view old) old))
+  unfolding transactionBy stepsOf
+  known-function = go (ltZ (pos 0) (c .value)) refl (ltZ (start (balanceKey payer)) (c .value)) refl
+    where
+      go : (t : Bool) → ltZ (pos 0) (c .value) ≡ t → (u : Bool) → ltZ (start (balanceKey payer)) (c .value) ≡ u
+          → Leaves table (if u then record { outcome = 2; count = 0; state = start } else runFunction file c start f)
+          (stepsOf 65 view (stepCall view (at 0 zeroRegisters 0) old))
+      go true above true less = rw (entry-short above less) (record { same-outcome = refl; same-count = refl; hold = first })
+      go true above false enough =
+          rw (entry-moves above enough) (body-run (movedCells table old (balanceKey payer) (balanceKey paid) (c .value)) (entry-now above enough))
+      go false none′ true less = absurd (never-short none′ less)
+      go false none′ false enough = rw (entry-passes none′) (body-run old (passes-now none′ enough))
+
+-- ---- the functions of a block
+
+abbrev OfSound : List ℕ → Option Function → Type 0
+OfSound file none = Unit {0}
+OfSound file (some f) = Sound file f
+
+-- The function that a call names is one of them.
+found-sound : (file : List ℕ) (functions : List Function) (c : Call) → reader.Each (λ i f. Sound file f) functions → OfSound file (functionOf functions c)
+unfolding functionOf
+found-sound file [] c all = tt
+found-sound file (f ∷ fs) c all = go (eqb (functionId f) (callId c)) (found-sound file fs c (λ i d h. all (suc i) d (suc-le-suc h)))
+  where
+    go : (t : Bool) → OfSound file (functionOf fs c) → OfSound file (if t then some f else functionOf fs c)
+    go true rest = all 0 f (omega arith)
+    go false rest = rest
+
+-- "unknown function, outcome 1"
+unknown-function : (file : List ℕ) (c : Call) (table : List ℕ) (σ : State) (v : View) (cells : List ℤ) → v .code ≡ 0 → Hold table σ cells
+    → Leaves table (transactionBy file c σ none) (stepsOf maxSteps v (more (begun v cells) cells))
+unfolding transactionBy stepsOf stepCall stepEntry
+unknown-function file c table σ v cells e first = rw e (record { same-outcome = refl; same-count = refl; hold = first })
+
+-- A call of any accepted block, begun in cells that hold a state within the balance limit and stepped at most 66 times, has ended: its
+-- outcome and count are those of the published rule at that state, and its cells hold the state that the rule leaves.
+pub call-rule : (file : List ℕ) → Bytes file → (functions : List Function) → reader.Each (λ i f. Sound file f) functions → (c : Call) → CallRanges c
+    → (table : List ℕ) → length table ≤ maxKeys → InTable table (setsOf file functions c) → length (setsOf file functions c) ≤ maxCallKeys → (room : ℕ)
+    → (σ : State) → stateWithinLimit σ ≡ true → (cells : List ℤ) → Hold table σ cells
+    → Leaves table (transaction file functions c σ)
+    (stepsOf maxSteps (madeView file room functions table c) (more (begun (madeView file room functions table c) cells) cells))
+unfolding codeWords
+call-rule file bytes functions all c ranges table few known small room σ within cells first =
+    go (functionOf functions c) (found-sound file functions c all) known small
+  where
+    viewBy : Option Function → View
+    viewBy o =
+        record {
+          block = file;
+          call = c;
+          start = getD (codeWords o) 0 0;
+          code = getD (codeWords o) 1 0;
+          count = length (functionSets file c o);
+          entries = map (entryWord table) (functionSets file c o);
+          keys = padded room 0 (keyWords table);
+        }
+
+    go : (o : Option Function) → OfSound file o → InTable table (functionSets file c o) → length (functionSets file c o) ≤ maxCallKeys
+        → Leaves table (transactionBy file c σ o) (stepsOf maxSteps (viewBy o) (more (begun (viewBy o) cells) cells))
+    go none sound known′ small′ = unknown-function file c table σ (viewBy none) cells refl first
+    go (some f) sound known′ small′ = known-function file bytes c ranges f sound table few known′ small′ room σ within cells first
