@@ -1,6 +1,7 @@
 // The block file: addresses, instructions, call records, and the refusals of an input.
 pub mod instruction;
 pub mod limits;
+pub mod numbers;
 pub mod part;
 pub mod record;
 

@@ -1,5 +1,5 @@
-// Lines of text as bytes in a lent buffer: each function stores one line at its start and answers the line's length; what does not fit
-// is dropped, and the bytes behind the line are unchanged.
+// Lines of text as bytes in a lent buffer: each function stores one line from a position on and answers the position behind it; what
+// does not fit is dropped, and all other bytes are unchanged.
 ghost use mathlib.Core.Path.{_≡_};
 ghost use mathlib.Core.List.{_∷_, [], map};
 ghost use Prim.Native.Nat.{_+_, _^_, _<_, _≤_};
@@ -35,7 +35,7 @@ fn digit(n: u64) -> u8
 
 // The digits of a number from a position on, `left` at most; answers the position behind them.
 fn put_digits(out: &mut [u8], at: usize, left: usize, n: u64) -> usize
-    requires { ⌜ at < 2 ^ 32 ⌝ }
+    requires { ⌜ at < 2 ^ 40 ⌝ }
     requires { ⌜ left ≤ 20 ⌝ }
     ensures text { λ r. ⌜ now (out .exit) ≡ stored (now (out .entry)) at (digitsOf left n) ⌝ }
     ensures end { λ r. ⌜ r ≡ at + length (digitsOf left n) ⌝ }
@@ -54,7 +54,7 @@ fn put_digits(out: &mut [u8], at: usize, left: usize, n: u64) -> usize
 
 // A part of a line from a position on: a space and a number; answers the position behind it.
 fn put_part(out: &mut [u8], at: usize, n: u64) -> usize
-    requires { ⌜ at < 2 ^ 31 ⌝ }
+    requires { ⌜ at < 2 ^ 39 ⌝ }
     ensures text { λ r. ⌜ now (out .exit) ≡ stored (now (out .entry)) at (space ∷ decimal n) ⌝ }
     ensures end { λ r. ⌜ r ≡ at + length (space ∷ decimal n) ⌝ }
 {
@@ -64,7 +64,7 @@ fn put_part(out: &mut [u8], at: usize, n: u64) -> usize
 
 // The same of a value, which may be below zero.
 fn put_value_part(out: &mut [u8], at: usize, z: i64) -> usize
-    requires { ⌜ at < 2 ^ 31 ⌝ }
+    requires { ⌜ at < 2 ^ 39 ⌝ }
     ensures text { λ r. ⌜ now (out .exit) ≡ stored (now (out .entry)) at (space ∷ signedDecimal z) ⌝ }
     ensures end { λ r. ⌜ r ≡ at + length (space ∷ signedDecimal z) ⌝ }
 {
@@ -76,18 +76,19 @@ fn put_value_part(out: &mut [u8], at: usize, z: i64) -> usize
     put_part(out, at, arith::magnitude(z))
 }
 
-// A letter and two numbers, at the start of the buffer.
-fn put_two(out: &mut [u8], letter: u8, a: u64, b: u64) -> usize
-    ensures { λ r. ⌜ Written (now (out .entry)) (now (out .exit)) r (letter ∷ spaced (decimal a ∷ decimal b ∷ [])) ⌝ }
+// A letter and two numbers, from a position on.
+fn put_two(out: &mut [u8], from: usize, letter: u8, a: u64, b: u64) -> usize
+    requires { ⌜ from < 2 ^ 32 ⌝ }
+    ensures { λ r. ⌜ Written (now (out .entry)) (now (out .exit)) from r (letter ∷ spaced (decimal a ∷ decimal b ∷ [])) ⌝ }
 {
-    wire::put_byte(out, 0, letter);
-    let at = put_part(out, 1, a);
+    wire::put_byte(out, from, letter);
+    let at = put_part(out, from + 1, a);
     put_part(out, at, b)
 }
 
 // The end of a line.
 fn put_end(out: &mut [u8], at: usize) -> usize
-    requires { ⌜ at < 2 ^ 32 ⌝ }
+    requires { ⌜ at < 2 ^ 40 ⌝ }
     ensures text { λ r. ⌜ now (out .exit) ≡ stored (now (out .entry)) at (lineFeed ∷ []) ⌝ }
     ensures end { λ r. ⌜ r ≡ at + length (lineFeed ∷ []) ⌝ }
 {
@@ -96,59 +97,75 @@ fn put_end(out: &mut [u8], at: usize) -> usize
 }
 
 // The line of a refused move or sheet.
-pub fn refused_line(out: &mut [u8], line: u64, number: u64) -> usize
-    ensures { λ r. ⌜ Written (now (out .entry)) (now (out .exit)) r (refusedText line number) ⌝ }
+pub fn refused_line(out: &mut [u8], from: u32, line: u64, number: u64) -> usize
+    ensures { λ r. ⌜ Written (now (out .entry)) (now (out .exit)) from r (refusedText line number) ⌝ }
 {
-    let at = put_two(out, b'r', line, number);
+    let at = put_two(out, from as usize, b'r', line, number);
     put_end(out, at)
 }
 
 // The line of a refused block.
-pub fn block_refused_line(out: &mut [u8], number: u64, offset: u64) -> usize
-    ensures { λ r. ⌜ Written (now (out .entry)) (now (out .exit)) r (blockRefusedText number offset) ⌝ }
+pub fn block_refused_line(out: &mut [u8], from: u32, number: u64, offset: u64) -> usize
+    ensures { λ r. ⌜ Written (now (out .entry)) (now (out .exit)) from r (blockRefusedText number offset) ⌝ }
 {
-    let at = put_two(out, b'e', number, offset);
+    let at = put_two(out, from as usize, b'e', number, offset);
     put_end(out, at)
 }
 
 // The line of a receipt.
-pub fn receipt_line(out: &mut [u8], call: u64, outcome: u64, count: u64) -> usize
-    ensures { λ r. ⌜ Written (now (out .entry)) (now (out .exit)) r (receiptText call outcome count) ⌝ }
+pub fn receipt_line(out: &mut [u8], from: u32, call: u64, outcome: u64, count: u64) -> usize
+    ensures { λ r. ⌜ Written (now (out .entry)) (now (out .exit)) from r (receiptText call outcome count) ⌝ }
 {
-    let two = put_two(out, b't', call, outcome);
+    let two = put_two(out, from as usize, b't', call, outcome);
     let at = put_part(out, two, count);
     put_end(out, at)
 }
 
-// A letter and four numbers, at the start of the buffer.
-fn put_four(out: &mut [u8], letter: u8, a: u64, b: u64, c: u64, d: u64) -> usize
-    ensures { λ r. ⌜ Written (now (out .entry)) (now (out .exit)) r (letter ∷ spaced (decimal a ∷ decimal b ∷ decimal c ∷ decimal d ∷ [])) ⌝ }
+// A letter and four numbers, from a position on.
+fn put_four(out: &mut [u8], from: usize, letter: u8, a: u64, b: u64, c: u64, d: u64) -> usize
+    requires { ⌜ from < 2 ^ 32 ⌝ }
+    ensures { λ r. ⌜ Written (now (out .entry)) (now (out .exit)) from r (letter ∷ spaced (decimal a ∷ decimal b ∷ decimal c ∷ decimal d ∷ [])) ⌝ }
 {
-    let two = put_two(out, letter, a, b);
+    let two = put_two(out, from, letter, a, b);
     let three = put_part(out, two, c);
     put_part(out, three, d)
 }
 
 // The first line of a listing: the numbers of functions, opening cells, calls and keys.
-pub fn counts_line(out: &mut [u8], functions: u64, cells: u64, calls: u64, keys: u64) -> usize
-    ensures { λ r. ⌜ Written (now (out .entry)) (now (out .exit)) r (countsText functions cells calls keys) ⌝ }
+pub fn counts_line(
+    out: &mut [u8],
+    from: u32,
+    functions: u64,
+    cells: u64,
+    calls: u64,
+    keys: u64,
+) -> usize
+    ensures { λ r. ⌜ Written (now (out .entry)) (now (out .exit)) from r (countsText functions cells calls keys) ⌝ }
 {
-    let at = put_four(out, b'n', functions, cells, calls, keys);
+    let at = put_four(out, from as usize, b'n', functions, cells, calls, keys);
     put_end(out, at)
 }
 
 // The line of a cell.
-pub fn cell_line(out: &mut [u8], address: u64, field: u64, a: u64, b: u64, value: i64) -> usize
-    ensures { λ r. ⌜ Written (now (out .entry)) (now (out .exit)) r (cellText address field a b value) ⌝ }
+pub fn cell_line(
+    out: &mut [u8],
+    from: u32,
+    address: u64,
+    field: u64,
+    a: u64,
+    b: u64,
+    value: i64,
+) -> usize
+    ensures { λ r. ⌜ Written (now (out .entry)) (now (out .exit)) from r (cellText address field a b value) ⌝ }
 {
-    let four = put_four(out, b'k', address, field, a, b);
+    let four = put_four(out, from as usize, b'k', address, field, a, b);
     let at = put_value_part(out, four, value);
     put_end(out, at)
 }
 
 // The numbers of the set bits of a row from a position of the buffer on, each a part.
 fn put_bits(out: &mut [u8], at: usize, row: [u64; 4]) -> usize
-    requires { ⌜ at < 2 ^ 16 ⌝ }
+    requires { ⌜ at < 2 ^ 34 ⌝ }
     ensures text { λ r. ⌜ now (out .exit) ≡ stored (now (out .entry)) at (spaced (map decimal (passing (inRow row) 256 0))) ⌝ }
     ensures end { λ r. ⌜ r ≡ at + length (spaced (map decimal (passing (inRow row) 256 0))) ⌝ }
 {
@@ -163,11 +180,11 @@ fn put_bits(out: &mut [u8], at: usize, row: [u64; 4]) -> usize
 }
 
 // A call's line of a listing: its earlier conflicting calls in rising order.
-pub fn row_line(out: &mut [u8], call: u64, row: [u64; 4]) -> usize
-    ensures { λ r. ⌜ Written (now (out .entry)) (now (out .exit)) r (rowText call row) ⌝ }
+pub fn row_line(out: &mut [u8], from: u32, call: u64, row: [u64; 4]) -> usize
+    ensures { λ r. ⌜ Written (now (out .entry)) (now (out .exit)) from r (rowText call row) ⌝ }
 {
-    wire::put_byte(out, 0, b'w');
-    let first = put_part(out, 1, call);
+    wire::put_byte(out, from as usize, b'w');
+    let first = put_part(out, from as usize + 1, call);
     let at = put_bits(out, first, row);
     put_end(out, at)
 }
