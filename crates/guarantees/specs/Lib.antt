@@ -11,6 +11,10 @@ pub mod OpeningLaws
 pub mod OpeningLimit
 pub mod OpenedCalls
 pub mod AfterOpening
+pub mod KeyFits
+pub mod CellRecords
+pub mod NextCells
+pub mod NextDay
 pub mod RuleSteps
 pub mod SerialRule
 pub mod EntryLaws
@@ -27,6 +31,8 @@ pub mod StepMatches
 pub mod MoveMatches
 pub mod ChosenRun
 pub mod SerialRun
+pub mod Demand2
+pub mod Demand3
 pub mod Blocks
 pub mod Joint
 pub mod Unstarred

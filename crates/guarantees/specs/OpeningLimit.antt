@@ -78,7 +78,7 @@ none-snoc (b ∷ bs) z e h = go (nonNeg b) (noneBelowZero bs) e (λ f. none-snoc
     go true t e f = f e
     go false t e f = e
 
-total-first : (b : ℤ) (bs : List ℤ) → nonNeg b ≡ true → noneBelowZero bs ≡ true → P (total (b ∷ bs)) ≡ P b + P (total bs)
+pub total-first : (b : ℤ) (bs : List ℤ) → nonNeg b ≡ true → noneBelowZero bs ≡ true → P (total (b ∷ bs)) ≡ P b + P (total bs)
 unfolding total
 total-first b bs h e =
     let own : N b ≡ 0 = nonNeg-true b h in

@@ -1,0 +1,199 @@
+-- Keys that an opening cell may have, and that the keys of an opened block's table are such keys. Assumes nothing.
+use mathlib.Core.Path.{_≡_, refl, sym, subst, subst⁻¹, _∙_}
+use mathlib.Core.Logic.{⊎-elim}
+use mathlib.Core.Bool.{Bool, true, false, _||_, false≢true}
+use mathlib.Core.List.{List, [], _∷_, _++_, map}
+use mathlib.Core.Option.{Option}
+use Prim.Native.Nat.{ℕ, suc, _+_, _*_, _^_, _≤_, _<_}
+use native.Mathlib.Omega.{arith}
+use borrow.Author.Tests.{le-ltb, eqb-true, ne-eqb}
+use lib.Dec.{eqb, ltb, lit<}
+use lib.ListN.{length, getD, drop}
+use Rattle.wire.specs.Bytes.{number, readLe}
+use Rattle.wire.specs.Laws.{number-lt}
+use Rattle.block.specs.Key.{firstContract, addressOf, keyOf, addressIn, fieldIn, aIn, bIn, accountBalance, contractBalance, keyAllowed}
+use Rattle.block.specs.KeyLaws.{address-of, field-of, a-of, b-of}
+use Rattle.block.specs.Limits.{maxCallKeys, maxKeys}
+use Rattle.block.specs.Instruction.{instrBytes, decode}
+use Rattle.block.specs.Record.{Function, Cell, Block, cellOf, cellAllowed, codeAt}
+use Rattle.block.specs.ReaderLaws as reading
+use Rattle.block.specs.ReaderLaws.{Laws}
+use Rattle.block.specs.declared.Address.{Address}
+use Rattle.block.specs.declared.Address.the-variants.{OfAccount, OfContract}
+use Rattle.block.specs.declared.Call.{Call}
+use Rattle.block.specs.declared.Decoded.{Decoded}
+use Rattle.block.specs.declared.Decoded.the-variants.{Valid, Invalid}
+use Rattle.block.specs.declared.Instr.{Instr}
+use Rattle.block.specs.declared.Source.{Source}
+use Rattle.footprint.specs.Access.{Access, cellKey, sourceValue, accesses}
+use Rattle.footprint.specs.AccessLaws.{Bytes, drop-bytes, take-bytes, Keyed, InstrSound, DecodedSound, SourceFits, source-below, accesses-keyed, sets-keyed, decode-sound}
+use Rattle.footprint.specs.Conflict.{member}
+use Rattle.footprint.specs.RuleLimit.{CallFits, call-fits}
+use Rattle.footprint.specs.SetLaws as sets
+use Rattle.footprint.specs.SetLaws.{code-each}
+use Rattle.footprint.specs.Sets.{decodedAccesses, functionSets, setsOf, functionOf}
+use Rattle.footprint.specs.Table.{analysed, refused, analyse, insertKeys}
+use Rattle.analysis.specs.CollectedLaws.{analyse-over, analyse-full, analyse-next}
+use Rattle.analysis.specs.KeyTable.{keysOf}
+use Rattle.analysis.specs.Laid.{openingKeys, blockOf, allSets}
+use Rattle.analysis.specs.TableLaws.{member-inserts}
+use Rattle.machine.specs.Run.{Sizes}
+use Rattle.guarantees.specs.OpeningLaws.{both}
+use Rattle.guarantees.specs.AfterOpening.{AfterOpening}
+
+-- "A key is address (16 bits), field (16), a (32), b (32)", and "Field 0 has only a = b = 0 and is the balance; an account has no other key".
+pub record KeyFits (k : ℕ) : Type 0 where
+  pub small : k < 2 ^ 96
+  pub allowed : keyAllowed (addressOf (addressIn k)) (fieldIn k) (aIn k) (bIn k) ≡ true
+
+-- What holds of every key of a list.
+abbrev pub Holds : (ℕ → Type 0) → List ℕ → Type 0
+Holds K t = (k : ℕ) → member k t ≡ true → K k
+
+-- ---- keys by their parts
+
+pub key-parts : (k : ℕ) → keyOf (addressIn k) (fieldIn k) (aIn k) (bIn k) ≡ k
+key-parts k = omega arith
+
+module _ (address field a b : ℕ) (hn : address < 2 ^ 16) (hf : field < 2 ^ 16) (ha : a < 2 ^ 32) (hb : b < 2 ^ 32) where
+  pub key-fits : keyAllowed (addressOf address) field a b ≡ true → KeyFits (keyOf address field a b)
+  key-fits e =
+      record {
+        small = omega arith;
+        allowed = rw (address-of address field a b hf ha hb, field-of address field a b hf ha hb, a-of address field a b hf ha hb, b-of address field a b hf ha hb) e;
+      }
+
+  -- A contract has every field above 0.
+  cell-fits : firstContract ≤ address → 0 < field → KeyFits (keyOf address field a b)
+  unfolding addressOf keyAllowed
+  cell-fits contract above = key-fits (rw (le-ltb address firstContract contract, ne-eqb field 0 (omega arith)))
+
+-- Every address has a balance.
+balance-allowed : (address : Address) → keyAllowed address 0 0 0 ≡ true
+unfolding keyAllowed
+balance-allowed (OfAccount account) = refl
+balance-allowed (OfContract contract) = refl
+
+balance-fits : (address : ℕ) → address < 2 ^ 16 → KeyFits (keyOf address 0 0 0)
+balance-fits address h = key-fits address 0 0 0 h (lit< tt) (lit< tt) (lit< tt) (balance-allowed (addressOf address))
+
+-- ---- keys of the opening
+
+opening-key : (s : List ℕ) → Bytes s → cellAllowed s ≡ true → KeyFits (cellOf s .key)
+unfolding cellAllowed
+opening-key s bytes e =
+    key-fits (number 2 s) (readLe 2 s 2) (readLe 4 s 4) (readLe 4 s 8) (number-lt 2 s bytes) (number-lt 2 (drop 2 s) (drop-bytes 2 s bytes))
+    (number-lt 4 (drop 4 s) (drop-bytes 4 s bytes)) (number-lt 4 (drop 8 s) (drop-bytes 8 s bytes))
+    (both (keyAllowed (addressOf (number 2 s)) (readLe 2 s 2) (readLe 4 s 4) (readLe 4 s 8)) _ e .0)
+
+-- What holds of the first key and of the others holds of all.
+pub holds-cons : (K : ℕ → Type 0) (l : ℕ) (ls : List ℕ) → K l → Holds K ls → Holds K (l ∷ ls)
+unfolding member
+holds-cons K l ls first rest k m = go (eqb k l) refl m
+  where
+    go : (t : Bool) → eqb k l ≡ t → (t || member k ls) ≡ true → K k
+    go true e f = subst⁻¹ K (eqb-true k l e) first
+    go false e f = rest k f
+
+pub holds-none : (K : ℕ → Type 0) → Holds K []
+unfolding member
+holds-none K k m = absurd (false≢true m)
+
+cells-hold : (K : ℕ → Type 0) (cs : List Cell) → reading.Each (λ i c. K (c .key)) cs → Holds K (map (λ c. c .key) cs)
+cells-hold K [] all = holds-none K
+cells-hold K (c ∷ cs) all =
+    holds-cons K (c .key) (map (λ d. d .key) cs) (all 0 c (omega arith)) (cells-hold K cs (λ i d h. all (suc i) d (omega arith)))
+
+opening-hold : (file : List ℕ) → Bytes file → (b : Block) → Laws file b → Holds KeyFits (openingKeys b)
+opening-hold file bytes b laws =
+    cells-hold KeyFits (b .cells)
+    (λ i d h. subst⁻¹ (λ (c : Cell). KeyFits (c .key)) (laws .cells i d h)
+    (opening-key (drop (b .opening + 24 * i + 4) file) (drop-bytes (b .opening + 24 * i + 4) file bytes) (laws .allowed i d h)))
+
+-- ---- keys of the sets
+
+module _ (c : Call) (fits : CallFits c) where
+  own-fits : KeyFits (contractBalance (c .contract))
+  own-fits = balance-fits (c .contract .0) (fits .ranges .contract)
+
+  account-fits : (n : ℕ) → n < firstContract → KeyFits (accountBalance (record { 0 = n }))
+  account-fits n h = balance-fits n (omega arith)
+
+  named-fits : (field : ℕ) (a b : Source) → (field < 2 ^ 16) × (SourceFits a × SourceFits b) → 0 < field → KeyFits (cellKey c field a b)
+  named-fits field a b h above =
+      cell-fits (c .contract .0) field (sourceValue c a) (sourceValue c b) (fits .ranges .contract) (h .0)
+      (source-below c a (fits .ranges) (h .1 .0)) (source-below c b (fits .ranges) (h .1 .1)) (fits .contract) above
+
+  instr-fits : (i : Instr) → InstrSound i → sets.Each (Keyed KeyFits) (accesses c i)
+  instr-fits i h =
+      accesses-keyed c KeyFits own-fits account-fits i
+      (λ x field a b e.
+      ⊎-elim
+      (λ g. let f = subst InstrSound g h in named-fits field a b (f .0) (f .1))
+      (λ p. let f = subst InstrSound p h in named-fits field a b (f .0) (f .1)) e)
+
+  decoded-fits : (d : Decoded) → DecodedSound d → sets.Each (Keyed KeyFits) (decodedAccesses c d)
+  decoded-fits (Valid i) h = instr-fits i h
+  decoded-fits Invalid h = tt
+
+  sets-fit : (block : List ℕ) → Bytes block → (f : Option Function) → sets.Each (Keyed KeyFits) (functionSets block c f)
+  sets-fit block h f =
+      sets-keyed c KeyFits own-fits account-fits (balance-fits (c .sender .0) (fits .ranges .sender)) block f
+      (λ g. code-each (Keyed KeyFits) Bytes (drop-bytes instrBytes) c (g .size)
+      (λ index s q. decoded-fits (decode index (g .size) s) (decode-sound index (g .size) s q)) (g .size) 0
+      (codeAt block (g .start) (g .size)) (take-bytes (instrBytes * g .size) (drop (g .start) block) (drop-bytes (g .start) block h)))
+
+keyed-hold : (K : ℕ → Type 0) (es : List Access) → sets.Each (Keyed K) es → Holds K (keysOf es)
+keyed-hold K [] all = holds-none K
+keyed-hold K (e ∷ es) all = holds-cons K (e .key) (keysOf es) (all .0 .keyed) (keyed-hold K es (all .1))
+
+-- ---- keys of the table
+
+-- A table has the keys that it had and those of the entries, and no others.
+holds-inserts : (K : ℕ → Type 0) (t : List ℕ) (es : List Access) → Holds K t → Holds K (keysOf es) → Holds K (insertKeys t es)
+holds-inserts K t es old new k m = go (member k (keysOf es)) refl (sym (member-inserts k t es) ∙ m)
+  where
+    go : (b : Bool) → member k (keysOf es) ≡ b → (b || member k t) ≡ true → K k
+    go true e f = new k e
+    go false e f = old k f
+
+-- What holds of the keys of a table and of all sets behind it holds of the keys of the table that the analysis makes.
+module _ (K : ℕ → Type 0) (file : List ℕ) (functions : List Function) where
+  analysed-hold : (cs : List Call) (at : ℕ) (before : List (List Access)) (old : List ℕ) (sets : List (List Access)) (table : List ℕ)
+      → Holds K old → reading.Each (λ i c. Holds K (keysOf (setsOf file functions c))) cs
+      → analyse file functions cs at before old ≡ analysed sets table → Holds K table
+  unfolding analyse
+  analysed-hold [] at before old sets table h all e = let keys : old ≡ table = cc in subst (Holds K) keys h
+  analysed-hold (c ∷ cs) at before old sets table h all e =
+      go (ltb maxCallKeys (length es)) refl (ltb maxKeys (length next)) refl
+      (analysed-hold cs (at + 34) (before ++ (es ∷ [])) next sets table (holds-inserts K old es h (all 0 c (omega arith))) (λ i d l. all (suc i) d (omega arith)))
+    where
+      es : List Access
+      es = setsOf file functions c
+
+      next : List ℕ
+      next = insertKeys old es
+
+      go : (t : Bool) → ltb maxCallKeys (length es) ≡ t → (u : Bool) → ltb maxKeys (length next) ≡ u
+          → (analyse file functions cs (at + 34) (before ++ (es ∷ [])) next ≡ analysed sets table → Holds K table) → Holds K table
+      go true over u g later =
+          let f : refused _ ≡ analysed sets table = sym (analyse-over file functions c cs at before old over) ∙ e in
+          let z : _≡_ {A = ℕ} 0 1 = cc in absurd (omega arith)
+      go false few true full later =
+          let f : refused _ ≡ analysed sets table = sym (analyse-full file functions c cs at before old few full) ∙ e in
+          let z : _≡_ {A = ℕ} 0 1 = cc in absurd (omega arith)
+      go false few false room later = later (sym (analyse-next file functions c cs at before old few room) ∙ e)
+
+-- Every key of an opened block's table is one that an opening cell may have.
+pub table-fits : (s : Sizes) (file : List ℕ) (workers : ℕ) → Bytes file → (o : AfterOpening s file workers) → Holds KeyFits (o .table)
+table-fits s file workers bytes o =
+    let b : Block = blockOf file in
+    let laws : Laws file b = o .whole .laws in
+    analysed-hold KeyFits file (b .functions) (b .calls) (b .first) [] (openingKeys b) (allSets file b) (o .table)
+    (opening-hold file bytes b laws)
+    (λ i c h.
+    let at : ℕ = b .first + 34 * i + 4 in
+    keyed-hold KeyFits (setsOf file (b .functions) (getD (b .calls) i c))
+    (sets-fit (getD (b .calls) i c)
+    (call-fits (drop at file) (drop-bytes at file bytes) (getD (b .calls) i c) (laws .calls i c h)) file bytes (functionOf (b .functions) (getD (b .calls) i c))))
+    (o .tabled .analysis)

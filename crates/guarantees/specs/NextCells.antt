@@ -1,0 +1,255 @@
+-- The non-zero cells of a state over a table of keys: they open a block, and what they open is the state. Assumes nothing.
+use mathlib.Core.Path.{_≡_, refl, sym, ap, subst, subst⁻¹, _∙_}
+use mathlib.Core.Bool.{Bool, true, false, _||_}
+use mathlib.Core.List.{List, [], _∷_, map}
+use Prim.Native.Nat.{ℕ, zero, suc, _+_, _-_, _^_, _≤_, _<_}
+use native.Mathlib.Nat.{le-refl}
+use native.Mathlib.Omega.{arith}
+use borrow.Author.Tests.{eqb-true, eq-eqb}
+use lib.Dec.{eqb}
+use lib.IntN.{ℤ, pos}
+use lib.ListN.{length, getD, drop}
+use lib.Signed.{mag, nonNeg}
+use Rattle.arith.specs.Balance.{total, noneBelowZero, withinLimit}
+use Rattle.arith.specs.BalanceLaws.{limit-within, within-limit}
+use Rattle.arith.specs.Choice.{if_then_else_}
+use Rattle.arith.specs.Compare.{eqZ}
+use Rattle.arith.specs.Laws.{P, eqZ-true}
+use Rattle.block.specs.Key.{addressOf, addressIn, fieldIn, aIn, bIn, isBalance, keyAllowed}
+use Rattle.block.specs.Limits.{maxCells}
+use Rattle.block.specs.Record.{Cell}
+use Rattle.block.specs.Reader.{balances}
+use Rattle.block.specs.declared.Address.{Address}
+use Rattle.block.specs.declared.Address.the-variants.{OfAccount, OfContract}
+use Rattle.footprint.specs.Conflict.{member}
+use Rattle.footprint.specs.LimitLaws.{balanceKey, balances-at, limit-balance}
+use Rattle.footprint.specs.Plan.{openingValue}
+use Rattle.footprint.specs.Rule.{State, balancesIn, stateWithinLimit}
+use Rattle.analysis.specs.KeyTable.{Above, Rising}
+use Rattle.guarantees.specs.CellRecords.{AllFit, Opens}
+use Rattle.guarantees.specs.KeyFits.{KeyFits, key-parts, Holds, holds-none, holds-cons}
+use Rattle.guarantees.specs.OpeningLaws.{both}
+use Rattle.guarantees.specs.OpeningLimit.{total-first}
+
+-- "all non-zero cells by key": those of a state, of the keys of a rising table.
+unfoldable pub cellsOf : State → List ℕ → List Cell
+cellsOf σ [] = []
+cellsOf σ (k ∷ ks) = if eqZ (σ k) (pos 0) then cellsOf σ ks else record { key = k; value = σ k } ∷ cellsOf σ ks
+
+-- ---- the table's first key and the others
+
+first-in : (k : ℕ) (ks : List ℕ) → member k (k ∷ ks) ≡ true
+unfolding member
+first-in k ks = rw (eq-eqb k k refl)
+
+later-in : (j k : ℕ) (ks : List ℕ) → member j ks ≡ true → member j (k ∷ ks) ≡ true
+unfolding member
+later-in j k ks m = go (eqb j k)
+  where
+    go : (t : Bool) → (t || member j ks) ≡ true
+    go true = refl
+    go false = m
+
+module _ (K : ℕ → Type 0) (k : ℕ) (ks : List ℕ) (all : Holds K (k ∷ ks)) where
+  pub holds-first : K k
+  holds-first = all k (first-in k ks)
+
+  pub holds-later : Holds K ks
+  holds-later j m = all j (later-in j k ks m)
+
+-- What holds of the cells of the first key and the others, shown of its two cases.
+cells-cases : (Q : List Cell → Type 0) (σ : State) (k : ℕ) (ks : List ℕ) → Q (cellsOf σ ks)
+    → (eqZ (σ k) (pos 0) ≡ false → Q (record { key = k; value = σ k } ∷ cellsOf σ ks)) → Q (cellsOf σ (k ∷ ks))
+unfolding cellsOf
+cells-cases Q σ k ks f g = go (eqZ (σ k) (pos 0)) refl
+  where
+    go : (t : Bool) → eqZ (σ k) (pos 0) ≡ t → Q (if t then cellsOf σ ks else record { key = k; value = σ k } ∷ cellsOf σ ks)
+    go true e = f
+    go false e = g e
+
+-- ---- what they open
+
+module _ (σ : State) (k : ℕ) where
+  -- "an absent cell reads 0"
+  pub cells-value : (table : List ℕ) → openingValue (cellsOf σ table) k ≡ (if member k table then σ k else pos 0)
+  unfolding openingValue cellsOf member
+  cells-value [] = refl
+  cells-value (l ∷ ls) = go (eqZ (σ l) (pos 0)) refl (eqb k l) refl (cells-value ls)
+    where
+      either : (t : Bool) → σ k ≡ pos 0 → (if t then σ k else pos 0) ≡ σ k
+      either true e = refl
+      either false e = sym e
+
+      go : (z : Bool) → eqZ (σ l) (pos 0) ≡ z → (t : Bool) → eqb k l ≡ t → openingValue (cellsOf σ ls) k ≡ (if member k ls then σ k else pos 0)
+          → openingValue (if z then cellsOf σ ls else record { key = l; value = σ l } ∷ cellsOf σ ls) k ≡ (if t || member k ls then σ k else pos 0)
+      go true none true e ih = ih ∙ either (member k ls) (ap σ (eqb-true k l e) ∙ eqZ-true (σ l) (pos 0) none)
+      go true none false e ih = ih
+      go false some true e ih = rw e (ap σ (sym (eqb-true k l e)))
+      go false some false e ih = rw e ih
+
+  module _ (table : List ℕ) where
+    pub cells-kept : member k table ≡ true → openingValue (cellsOf σ table) k ≡ σ k
+    cells-kept m = cells-value table ∙ rw m
+
+    pub cells-absent : member k table ≡ false → openingValue (cellsOf σ table) k ≡ pos 0
+    cells-absent m = cells-value table ∙ rw m
+
+-- ---- their number, order and ranges
+
+cells-few : (σ : State) (table : List ℕ) → length (cellsOf σ table) ≤ length table
+unfolding cellsOf
+cells-few σ [] = omega arith
+cells-few σ (k ∷ ks) =
+    let rest : length (cellsOf σ ks) ≤ length ks = cells-few σ ks in
+    cells-cases (λ (cs : List Cell). length cs ≤ suc (length ks)) σ k ks (omega arith) (λ e. omega arith)
+
+cells-above : (σ : State) (l : ℕ) (ks : List ℕ) → Above l ks → Above l (map (λ c. c .key) (cellsOf σ ks))
+unfolding cellsOf
+cells-above σ l [] a = tt
+cells-above σ l (k ∷ ks) a =
+    let rest : Above l (map (λ c. c .key) (cellsOf σ ks)) = cells-above σ l ks (a .1) in
+    cells-cases (λ (cs : List Cell). Above l (map (λ c. c .key) cs)) σ k ks rest (λ e. (a .0, rest))
+
+cells-rising : (σ : State) (table : List ℕ) → Rising table → Rising (map (λ c. c .key) (cellsOf σ table))
+unfolding cellsOf
+cells-rising σ [] r = tt
+cells-rising σ (k ∷ ks) r =
+    let rest : Rising (map (λ c. c .key) (cellsOf σ ks)) = cells-rising σ ks (r .1) in
+    cells-cases (λ (cs : List Cell). Rising (map (λ c. c .key) cs)) σ k ks rest (λ e. (cells-above σ k ks (r .0), rest))
+
+-- What a key and its value must keep for a cell to be allowed.
+pub record Kept (σ : State) (k : ℕ) : Type 0 where
+  pub key : KeyFits k
+  pub value : mag (σ k) < 2 ^ 63
+  pub above : isBalance k ≡ true → nonNeg (σ k) ≡ true
+
+cells-fit : (σ : State) (table : List ℕ) → Holds (Kept σ) table → AllFit (cellsOf σ table)
+unfolding cellsOf
+cells-fit σ [] all = tt
+cells-fit σ (k ∷ ks) all =
+    let own : Kept σ k = holds-first (Kept σ) k ks all in
+    let rest : AllFit (cellsOf σ ks) = cells-fit σ ks (holds-later (Kept σ) k ks all) in
+    cells-cases AllFit σ k ks rest (λ e. (record { key = own .key; value = own .value; some = e; above = own .above }, rest))
+
+-- The cells of a state open a block.
+pub cells-open : (σ : State) (table : List ℕ) → Rising table → length table ≤ maxCells → Holds (Kept σ) table
+    → withinLimit (balances (cellsOf σ table)) ≡ true → Opens (cellsOf σ table)
+cells-open σ table rising few kept limit =
+    record {
+      fit = cells-fit σ table kept;
+      rising = cells-rising σ table rising;
+      few = let less : length (cellsOf σ table) ≤ length table = cells-few σ table in omega arith;
+      limit = limit;
+    }
+
+-- ---- the limit of a state is that of its cells
+
+-- A fitting key with field 0 is that of its address's balance.
+no-parts : (address : Address) (a b : ℕ) → keyAllowed address 0 a b ≡ true → (a ≡ 0) × (b ≡ 0)
+unfolding keyAllowed
+no-parts (OfAccount account) a b e = let o = both (eqb a 0) (eqb b 0) e in (eqb-true a 0 (o .0), eqb-true b 0 (o .1))
+no-parts (OfContract contract) a b e = let o = both (eqb a 0) (eqb b 0) e in (eqb-true a 0 (o .0), eqb-true b 0 (o .1))
+
+pub balance-key : (k : ℕ) → KeyFits k → isBalance k ≡ true → (k ≡ balanceKey (addressIn k)) × (addressIn k < 65536)
+balance-key k fits own =
+    let field : fieldIn k ≡ 0 = eqb-true (fieldIn k) 0 own in
+    let small : k < 2 ^ 96 = fits .small in
+    let o : (aIn k ≡ 0) × (bIn k ≡ 0) = no-parts (addressOf (addressIn k)) (aIn k) (bIn k) (rw field at (fits .allowed)) in
+    (sym (rw (field, o .0, o .1) at (key-parts k)), omega arith)
+
+-- A sum of balances from a place on: the balance at the place, and those behind it.
+drop-total : (bs : List ℤ) (a : ℕ) → noneBelowZero bs ≡ true → P (total (drop a bs)) ≡ P (getD bs a (pos 0)) + P (total (drop (suc a) bs))
+unfolding noneBelowZero total
+drop-total [] zero e = refl
+drop-total [] (suc a) e = refl
+drop-total (b ∷ bs) zero e = let o = both (nonNeg b) (noneBelowZero bs) e in total-first b bs (o .0) (o .1)
+drop-total (b ∷ bs) (suc a) e = drop-total bs a (both (nonNeg b) (noneBelowZero bs) e .1)
+
+drop-falls : (bs : List ℤ) (d n a : ℕ) → a ≡ d + n → noneBelowZero bs ≡ true → P (total (drop a bs)) ≤ P (total (drop n bs))
+drop-falls bs zero n a h e = let same : a ≡ n = omega arith in rw same (le-refl _)
+drop-falls bs (suc d) n a h e =
+    let next : a ≡ suc (d + n) = omega arith in
+    rw next (omega (arith, drop-total bs (d + n) e, drop-falls bs d n (d + n) refl e))
+
+above-holds : (l : ℕ) (ks : List ℕ) → Above l ks → Holds (λ k. l < k) ks
+above-holds l [] a = holds-none (λ k. l < k)
+above-holds l (k ∷ ks) a = holds-cons (λ j. l < j) k ks (a .0) (above-holds l ks (a .1))
+
+module _ (σ : State) (within : stateWithinLimit σ ≡ true) where
+  abbrev all : List ℤ
+  all = balancesIn σ
+
+  none-below : noneBelowZero all ≡ true
+  none-below = limit-within all within .fromZero
+
+  -- A balance of a fitting key is from 0 up.
+  pub balance-above : (k : ℕ) → KeyFits k → isBalance k ≡ true → nonNeg (σ k) ≡ true
+  balance-above k fits own =
+      let o = balance-key k fits own in
+      subst⁻¹ (λ (j : ℕ). nonNeg (σ j) ≡ true) (o .0) (limit-balance σ within (addressIn k) (o .1) .0)
+
+  -- It is one of the balances from any place on that is not above its address.
+  balance-counted : (k n : ℕ) → KeyFits k → isBalance k ≡ true → n ≤ addressIn k
+      → P (σ k) + P (total (drop (suc (addressIn k)) all)) ≤ P (total (drop n all))
+  balance-counted k n fits own up =
+      let a : ℕ = addressIn k in
+      let o = balance-key k fits own in
+      let here : getD all a (pos 0) ≡ σ k = balances-at σ a (o .1) ∙ ap σ (sym (o .0)) in
+      let counted : P (total (drop a all)) ≡ P (σ k) + P (total (drop (suc a) all)) =
+      subst (λ (z : ℤ). P (total (drop a all)) ≡ P z + P (total (drop (suc a) all))) here (drop-total all a none-below) in
+      omega (arith, drop-falls all (a - n) n a (omega arith) none-below)
+
+  -- Balances of which none is below zero, and which add up to no more than all balances from n on; and keys of balances from n on.
+  abbrev Counted : ℕ → List ℤ → Type 0
+  Counted n bs = (noneBelowZero bs ≡ true) × (P (total bs) ≤ P (total (drop n all)))
+
+  abbrev From : ℕ → ℕ → Type 0
+  From n k = isBalance k ≡ true → n ≤ addressIn k
+
+  counted-first : (k n : ℕ) (bs : List ℤ) → KeyFits k → isBalance k ≡ true → n ≤ addressIn k → Counted (suc (addressIn k)) bs → Counted n (σ k ∷ bs)
+  unfolding noneBelowZero
+  counted-first k n bs fits own up c =
+      let above : nonNeg (σ k) ≡ true = balance-above k fits own in
+      let rest : P (total bs) ≤ P (total (drop (suc (addressIn k)) all)) = c .1 in
+      let more : P (σ k) + P (total (drop (suc (addressIn k)) all)) ≤ P (total (drop n all)) = balance-counted k n fits own up in
+      let first : P (total (σ k ∷ bs)) ≡ P (σ k) + P (total bs) = total-first (σ k) bs above (c .0) in
+      (rw above (c .0), omega arith)
+
+  -- A fitting balance key above another has a greater address.
+  from-next : (k j : ℕ) → KeyFits k → isBalance k ≡ true → KeyFits j → k < j → From (suc (addressIn k)) j
+  from-next k j fk own fj less own′ =
+      let a : ℕ = addressIn k in
+      let b : ℕ = addressIn j in
+      let ek : k ≡ balanceKey a = balance-key k fk own .0 in
+      let ej : j ≡ balanceKey b = balance-key j fj own′ .0 in
+      multiples a b k j ek ej less
+    where
+      multiples : (a b k j : ℕ) → k ≡ balanceKey a → j ≡ balanceKey b → k < j → suc a ≤ b
+      multiples a b k j ek ej less = omega arith
+
+  -- The balances of rising keys whose addresses are not below n are such balances.
+  balances-counted : (ks : List ℕ) (n : ℕ) → Rising ks → Holds KeyFits ks → Holds (From n) ks → Counted n (balances (cellsOf σ ks))
+  unfolding cellsOf balances total noneBelowZero
+  balances-counted [] n r fit low = (refl, omega arith)
+  balances-counted (k ∷ ks) n r fit low =
+      let later : (m : ℕ) → Holds (From m) ks → Counted m (balances (cellsOf σ ks)) = λ m. balances-counted ks m (r .1) (holds-later KeyFits k ks fit) in
+      cells-cases (λ (cs : List Cell). Counted n (balances cs)) σ k ks (later n (holds-later (From n) k ks low))
+      (λ e. go later (isBalance k) refl)
+    where
+      own-fits : KeyFits k
+      own-fits = holds-first KeyFits k ks fit
+
+      go : ((m : ℕ) → Holds (From m) ks → Counted m (balances (cellsOf σ ks)))
+          → (t : Bool) → isBalance k ≡ t → Counted n (if t then σ k ∷ balances (cellsOf σ ks) else balances (cellsOf σ ks))
+      go later true own =
+          counted-first k n (balances (cellsOf σ ks)) own-fits own (holds-first (From n) k ks low own)
+          (later (suc (addressIn k)) (λ j m. from-next k j own-fits own (holds-later KeyFits k ks fit j m) (above-holds k ks (r .0) j m)))
+      go later false own = later n (holds-later (From n) k ks low)
+
+  -- The balances among the cells of a state within the limit keep the limit.
+  pub cells-limit : (table : List ℕ) → Rising table → Holds KeyFits table → withinLimit (balances (cellsOf σ table)) ≡ true
+  cells-limit table rising fit =
+      let c : Counted 0 (balances (cellsOf σ table)) = balances-counted table 0 rising fit (λ k m own. omega arith) in
+      let most : P (total all) < 2 ^ 63 = limit-within all within .atMost in
+      let le : P (total (balances (cellsOf σ table))) ≤ P (total all) = c .1 in
+      within-limit (balances (cellsOf σ table)) (record { fromZero = c .0; atMost = omega arith })

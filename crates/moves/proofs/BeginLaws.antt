@@ -1,0 +1,152 @@
+-- The mathematics of the proofs of `begin`, over plain variables: the ways of BEGIN are those of its definition. Assumes nothing.
+use mathlib.Core.Path.{_≡_, refl, sym, _∙_}
+use mathlib.Core.Bool.{Bool, true, false, not}
+use mathlib.Core.List.{List}
+use Prim.Native.Nat.{ℕ, _+_, _*_, _≤_, _<_}
+use borrow.Author.Tests.{eq-eqb, ne-eqb, lt-ltb, le-ltb, le-leb, lt-leb}
+use lib.Dec.{eqb, leb, ltb}
+use lib.IntN.{ℤ}
+use lib.ListN.{set}
+use Rattle.arith.specs.Choice.{if_then_else_}
+use Rattle.wire.specs.Bytes.{stored}
+use Rattle.block.specs.Limits.{maxCalls, maxCallKeys}
+use Rattle.machine.specs.Run.{Run, entriesOf, largeEnough, rowIn, seatOf, sizesOf, stateOf, withSeat, zeroRegisters}
+use Rattle.machine.specs.Step.{restorable, savedOf}
+use Rattle.machine.specs.Moves.{Moved, stay, keysOf, earlierBroken, earlierFinished, beginCall, beginChecked, beginOf}
+use Rattle.machine.specs.declared.Head.{Head}
+use Rattle.machine.specs.declared.Seat.{Seat}
+use Rattle.machine.specs.declared.Answer.{Answer}
+use Rattle.machine.specs.declared.Answer.the-variants.{Accepted, Damaged, NoCall, WorkerBusy, NotWaiting, EarlierUnfinished}
+use Rattle.moves.specs.Lent.{lent, moved}
+use Rattle.moves.specs.Tests.{behind, workerTested, earlierOf, FewKeys}
+use Rattle.moves.specs.declared.Tested.{Tested}
+use Rattle.moves.specs.declared.Tested.the-variants.{Passed, Refused}
+use Rattle.moves.specs.declared.Earlier.{Earlier}
+use Rattle.moves.specs.declared.Earlier.the-variants.{Broken, Unfinished, Finished}
+use Rattle.moves.proofs.HeldLaws.{worker-behind}
+
+-- ---- behind tests
+
+module _ (r : Run) (on : Moved) {t : Tested} {y : Moved} where
+  pub behind-stop : {a : Answer} → t ≡ Refused a → behind t (stay r) on ≡ y → stay r a ≡ y
+  behind-stop e h = rw e at h
+
+  pub behind-on : {x : Moved} → t ≡ Passed → behind t (stay r) on ≡ y → x ≡ on → x ≡ y
+  behind-on e h f = f ∙ (rw e at h)
+
+pub few-keys : {t : Tested} {n k : ℕ} → t ≡ Passed → FewKeys t k → n ≡ k → n ≤ maxCallKeys
+few-keys e h f = rw f (rw e at h)
+
+pub few-counted : {n k : ℕ} → n ≡ k → n ≤ maxCallKeys → k ≤ maxCallKeys
+few-counted f h = rw f at h
+
+-- ---- what the head tells
+
+-- What is left behind the tests of the worker, from the number of calls and the seat's entry.
+abbrev beginNext : Run → ℕ → ℕ → ℕ → ℕ → Moved
+beginNext r w c calls busy =
+    if ltb maxCalls calls
+    then stay r Damaged
+    else if leb calls c
+    then stay r NoCall
+    else if ltb calls busy
+    then stay r Damaged
+    else if not (eqb busy 0)
+    then stay r WorkerBusy
+    else beginChecked r w c
+
+module _ (h : Head) (w c : ℕ) (plan keys status : List ℕ) (cells olds : List ℤ) {large : Bool} (sized : large ≡ largeEnough (sizesOf (lent h plan keys cells status olds)))
+    {t : Tested} (tested : t ≡ workerTested large (h .workers) w) where
+  begin-behind : behind t (stay (lent h plan keys cells status olds)) (beginNext (lent h plan keys cells status olds) w c (h .calls) (seatOf h w .call))
+      ≡ beginOf (lent h plan keys cells status olds) w c
+  unfolding beginOf
+  begin-behind = rw (tested, sized) (worker-behind _ _ _ _ _)
+
+  pub begin-refused : {a : Answer} → t ≡ Refused a → stay (lent h plan keys cells status olds) a ≡ beginOf (lent h plan keys cells status olds) w c
+  begin-refused e = rw e at begin-behind
+
+  module _ (on : t ≡ Passed) where
+    begin-next : beginNext (lent h plan keys cells status olds) w c (h .calls) (seatOf h w .call) ≡ beginOf (lent h plan keys cells status olds) w c
+    begin-next = rw on at begin-behind
+
+    pub begin-many : maxCalls < h .calls → stay (lent h plan keys cells status olds) Damaged ≡ beginOf (lent h plan keys cells status olds) w c
+    begin-many l = sym (simp (lt-ltb maxCalls (h .calls) l)) ∙ begin-next
+
+    pub begin-past : h .calls ≤ maxCalls → h .calls ≤ c → stay (lent h plan keys cells status olds) NoCall ≡ beginOf (lent h plan keys cells status olds) w c
+    begin-past few l = sym (simp (le-ltb maxCalls (h .calls) few, le-leb (h .calls) c l)) ∙ begin-next
+
+    module _ (few : h .calls ≤ maxCalls) (own : c < h .calls) {s : Seat} (seat : s ≡ seatOf h w) where
+      begin-seat : beginNext (lent h plan keys cells status olds) w c (h .calls) (s .call) ≡ beginOf (lent h plan keys cells status olds) w c
+      begin-seat = rw seat begin-next
+
+      pub begin-lost : h .calls < s .call → stay (lent h plan keys cells status olds) Damaged ≡ beginOf (lent h plan keys cells status olds) w c
+      begin-lost l = sym (simp (le-ltb maxCalls (h .calls) few, lt-leb (h .calls) c own, lt-ltb (h .calls) (s .call) l)) ∙ begin-seat
+
+      pub begin-busy : s .call ≤ h .calls → (s .call ≡ 0 → ⊥) → stay (lent h plan keys cells status olds) WorkerBusy ≡ beginOf (lent h plan keys cells status olds) w c
+      begin-busy l some = sym (simp (le-ltb maxCalls (h .calls) few, lt-leb (h .calls) c own, le-ltb (h .calls) (s .call) l, ne-eqb (s .call) 0 some)) ∙ begin-seat
+
+      pub begin-free : s .call ≤ h .calls → s .call ≡ 0 → beginChecked (lent h plan keys cells status olds) w c ≡ beginOf (lent h plan keys cells status olds) w c
+      begin-free l e = sym (simp (le-ltb maxCalls (h .calls) few, lt-leb (h .calls) c own, le-ltb (h .calls) (s .call) l, eq-eqb (s .call) 0 e)) ∙ begin-seat
+
+-- ---- what the plan and the states tell
+
+-- The answer on the earlier calls leads each one way.
+abbrev onEarlier : {A : Type 0} → Earlier → A → A → A → A
+onEarlier Broken x y z = x
+onEarlier Unfinished x y z = y
+onEarlier Finished x y z = z
+
+on-earlier : {A : Type 0} (row status : List ℕ) (c : ℕ) (x y z : A)
+    → onEarlier (earlierOf row status c) x y z
+    ≡ (if earlierBroken row status c then x else if not (earlierFinished row status c) then y else z)
+unfolding earlierOf
+on-earlier row status c x y z = go (earlierBroken row status c) (earlierFinished row status c)
+  where
+    go : (a b : Bool) → onEarlier (if a then Broken else if b then Finished else Unfinished) x y z ≡ (if a then x else if not b then y else z)
+    go true b = refl
+    go false true = refl
+    go false false = refl
+
+module _ (h : Head) (plan keys status : List ℕ) (cells olds : List ℤ) (w c : ℕ) {s : ℕ} (state : s ≡ stateOf status c) where
+  pub checked-broken : 2 < s → stay (lent h plan keys cells status olds) Damaged ≡ beginChecked (lent h plan keys cells status olds) w c
+  unfolding beginChecked
+  checked-broken l = rw (← state, lt-leb s 2 l)
+
+  pub checked-begun : s ≤ 2 → (s ≡ 0 → ⊥) → stay (lent h plan keys cells status olds) NotWaiting ≡ beginChecked (lent h plan keys cells status olds) w c
+  unfolding beginChecked
+  checked-begun l some = rw (← state, le-leb s 2 l, ne-eqb s 0 some)
+
+  -- A waiting call: its earlier conflicting calls, and then its entries.
+  module _ (l : s ≤ 2) (waits : s ≡ 0) {row : List ℕ} (is-row : row ≡ rowIn plan c) {e : Earlier} (is-earlier : e ≡ earlierOf row status c) where
+    waiting : onEarlier e (stay (lent h plan keys cells status olds) Damaged) (stay (lent h plan keys cells status olds) EarlierUnfinished)
+        (if not (restorable (keysOf plan c) (entriesOf plan c (keysOf plan c)))
+        then stay (lent h plan keys cells status olds) Damaged
+        else moved Accepted (beginCall (lent h plan keys cells status olds) w c))
+        ≡ beginChecked (lent h plan keys cells status olds) w c
+    unfolding beginChecked
+    waiting = rw (← state, le-leb s 2 l, eq-eqb s 0 waits, is-earlier, is-row) (on-earlier _ _ _ _ _ _)
+
+    pub waiting-broken : e ≡ Broken → stay (lent h plan keys cells status olds) Damaged ≡ beginChecked (lent h plan keys cells status olds) w c
+    waiting-broken f = rw f at waiting
+
+    pub waiting-unfinished : e ≡ Unfinished → stay (lent h plan keys cells status olds) EarlierUnfinished ≡ beginChecked (lent h plan keys cells status olds) w c
+    waiting-unfinished f = rw f at waiting
+
+    module _ (f : e ≡ Finished) {n : ℕ} (count : n ≡ keysOf plan c) where
+      pub waiting-damaged : false ≡ restorable n (entriesOf plan c n) → stay (lent h plan keys cells status olds) Damaged ≡ beginChecked (lent h plan keys cells status olds) w c
+      waiting-damaged r = rw (f, ← count, ← r) at waiting
+
+      pub waiting-good : true ≡ restorable n (entriesOf plan c n)
+          → moved Accepted (beginCall (lent h plan keys cells status olds) w c) ≡ beginChecked (lent h plan keys cells status olds) w c
+      waiting-good r = rw (f, ← count, ← r) at waiting
+
+-- ---- the change
+
+pub begun : (h : Head) (plan keys status : List ℕ) (cells olds : List ℤ) (w c : ℕ) {n : ℕ} → n ≡ keysOf plan c
+    → {h′ : Head} {status′ : List ℕ} {olds′ : List ℤ}
+    → olds′ ≡ stored olds (maxCallKeys * w) (savedOf (entriesOf plan c n) cells)
+    → status′ ≡ set status (4 * c) 1
+    → h′ ≡ withSeat h w (record { call = c + 1; place = 0; count = 0; regs = zeroRegisters })
+    → moved Accepted (lent h′ plan keys cells status′ olds′) ≡ moved Accepted (beginCall (lent h plan keys cells status olds) w c)
+unfolding beginCall
+begun h plan keys status cells olds w c count e f g = rw (e, f, g, count)

@@ -1,0 +1,42 @@
+-- The mathematics of the proofs of `cancel`, over plain variables: the ways of CANCEL are those of its definition. Assumes nothing.
+use mathlib.Core.Path.{_≡_, ap, _∙_}
+use mathlib.Core.Bool.{true, false}
+use mathlib.Core.List.{List}
+use Prim.Native.Nat.{ℕ, _*_}
+use lib.IntN.{ℤ}
+use lib.ListN.{set}
+use Rattle.machine.specs.Run.{entriesOf, idleSeat, withSeat}
+use Rattle.machine.specs.Step.{restorable, restored}
+use Rattle.machine.specs.Moves.{Moved, answered, holds, heldBy, keysOf, oldsOf, cancelHeld, cancelFor, cancelOf}
+use Rattle.machine.specs.declared.Head.{Head}
+use Rattle.machine.specs.declared.Seat.{Seat}
+use Rattle.machine.specs.declared.Answer.{Answer}
+use Rattle.machine.specs.declared.Answer.the-variants.{Accepted, Damaged}
+use Rattle.moves.specs.Lent.{lent, moved}
+
+module _ (h : Head) (w : ℕ) (plan keys status : List ℕ) (cells olds : List ℤ) where
+  pub cancel-answered : {a : Answer} → answered a ≡ heldBy (lent h plan keys cells status olds) w
+      → moved a (lent h plan keys cells status olds) ≡ cancelOf (lent h plan keys cells status olds) w
+  unfolding cancelFor
+  cancel-answered e = ap (cancelFor (lent h plan keys cells status olds) w) e
+
+  pub cancel-holds : {c : ℕ} {m : Moved} → holds c ≡ heldBy (lent h plan keys cells status olds) w
+      → m ≡ cancelHeld (lent h plan keys cells status olds) w c → m ≡ cancelOf (lent h plan keys cells status olds) w
+  unfolding cancelFor
+  cancel-holds e f = f ∙ ap (cancelFor (lent h plan keys cells status olds) w) e
+
+  module _ (c : ℕ) {n : ℕ} (count : n ≡ keysOf plan c) where
+    pub cancel-damaged : false ≡ restorable n (entriesOf plan c n)
+        → moved Damaged (lent h plan keys cells status olds) ≡ cancelHeld (lent h plan keys cells status olds) w c
+    unfolding cancelHeld
+    cancel-damaged r = rw (← count, ← r)
+
+    pub cancel-done : true ≡ restorable n (entriesOf plan c n)
+        → {cells′ : List ℤ} {status′ : List ℕ} {h′ : Head} {s : Seat}
+        → cells′ ≡ restored (entriesOf plan c n) (oldsOf olds w n) cells
+        → status′ ≡ set status (4 * c) 0
+        → s ≡ idleSeat
+        → h′ ≡ withSeat h w s
+        → moved Accepted (lent h′ plan keys cells′ status′ olds) ≡ cancelHeld (lent h plan keys cells status olds) w c
+    unfolding cancelHeld
+    cancel-done r e f g k = rw (← count, ← r, e, f, k, g)

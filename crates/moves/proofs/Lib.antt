@@ -1,0 +1,5 @@
+mod BeginLaws
+mod CancelLaws
+mod EarlierLaws
+mod EntryLaws
+mod HeldLaws

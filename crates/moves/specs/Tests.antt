@@ -1,0 +1,42 @@
+-- What the tests of a move find, as the code answers it: how a move goes on behind them. Assumes nothing.
+use mathlib.Core.Bool.{Bool, _||_, not}
+use mathlib.Core.List.{List}
+use Prim.Native.Nat.{ℕ, _≤_}
+use lib.Dec.{eqb, leb, ltb}
+use Rattle.arith.specs.Choice.{if_then_else_}
+use Rattle.block.specs.Limits.{maxCallKeys, maxWorkers}
+use Rattle.machine.specs.Moves.{earlierBroken, earlierFinished}
+use Rattle.machine.specs.declared.Answer.{Answer}
+use Rattle.machine.specs.declared.Answer.the-variants.{Damaged, NoWorker}
+use Rattle.moves.specs.declared.Tested.{Tested}
+use Rattle.moves.specs.declared.Tested.the-variants.{Passed, Refused}
+use Rattle.moves.specs.declared.Earlier.{Earlier}
+use Rattle.moves.specs.declared.Earlier.the-variants.{Broken, Unfinished, Finished}
+
+-- What follows tests: a refusal ends the move, else it goes on.
+abbrev pub behind : {A : Type 0} → Tested → (Answer → A) → A → A
+behind Passed stop on = on
+behind (Refused a) stop on = stop a
+
+-- What every move tests first: 20 for the sizes and the number of workers, 21 for the worker.
+unfoldable pub workerTested : Bool → ℕ → ℕ → Tested
+workerTested large workers w =
+    if not large || eqb workers 0 || ltb maxWorkers workers
+    then Refused Damaged
+    else if leb workers w
+    then Refused NoWorker
+    else Passed
+
+-- The earlier conflicting calls of call c, in one answer.
+unfoldable pub earlierOf : List ℕ → List ℕ → ℕ → Earlier
+earlierOf row status c =
+    if earlierBroken row status c
+    then Broken
+    else if earlierFinished row status c
+    then Finished
+    else Unfinished
+
+-- A call whose tests are passed has few enough keys.
+abbrev pub FewKeys : Tested → ℕ → Type 0
+FewKeys Passed n = n ≤ maxCallKeys
+FewKeys (Refused a) n = Unit {0}

@@ -1,0 +1,198 @@
+// BEGIN by value: the tests of the worker, of the call and of its earlier conflicting calls, and the change.
+use crate::Earlier;
+use crate::Reply;
+use crate::Tested;
+use crate::entries::key_count;
+use crate::entries::restorable;
+use crate::entries::save;
+use crate::held::large_enough;
+use crate::held::seat_at;
+use crate::held::with_seat;
+use crate::held::worker_tested;
+use crate::layout::FINISHED;
+use crate::layout::PLAN_WORDS;
+use crate::layout::ROW;
+use crate::layout::RUNNING;
+use crate::layout::STATUS_WORDS;
+use crate::layout::WAITING;
+use block::limits::MAX_CALLS;
+use machine::Answer;
+use machine::Head;
+use machine::Seat;
+ghost use mathlib.Core.Path.{_≡_};
+ghost use mathlib.Core.List.{List};
+ghost use Prim.Native.Nat.{ℕ, _≤_, _<_};
+ghost use lib.IntN.{ℤ};
+ghost use lib.ListN.{length};
+ghost use Rattle.arith.specs.Choice.{if_then_else_};
+ghost use Rattle.block.specs.Limits.{maxCalls, maxWorkers};
+ghost use Rattle.machine.specs.Run.{fixedSizes, largeEnough, rowIn, sizesOf, stateOf};
+ghost use Rattle.machine.specs.Moves.{beginCall, beginChecked, beginOf, keysOf, stay};
+ghost use Rattle.machine.specs.declared.Head.{Head};
+ghost use Rattle.machine.specs.declared.Answer.the-variants.{Accepted};
+ghost use Rattle.moves.specs.Lent.{lent, moved};
+ghost use Rattle.moves.specs.Tests.{behind, earlierOf, FewKeys};
+ghost use Rattle.moves.specs.HeldCall.{PassedInRun};
+ghost use Rattle.moves.specs.declared.Earlier.the-variants.{Unfinished, Finished};
+
+// The state of a call.
+fn state_of(status: &[u64], call: usize) -> u64
+    requires { ⌜ call < maxCalls ⌝ }
+    ensures { λ r. ⌜ r ≡ stateOf (now (status .entry)) call ⌝ }
+{
+    wire::word(status, STATUS_WORDS * call)
+}
+
+// The row of a call's earlier conflicting calls.
+fn row_of(plan: &[u64], call: usize) -> [u64; 4]
+    requires { ⌜ call < maxCalls ⌝ }
+    requires { ⌜ fixedSizes .plan ≤ length (now plan) ⌝ }
+    ensures { λ r. ⌜ r ≡ rowIn (now (plan .entry)) call ⌝ }
+{
+    let at = PLAN_WORDS * call + ROW;
+    [plan[at], plan[at + 1], plan[at + 2], plan[at + 3]]
+}
+
+// The states of the earlier calls whose bits are set in a row; only these are looked at.
+fn earlier(row: [u64; 4], status: &[u64], call: usize) -> Earlier
+    requires { ⌜ call < maxCalls ⌝ }
+    ensures { λ r. ⌜ r ≡ earlierOf row (now (status .entry)) call ⌝ }
+{
+    let mut unfinished = false;
+    let mut from = 0;
+    while from < call {
+        let at = wire::row_next(row, from);
+        if call <= at {
+            return settled(unfinished);
+        }
+        let state = state_of(status, at);
+        if FINISHED < state {
+            return Earlier::Broken;
+        }
+        unfinished = unfinished | (state != FINISHED);
+        from = at + 1;
+    }
+    settled(unfinished)
+}
+
+// The answer where every state is one.
+fn settled(unfinished: bool) -> Earlier
+    ensures { λ r. ⌜ r ≡ (if unfinished then Unfinished else Finished) ⌝ }
+{
+    if unfinished {
+        Earlier::Unfinished
+    } else {
+        Earlier::Finished
+    }
+}
+
+// 20, 21, 22 and 23: what the head tells of the worker and the call.
+fn head_tested(head: Head, large: bool, worker: usize, call: usize) -> Tested
+    ensures { λ r. ⌜ ((plan keys status : List ℕ) (cells olds : List ℤ) → large ≡ largeEnough (sizesOf (lent head plan keys cells status olds)) → behind r (stay (lent head plan keys cells status olds)) (beginChecked (lent head plan keys cells status olds) worker call) ≡ beginOf (lent head plan keys cells status olds) worker call) ⌝ }
+    ensures { λ r. ⌜ PassedInRun r large worker call ⌝ }
+{
+    if let Tested::Refused(answer) = worker_tested(head.workers, large, worker) {
+        return Tested::Refused(answer);
+    }
+    if MAX_CALLS < head.calls {
+        return Tested::Refused(Answer::Damaged);
+    }
+    if head.calls <= call {
+        return Tested::Refused(Answer::NoCall);
+    }
+    let busy = seat_at(head, worker).call;
+    if head.calls < busy {
+        return Tested::Refused(Answer::Damaged);
+    }
+    if busy != 0 {
+        return Tested::Refused(Answer::WorkerBusy);
+    }
+    Tested::Passed
+}
+
+// 24, 25, and 20 for what these and the change look at: the states, the number of keys and the entries.
+fn call_tested(plan: &[u64], status: &[u64], call: usize) -> Tested
+    requires { ⌜ call < maxCalls ⌝ }
+    requires { ⌜ fixedSizes .plan ≤ length (now plan) ⌝ }
+    ensures { λ r. ⌜ ((head : Head) (keys : List ℕ) (cells olds : List ℤ) (w : ℕ) → behind r (stay (lent head (now (plan .entry)) keys cells (now (status .entry)) olds)) (moved Accepted (beginCall (lent head (now (plan .entry)) keys cells (now (status .entry)) olds) w call)) ≡ beginChecked (lent head (now (plan .entry)) keys cells (now (status .entry)) olds) w call) ⌝ }
+    ensures { λ r. ⌜ FewKeys r (keysOf (now (plan .entry)) call) ⌝ }
+{
+    let state = state_of(status, call);
+    if FINISHED < state {
+        return Tested::Refused(Answer::Damaged);
+    }
+    if state != WAITING {
+        return Tested::Refused(Answer::NotWaiting);
+    }
+    match earlier(row_of(plan, call), status, call) {
+        Earlier::Broken => Tested::Refused(Answer::Damaged),
+        Earlier::Unfinished => Tested::Refused(Answer::EarlierUnfinished),
+        Earlier::Finished => {
+            let n = key_count(plan, call);
+            if restorable(plan, call, n) {
+                Tested::Passed
+            } else {
+                Tested::Refused(Answer::Damaged)
+            }
+        }
+    }
+}
+
+// The call that the tests of the head let through: its own tests, and the change.
+fn begin_call(
+    head: Head,
+    plan: &[u64],
+    cells: &[i64],
+    status: &mut [u64],
+    olds: &mut [i64],
+    worker: usize,
+    call: usize,
+) -> Reply
+    requires { ⌜ call < maxCalls ⌝ }
+    requires { ⌜ worker < maxWorkers ⌝ }
+    requires { ⌜ fixedSizes .plan ≤ length (now plan) ⌝ }
+    ensures { λ r. ⌜ ((keys : List ℕ) → moved (r .answer) (lent (r .head) (now (plan .entry)) keys (now (cells .entry)) (now (status .exit)) (now (olds .exit))) ≡ beginChecked (lent head (now (plan .entry)) keys (now (cells .entry)) (now (status .entry)) (now (olds .entry))) worker call) ⌝ }
+{
+    if let Tested::Refused(answer) = call_tested(plan, status, call) {
+        return Reply { head, answer };
+    }
+    let n = key_count(plan, call);
+    save(plan, call, n, cells, olds, worker);
+    wire::put_word(status, STATUS_WORDS * call, RUNNING);
+    let seat = Seat {
+        call: call + 1,
+        place: 0,
+        count: 0,
+        regs: [0; 8],
+    };
+    Reply {
+        head: with_seat(head, worker, seat),
+        answer: Answer::Accepted,
+    }
+}
+
+// BEGIN(worker, call): running, at entry, the old values of the write set kept.
+pub fn begin(
+    head: Head,
+    plan: &[u64],
+    keys: &[u64],
+    cells: &[i64],
+    status: &mut [u64],
+    olds: &mut [i64],
+    worker: usize,
+    call: usize,
+) -> Reply
+    ensures { λ r. ⌜ moved (r .answer) (lent (r .head) (now (plan .entry)) (now (keys .entry)) (now (cells .entry)) (now (status .exit)) (now (olds .exit))) ≡ beginOf (lent head (now (plan .entry)) (now (keys .entry)) (now (cells .entry)) (now (status .entry)) (now (olds .entry))) worker call ⌝ }
+{
+    let large = large_enough(
+        plan.len(),
+        keys.len(),
+        cells.len(),
+        status.len(),
+        olds.len(),
+    );
+    if let Tested::Refused(answer) = head_tested(head, large, worker, call) {
+        return Reply { head, answer };
+    }
+    begin_call(head, plan, cells, status, olds, worker, call)
+}

@@ -1,0 +1,118 @@
+// A call's entries in the plan: their number, whether they can be used to keep and to restore, the old values kept, and the cells restored.
+use crate::layout::FIRST_ENTRY;
+use crate::layout::FLAGS;
+use crate::layout::KEY_COUNT;
+use crate::layout::PLAN_WORDS;
+use crate::layout::WRITES;
+use block::limits::MAX_CALL_KEYS;
+use block::limits::MAX_KEYS;
+ghost use mathlib.Core.Path.{_≡_};
+ghost use mathlib.Core.Bool.{_&&_, _||_, not};
+ghost use Prim.Native.Nat.{_*_, _%_, _≤_, _<_};
+ghost use lib.Dec.{eqb, ltb};
+ghost use lib.IntN.{pos};
+ghost use lib.ListN.{length, set};
+ghost use Rattle.arith.specs.Choice.{if_then_else_};
+ghost use Rattle.wire.specs.Bytes.{stored};
+ghost use Rattle.block.specs.Limits.{maxCalls, maxCallKeys, maxKeys, maxWorkers};
+ghost use Rattle.machine.specs.Run.{fixedSizes, entriesOf, entryCell, entryWrites};
+ghost use Rattle.machine.specs.Step.{cellAt, restorable, restored, savedOf};
+ghost use Rattle.machine.specs.Moves.{keysOf, oldsOf};
+
+// The number of a call's keys.
+pub(crate) fn key_count(plan: &[u64], c: usize) -> usize
+    requires { ⌜ c < maxCalls ⌝ }
+    ensures { λ r. ⌜ r ≡ keysOf (now (plan .entry)) c ⌝ }
+{
+    wire::word(plan, PLAN_WORDS * c + KEY_COUNT) as usize
+}
+
+// Whether one entry has a flag and, where it is written, a cell number of the table.
+fn entry_allowed(entry: u64) -> bool
+    ensures { λ r. ⌜ r ≡ (not (eqb (entry % 4) 0) && (not (entryWrites entry) || ltb (entryCell entry) maxKeys)) ⌝ }
+{
+    let flags = entry % FLAGS;
+    if flags == 0 {
+        return false;
+    }
+    if flags < WRITES {
+        return true;
+    }
+    ((entry / FLAGS) as usize) < MAX_KEYS
+}
+
+// Whether the n entries of a call can be used to keep and to restore.
+pub(crate) fn restorable(plan: &[u64], c: usize, n: usize) -> bool
+    requires { ⌜ c < maxCalls ⌝ }
+    requires { ⌜ fixedSizes .plan ≤ length (now plan) ⌝ }
+    ensures { λ r. ⌜ r ≡ restorable n (entriesOf (now (plan .entry)) c n) ⌝ }
+{
+    if MAX_CALL_KEYS < n {
+        return false;
+    }
+    let first = PLAN_WORDS * c + FIRST_ENTRY;
+    let mut k = 0;
+    while k < n {
+        if !entry_allowed(plan[first + k]) {
+            return false;
+        }
+        k += 1;
+    }
+    true
+}
+
+// The value to keep for an entry: its cell's where the entry is written, else 0.
+fn old_value(cells: &[i64], entry: u64) -> i64
+    ensures { λ r. ⌜ r ≡ (if entryWrites entry then cellAt (now (cells .entry)) (entryCell entry) else pos 0) ⌝ }
+{
+    if entry % FLAGS < WRITES {
+        return 0;
+    }
+    wire::value(cells, (entry / FLAGS) as usize)
+}
+
+// The old values of a call's n entries, kept for the worker w.
+pub(crate) fn save(plan: &[u64], c: usize, n: usize, cells: &[i64], olds: &mut [i64], w: usize)
+    requires { ⌜ c < maxCalls ⌝ }
+    requires { ⌜ n ≤ maxCallKeys ⌝ }
+    requires { ⌜ w < maxWorkers ⌝ }
+    requires { ⌜ fixedSizes .plan ≤ length (now plan) ⌝ }
+    ensures { λ r. ⌜ now (olds .exit) ≡ stored (now (olds .entry)) (maxCallKeys * w) (savedOf (entriesOf (now (plan .entry)) c n) (now (cells .entry))) ⌝ }
+{
+    let first = PLAN_WORDS * c + FIRST_ENTRY;
+    let base = MAX_CALL_KEYS * w;
+    let mut k = 0;
+    while k < n {
+        let old = old_value(cells, plan[first + k]);
+        wire::put_value(olds, base + k, old);
+        k += 1;
+    }
+}
+
+// The cell of an entry that is written gets its old value back.
+fn put_back(cells: &mut [i64], entry: u64, old: i64)
+    ensures { λ r. ⌜ now (cells .exit) ≡ (if entryWrites entry then set (now (cells .entry)) (entryCell entry) old else now (cells .entry)) ⌝ }
+{
+    if WRITES <= entry % FLAGS {
+        wire::put_value(cells, (entry / FLAGS) as usize, old);
+    }
+}
+
+// The cells of a call's n entries, restored to the values that the worker w keeps.
+pub(crate) fn restore(plan: &[u64], c: usize, n: usize, olds: &[i64], w: usize, cells: &mut [i64])
+    requires { ⌜ c < maxCalls ⌝ }
+    requires { ⌜ n ≤ maxCallKeys ⌝ }
+    requires { ⌜ w < maxWorkers ⌝ }
+    requires { ⌜ fixedSizes .plan ≤ length (now plan) ⌝ }
+    requires { ⌜ fixedSizes .olds ≤ length (now olds) ⌝ }
+    ensures { λ r. ⌜ now (cells .exit) ≡ restored (entriesOf (now (plan .entry)) c n) (oldsOf (now (olds .entry)) w n) (now (cells .entry)) ⌝ }
+{
+    let first = PLAN_WORDS * c + FIRST_ENTRY;
+    let base = MAX_CALL_KEYS * w;
+    let mut k = 0;
+    while k < n {
+        let old = wire::value(olds, base + k);
+        put_back(cells, plan[first + k], old);
+        k += 1;
+    }
+}

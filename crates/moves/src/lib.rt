@@ -1,0 +1,34 @@
+// BEGIN, STEP and CANCEL on a run that the caller lends: the head goes in and comes back by value, the buffers are lent.
+pub mod begin;
+pub mod cancel;
+mod entries;
+mod held;
+mod layout;
+
+use machine::Answer;
+use machine::Head;
+
+// What a move answers, and the head behind it.
+pub struct Reply {
+    pub head: Head,
+    pub answer: Answer,
+}
+
+// What tests of a move find: it goes on, or is refused.
+pub enum Tested {
+    Passed,
+    Refused(Answer),
+}
+
+// What STEP and CANCEL test first: an answer at once, or the number of the call that the worker holds.
+pub enum Holding {
+    Answered(Answer),
+    Holds(usize),
+}
+
+// The earlier conflicting calls of a call: one has no state, or one is unfinished, or all are finished.
+pub enum Earlier {
+    Broken,
+    Unfinished,
+    Finished,
+}
