@@ -20,6 +20,10 @@ isDigit x = leb zeroDigit x && ltb x (zeroDigit + 10)
 abbrev pub maxDigits : ℕ
 maxDigits = 5
 
+-- A further digit of a number that has some. The digits that are read before make less than 100,000.
+abbrev pub takesDigit : (digits n x : ℕ) → Bool
+takesDigit digits n x = isDigit x && ltb digits maxDigits && ltb n 100000
+
 -- The first byte of a line: b, s or c.
 unfoldable pub readLetter : ℕ → Line
 readLetter x = if eqb x 98 then Named B else if eqb x 115 then Named S else if eqb x 99 then Named C else Malformed
@@ -36,14 +40,14 @@ readByte Empty x = readLetter x
 readByte (Named l) x = if eqb x space then Spaced l else Malformed
 readByte (Spaced l) x = if isDigit x then First l 1 (x - zeroDigit) else Malformed
 readByte (First l digits n) x =
-    if isDigit x && ltb digits maxDigits
+    if takesDigit digits n x
     then First l (digits + 1) (n * 10 + (x - zeroDigit))
     else if eqb x space
     then readGap l n
     else Malformed
 readByte (Between w) x = if isDigit x then Second w 1 (x - zeroDigit) else Malformed
 readByte (Second w digits n) x =
-    if isDigit x && ltb digits maxDigits then Second w (digits + 1) (n * 10 + (x - zeroDigit)) else Malformed
+    if takesDigit digits n x then Second w (digits + 1) (n * 10 + (x - zeroDigit)) else Malformed
 readByte Malformed x = Malformed
 
 -- The move of a line with one number.

@@ -3,7 +3,7 @@ use mathlib.Core.Bool.{Bool, true, false}
 use mathlib.Core.List.{List, [], _∷_, _++_}
 use mathlib.Core.Option.{Option, none, some}
 use Prim.Native.Nat.{ℕ, zero, suc, _+_, _-_, _*_, _^_}
-use lib.Dec.{eqb}
+use lib.Dec.{eqb, ltb}
 use lib.ListN.{length, take}
 use Rattle.arith.specs.Choice.{if_then_else_}
 use Rattle.wire.specs.Bytes.{repeated}
@@ -39,8 +39,12 @@ unfoldable pub answerText : ℕ → ℕ → List ℕ
 answerText line zero = []
 answerText line (suc n) = refusedText line (suc n)
 
+-- Lines are numbered from 1; an input of 2^32 - 1 bytes has no line of a number above 2^32.
+unfoldable pub nextNumber : ℕ → ℕ
+nextNumber n = if ltb n (2 ^ 32) then n + 1 else n
+
 abbrev pub nextLine : Session → Run → List ℕ → Session
-nextLine s r text = record { number = s .number + 1; line = Empty; run = r; output = s .output ++ text }
+nextLine s r text = record { number = nextNumber (s .number); line = Empty; run = r; output = s .output ++ text }
 
 abbrev pub afterMove : Session → Moved → Session
 afterMove s m = nextLine s (m .run) (answerText (s .number) (answerNumber (m .answer)))

@@ -37,7 +37,7 @@ other-number : (b : Bool) (k j : ℕ) → (k ≡ 20 → ⊥) → (j ≡ 20 → �
 other-number true k j f g = f
 other-number false k j f g = g
 
-not-twenty : (workers n : ℕ) (before : ℕ → ℕ → Bool) (waits done : ℕ → Bool) (seat : ℕ → Seat) (m : Move)
+pub not-twenty : (workers n : ℕ) (before : ℕ → ℕ → Bool) (waits done : ℕ → Bool) (seat : ℕ → Seat) (m : Move)
     → refusal workers n before waits done seat m ≡ 20 → ⊥
 unfolding refusal
 not-twenty workers n before waits done seat (Begin w c) =

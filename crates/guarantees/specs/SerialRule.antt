@@ -101,13 +101,13 @@ module _ (file : List ℕ) (functions : List Function) where
 
 -- ---- lists
 
-found-in : {A : Type 0} (l : List A) (j : ℕ) (d x : A) → getElem? l j ≡ some x → getD l j d ≡ x
+pub found-in : {A : Type 0} (l : List A) (j : ℕ) (d x : A) → getElem? l j ≡ some x → getD l j d ≡ x
 found-in [] j d x e = absurd (Option·none-ne-some x e)
 found-in (y ∷ l) zero d x e = Option·some-injective y x e
 found-in (y ∷ l) (suc j) d x e = found-in l j d x e
 
 -- Keys that are listed are in the table.
-listed-in : (table : List ℕ) (es : List Access) → AllListed table es → InTable table es
+pub listed-in : (table : List ℕ) (es : List Access) → AllListed table es → InTable table es
 unfolding member
 listed-in table [] all k m = absurd (false≢true m)
 listed-in table (e ∷ es) all k m = go (eqb k (e .key)) refl m (listed-in table es (all .1) k)

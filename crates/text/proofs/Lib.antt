@@ -1,2 +1,2 @@
-mod Laws
-mod Bits
+pub mod Laws
+pub mod Bits

@@ -23,3 +23,4 @@ pub mod rng;
 pub mod serial;
 pub mod sets;
 pub mod sheet;
+pub mod vectors;

@@ -14,6 +14,7 @@ use runner::limits::MAX_WORKERS;
 use runner::literal::modules;
 use runner::machine::open;
 use runner::serial;
+use runner::vectors::{self, Stream};
 
 const USAGE: &str = "usage:
   runner assemble TEXT BLOCK        writes the block of a text
@@ -24,6 +25,7 @@ const USAGE: &str = "usage:
   runner coverage SEED COUNT        what these cases show
   runner generate SEED COUNT DIR [--large]
                                     cases as files NNN.bin, NNN.moves, NNN.out
+  runner vectors SEED DIR           stdin and stdout of a program that lists many blocks
 ";
 
 type Failure = Box<dyn std::error::Error>;
@@ -62,6 +64,7 @@ fn run(words: &[&str]) -> Result<(), Failure> {
         ["generate", seed, count, directory, "--large"] => {
             write_cases(&large_cases(seed.parse()?, count.parse()?), directory)
         }
+        ["vectors", seed, directory] => write_stream(&vectors::opened(seed.parse()?), directory),
         _ => Err(USAGE.into()),
     }
 }
@@ -102,6 +105,12 @@ fn write_modules(cases: &[Case], directory: &str) -> Result<(), Failure> {
     for (name, text) in modules(cases) {
         fs::write(Path::new(directory).join(name).with_extension("antt"), text)?;
     }
+    Ok(())
+}
+
+fn write_stream(stream: &Stream, directory: &str) -> Result<(), Failure> {
+    fs::write(Path::new(directory).join("stdin"), &stream.input)?;
+    fs::write(Path::new(directory).join("stdout"), &stream.output)?;
     Ok(())
 }
 

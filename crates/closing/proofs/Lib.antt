@@ -1,0 +1,3 @@
+mod Counting
+mod Storing
+mod Sizes

@@ -1,0 +1,80 @@
+-- `closing::sheet` meets its contract: its tests are the definition's, in their order. Assumes nothing.
+use borrow.Author.Needs.{needs}
+use mathlib.Core.Path.{sym, _∙_}
+use borrow.Author.Tests.{not-true, not-false, lt-ltb, le-ltb}
+use Rattle.sheet.specs.Sheet.{sheetBytes, sheetOf}
+use Rattle.closing.proofs.sheet.Statement.{statement}
+use Rattle.closing.proofs.sheet.Tie as tie
+
+large-enough-requires : tie.Need-large-enough-requires
+large-enough-requires c κs = search needs
+
+returns : tie.Need-returns
+unfolding sheetOf
+returns c = simp (sym (c .before .large-enough .ensures) ∙ not-true _ (c .if1 .taken))
+
+returns-2 : tie.Need-returns-2
+unfolding sheetOf
+returns-2 c = simp (lt-ltb _ _ (c .if2 .taken), sym (c .before .before .large-enough .ensures) ∙ not-false _ (c .before .if1 .left))
+
+states-allowed-requires : tie.Need-states-allowed-requires
+states-allowed-requires c κs = search needs
+
+returns-3 : tie.Need-returns-3
+unfolding sheetOf
+returns-3 c = simp (sym (c .before .states-allowed .ensures) ∙ not-true _ (c .if3 .taken), le-ltb _ _ (c .before .before .if2 .left), sym (c .before .before .before .before .large-enough .ensures) ∙ not-false _ (c .before .before .before .if1 .left))
+
+all-finished-requires : tie.Need-all-finished-requires
+all-finished-requires c κs = search needs
+
+returns-4 : tie.Need-returns-4
+unfolding sheetOf
+returns-4 c = simp (sym (c .before .all-finished .ensures) ∙ not-true _ (c .if4 .taken), sym (c .before .before .before .states-allowed .ensures) ∙ not-false _ (c .before .before .if3 .left), le-ltb _ _ (c .before .before .before .before .if2 .left), sym (c .before .before .before .before .before .before .large-enough .ensures) ∙ not-false _ (c .before .before .before .before .before .if1 .left))
+
+receipts-allowed-requires : tie.Need-receipts-allowed-requires
+receipts-allowed-requires c κs = search needs
+
+returns-5 : tie.Need-returns-5
+unfolding sheetOf
+returns-5 c = simp (sym (c .before .receipts-allowed .ensures) ∙ not-true _ (c .if5 .taken), sym (c .before .before .before .all-finished .ensures) ∙ not-false _ (c .before .before .if4 .left), sym (c .before .before .before .before .before .states-allowed .ensures) ∙ not-false _ (c .before .before .before .before .if3 .left), le-ltb _ _ (c .before .before .before .before .before .before .if2 .left), sym (c .before .before .before .before .before .before .before .before .large-enough .ensures) ∙ not-false _ (c .before .before .before .before .before .before .before .if1 .left))
+
+returns-6 : tie.Need-returns-6
+unfolding sheetOf
+returns-6 c = simp (lt-ltb _ _ (c .if6 .taken), sym (c .before .before .receipts-allowed .ensures) ∙ not-false _ (c .before .if5 .left), sym (c .before .before .before .before .all-finished .ensures) ∙ not-false _ (c .before .before .before .if4 .left), sym (c .before .before .before .before .before .before .states-allowed .ensures) ∙ not-false _ (c .before .before .before .before .before .if3 .left), le-ltb _ _ (c .before .before .before .before .before .before .before .if2 .left), sym (c .before .before .before .before .before .before .before .before .before .large-enough .ensures) ∙ not-false _ (c .before .before .before .before .before .before .before .before .if1 .left))
+
+balances-allowed-requires : tie.Need-balances-allowed-requires
+balances-allowed-requires c κs = search needs
+
+returns-7 : tie.Need-returns-7
+unfolding sheetOf
+returns-7 c = simp (sym (c .before .balances-allowed .ensures) ∙ not-true _ (c .if7 .taken), le-ltb _ _ (c .before .before .if6 .left), sym (c .before .before .before .before .receipts-allowed .ensures) ∙ not-false _ (c .before .before .before .if5 .left), sym (c .before .before .before .before .before .before .all-finished .ensures) ∙ not-false _ (c .before .before .before .before .before .if4 .left), sym (c .before .before .before .before .before .before .before .before .states-allowed .ensures) ∙ not-false _ (c .before .before .before .before .before .before .before .if3 .left), le-ltb _ _ (c .before .before .before .before .before .before .before .before .before .if2 .left), sym (c .before .before .before .before .before .before .before .before .before .before .before .large-enough .ensures) ∙ not-false _ (c .before .before .before .before .before .before .before .before .before .before .if1 .left))
+
+write-sheet-requires : tie.Need-write-sheet-requires
+write-sheet-requires c κs = search needs
+
+same-length : tie.Need-same-length
+same-length c = search needs
+
+returns-8 : tie.Need-returns-8
+unfolding sheetOf sheetBytes
+returns-8 c = simp (sym (c .before .before .before .before .before .balances-allowed .ensures) ∙ not-false _ (c .before .before .before .before .if7 .left), le-ltb _ _ (c .before .before .before .before .before .before .if6 .left), sym (c .before .before .before .before .before .before .before .before .receipts-allowed .ensures) ∙ not-false _ (c .before .before .before .before .before .before .before .if5 .left), sym (c .before .before .before .before .before .before .before .before .before .before .all-finished .ensures) ∙ not-false _ (c .before .before .before .before .before .before .before .before .before .if4 .left), sym (c .before .before .before .before .before .before .before .before .before .before .before .before .states-allowed .ensures) ∙ not-false _ (c .before .before .before .before .before .before .before .before .before .before .before .if3 .left), le-ltb _ _ (c .before .before .before .before .before .before .before .before .before .before .before .before .before .if2 .left), sym (c .before .before .before .before .before .before .before .before .before .before .before .before .before .before .before .large-enough .ensures) ∙ not-false _ (c .before .before .before .before .before .before .before .before .before .before .before .before .before .before .if1 .left)) (c .before .before .write-sheet .ensures)
+
+pub sheet-spec : {M : Type 1} → statement M
+sheet-spec =
+    tie.close
+    (tie.spec
+    large-enough-requires
+    returns
+    returns-2
+    states-allowed-requires
+    returns-3
+    all-finished-requires
+    returns-4
+    receipts-allowed-requires
+    returns-5
+    returns-6
+    balances-allowed-requires
+    returns-7
+    write-sheet-requires
+    same-length
+    returns-8)

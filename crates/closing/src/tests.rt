@@ -1,0 +1,151 @@
+// The tests of a closing sheet. Each loop counts down, as its definition does.
+use block::limits::MAX_CODE;
+ghost use mathlib.Core.Path.{_≡_};
+ghost use mathlib.Core.Bool.{_&&_, _||_, not};
+ghost use Prim.Native.Nat.{_/_, _%_, _^_, _<_, _≤_};
+ghost use lib.Dec.{eqb, leb};
+ghost use lib.ListN.{length};
+ghost use lib.Signed.{nonNeg};
+ghost use Rattle.block.specs.Limits.{maxCalls, maxCode, maxKeys};
+ghost use Rattle.machine.specs.Run.{largeEnough, statusWord, statusWords};
+ghost use Rattle.machine.specs.Action.{notPaid};
+ghost use Rattle.sheet.specs.Sheet.{statesAllowed, allFinished, receiptsAllowed, balancesAllowed};
+
+// "the fixed size for the limits above", of each lent buffer.
+const PLAN_SIZE: usize = 8192;
+
+const KEYS_SIZE: usize = 2048;
+
+const CELLS_SIZE: usize = 1024;
+
+const STATUS_SIZE: usize = 1024;
+
+const OLDS_SIZE: usize = 192;
+
+// A call has four words of the status: its state, its outcome and its count stand in the first three.
+const STATUS_WORDS: usize = 4;
+
+const STATE: usize = 0;
+
+pub(crate) const OUTCOME: usize = 1;
+
+pub(crate) const COUNT: usize = 2;
+
+// The state of a finished call, which is the last of the three.
+const FINISHED: u64 = 2;
+
+// The last of the outcomes.
+const NOT_PAID: u64 = 5;
+
+// A cell's key has two words. In the first the field stands above 32 bits and has 16 itself.
+pub(crate) const KEY_WORDS: usize = 2;
+
+const FIELD_BASE: u64 = 4294967296;
+
+const FIELDS: u64 = 65536;
+
+// 20: "a lent buffer .. shorter than the fixed size"
+pub(crate) fn large_enough(
+    plan: &[u64],
+    keys: &[u64],
+    cells: &[i64],
+    status: &[u64],
+    olds: &[i64],
+) -> bool
+    ensures { λ r. ⌜ r ≡ largeEnough (record { plan = length (now (plan .entry)); keys = length (now (keys .entry)); cells = length (now (cells .entry)); status = length (now (status .entry)); olds = length (now (olds .entry)) }) ⌝ }
+{
+    (PLAN_SIZE <= plan.len())
+        & (KEYS_SIZE <= keys.len())
+        & (CELLS_SIZE <= cells.len())
+        & (STATUS_SIZE <= status.len())
+        & (OLDS_SIZE <= olds.len())
+}
+
+// A word of a call's status.
+pub(crate) fn status_word(status: &[u64], call: usize, k: usize) -> u64
+    requires { ⌜ call < maxCalls ⌝ }
+    requires { ⌜ k < statusWords ⌝ }
+    ensures { λ r. ⌜ r ≡ statusWord (now (status .entry)) call k ⌝ }
+{
+    wire::word(status, STATUS_WORDS * call + k)
+}
+
+// Whether the state of each call is one.
+pub(crate) fn states_allowed(status: &[u64], calls: usize) -> bool
+    requires { ⌜ calls ≤ maxCalls ⌝ }
+    ensures { λ r. ⌜ r ≡ statesAllowed (now (status .entry)) calls ⌝ }
+{
+    let mut left = calls;
+    while 0 < left {
+        left -= 1;
+        if FINISHED < status_word(status, left, STATE) {
+            return false;
+        }
+    }
+    true
+}
+
+// Whether all calls are finished.
+pub(crate) fn all_finished(status: &[u64], calls: usize) -> bool
+    requires { ⌜ calls ≤ maxCalls ⌝ }
+    ensures { λ r. ⌜ r ≡ allFinished (now (status .entry)) calls ⌝ }
+{
+    let mut left = calls;
+    while 0 < left {
+        left -= 1;
+        if status_word(status, left, STATE) != FINISHED {
+            return false;
+        }
+    }
+    true
+}
+
+// A receipt's outcome is one of the six, and its count at most that of the longest code.
+fn receipt_allowed(outcome: u64, count: u64) -> bool
+    ensures { λ r. ⌜ r ≡ (leb outcome notPaid && leb count maxCode) ⌝ }
+{
+    (outcome <= NOT_PAID) & (count <= MAX_CODE as u64)
+}
+
+// Whether the receipt of each call is one.
+pub(crate) fn receipts_allowed(status: &[u64], calls: usize) -> bool
+    requires { ⌜ calls ≤ maxCalls ⌝ }
+    ensures { λ r. ⌜ r ≡ receiptsAllowed (now (status .entry)) calls ⌝ }
+{
+    let mut left = calls;
+    while 0 < left {
+        left -= 1;
+        let outcome = status_word(status, left, OUTCOME);
+        let count = status_word(status, left, COUNT);
+        if !receipt_allowed(outcome, count) {
+            return false;
+        }
+    }
+    true
+}
+
+// A balance, which is a cell of field 0, is not below zero.
+fn balance_allowed(high: u64, value: i64) -> bool
+    ensures { λ r. ⌜ r ≡ (not (eqb (high / 2 ^ 32 % 2 ^ 16) 0) || nonNeg value) ⌝ }
+{
+    if high / FIELD_BASE % FIELDS != 0 {
+        return true;
+    }
+    !arith::less(value, 0)
+}
+
+// Whether no balance is below zero.
+pub(crate) fn balances_allowed(keys: &[u64], cells: &[i64], count: usize) -> bool
+    requires { ⌜ count ≤ maxKeys ⌝ }
+    ensures { λ r. ⌜ r ≡ balancesAllowed (now (keys .entry)) (now (cells .entry)) count ⌝ }
+{
+    let mut left = count;
+    while 0 < left {
+        left -= 1;
+        let high = wire::word(keys, KEY_WORDS * left);
+        if !balance_allowed(high, wire::value(cells, left)) {
+            return false;
+        }
+    }
+    true
+}

@@ -1,0 +1,82 @@
+-- The calls of an opened run and their sets are those of its file, and the cells that a call may write are those of its write set. Assumes nothing.
+use mathlib.Core.Path.{_≡_, refl, sym, ap, ap₂, _∙_}
+use mathlib.Core.Bool.{true, _&&_, _||_}
+use mathlib.Core.List.{List, [], _∷_, map}
+use Prim.Native.Nat.{ℕ, _<_}
+use native.Mathlib.Omega.{arith}
+use lib.Dec.{eqb}
+use lib.ListN.{length, getD, length-map}
+use Rattle.wire.specs.Bytes.{padded}
+use Rattle.footprint.specs.Access.{Access}
+use Rattle.footprint.specs.Sets.{setsOf, writeSet}
+use Rattle.footprint.specs.Conflict.{member}
+use Rattle.footprint.specs.ConflictLaws.{eqb-sym, member-pick}
+use Rattle.footprint.specs.Table.{cellNumber}
+use Rattle.footprint.specs.Plan.{entryWord, keyWords}
+use Rattle.analysis.specs.KeyTable.{keyAt}
+use Rattle.analysis.specs.TableLaws.{member-at, cell-at}
+use Rattle.analysis.specs.TableWords.{keys-at, keys-padded}
+use Rattle.analysis.specs.Masks.{Listed, AllListed}
+use Rattle.analysis.specs.MaskLaws.{number-same, entry-cell, entry-writes}
+use Rattle.analysis.specs.Laid.{blockOf, allSets}
+use Rattle.machine.specs.Run.{Run, Sizes, entryCell, entryWrites}
+use Rattle.machine.specs.declared.Head.{Head}
+use Rattle.guarantees.specs.BlockTally.{setsIn, fileSets}
+use Rattle.guarantees.specs.Agreement.{mayWrite}
+use Rattle.guarantees.specs.ViewCalls.{anyEntry}
+use Rattle.guarantees.specs.AfterOpening.{AfterOpening}
+use Rattle.guarantees.specs.OpenedRuns.{openedRun, callCount, openedCalls}
+
+-- ---- the cells of a table
+
+-- The key at a place of a table's buffer.
+pub key-at : (room : ℕ) (table : List ℕ) (x : ℕ) → x < length table → keyAt (padded room 0 (keyWords table)) x ≡ getD table x 0
+key-at room table x h =
+    sym (keys-at (length table) (padded room 0 (keyWords table)) x h) ∙ ap (λ (t : List ℕ). getD t x 0) (keys-padded room table)
+
+module _ (table : List ℕ) (k : ℕ) (known : member k table ≡ true) where
+  same-key : (e : Access) → Listed table e → eqb (entryCell (entryWord table e)) (cellNumber table k) ≡ eqb k (e .key)
+  same-key e l =
+      ap (λ (x : ℕ). eqb x (cellNumber table k)) (entry-cell table e)
+      ∙ number-same table (e .key) k (l .in-table) known ∙ eqb-sym (e .key) k
+
+  -- The entries of a set write a key's cell if the set writes the key.
+  entries-write : (es : List Access) → AllListed table es
+      → anyEntry entryWrites (map (entryWord table) es) (cellNumber table k) ≡ member k (writeSet es)
+  unfolding anyEntry member writeSet
+  entries-write [] l = refl
+  entries-write (e ∷ es) l =
+      ap₂ _||_ (ap₂ _&&_ (entry-writes table e) (same-key e (l .0))) (entries-write es (l .1))
+      ∙ sym (member-pick k (e .key) (writeSet es) (e .writes))
+
+-- ---- an opened run
+
+module _ (s : Sizes) (file : List ℕ) (workers : ℕ) (after : AfterOpening s file workers) where
+  abbrev r₀ : Run
+  r₀ = openedRun s file workers
+
+  -- The sets of the file's calls are those that the opening found.
+  pub sets-are : fileSets file ≡ allSets file (blockOf file)
+  unfolding setsIn
+  sets-are = ap (setsIn file) (after .read)
+
+  pub calls-are : length (fileSets file) ≡ callCount file
+  calls-are = ap length sets-are ∙ length-map (blockOf file .calls) (setsOf file (blockOf file .functions))
+
+  cells-are : r₀ .head .cells ≡ length (after .table)
+  cells-are = ap (λ (h : Head). h .cells) (after .opened .head)
+
+  pub may-write : (c : ℕ) → c < callCount file → (x : ℕ) → x < r₀ .head .cells
+      → mayWrite file r₀ c x ≡ openedCalls s file workers .wr c x
+  may-write c l x h =
+      let o = after .opened .calls c l in
+      let inside : x < length (after .table) = omega (arith, cells-are) in
+      let key : keyAt (r₀ .keys) x ≡ getD (after .table) x 0 =
+      ap (λ (ks : List ℕ). keyAt ks x) (after .opened .keys) ∙ key-at (s .keys) (after .table) x inside in
+      let own : getD (fileSets file) c [] ≡ setsOf file (blockOf file .functions) (o .0) =
+      ap (λ (ls : List (List Access)). getD ls c []) sets-are ∙ o .1 .own in
+      ap₂ (λ (k : ℕ) (es : List Access). member k (writeSet es)) key own
+      ∙ sym
+      (entries-write (after .table) (getD (after .table) x 0) (member-at (after .table) x inside)
+      (setsOf file (blockOf file .functions) (o .0)) (o .1 .listed))
+      ∙ ap₂ (anyEntry entryWrites) (sym (o .1 .entries)) (cell-at (after .table) x (after .opened .rising) inside)

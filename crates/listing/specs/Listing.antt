@@ -1,0 +1,35 @@
+-- What a listing tells of a block: its refusal; or its numbers, and for each call those that it waits for. Assumes nothing.
+use mathlib.Core.List.{List, [], _∷_, _++_}
+use Prim.Native.Nat.{ℕ, zero, suc, _+_, _*_, min}
+use lib.ListN.{length, getD}
+use Rattle.block.specs.Limits.{maxCalls, maxWorkers}
+use Rattle.block.specs.Refusal.{numberOf, offsetOf}
+use Rattle.block.specs.declared.Verdict.{Verdict}
+use Rattle.block.specs.declared.Verdict.the-variants as verdict
+use Rattle.text.specs.Lines.{blockRefusedText, countsText, rowText}
+use Rattle.analysis.specs.Laid.{blockOf}
+use Rattle.machine.specs.Run.{fixedSizes, rowIn}
+use Rattle.machine.specs.Opening.{Opened, openingOf}
+
+-- `w CALL` with its earlier conflicting calls, of the `left` calls from j on.
+unfoldable pub rowsText : (left j : ℕ) → List ℕ → List ℕ
+rowsText zero j plan = []
+rowsText (suc left) j plan = rowText j (rowIn plan j) ++ rowsText left (j + 1) plan
+
+-- `e NUMBER OFFSET` for a refused block; else `n FUNCTIONS CELLS CALLS KEYS` and the rows.
+unfoldable pub listingText : (functions cells calls keys : ℕ) → List ℕ → Verdict → List ℕ
+listingText functions cells calls keys plan (verdict.Refused why) = blockRefusedText (numberOf why) (offsetOf why)
+listingText functions cells calls keys plan verdict.Accepted =
+    countsText functions cells calls keys ++ rowsText (min calls maxCalls) 0 plan
+
+-- The listing of a file, opened for 8 workers.
+abbrev pub listingOf : List ℕ → List ℕ
+listingOf file =
+    let o : Opened = openingOf fixedSizes file maxWorkers in
+    listingText (length (blockOf file .functions)) (length (blockOf file .cells)) (o .run .head .calls) (o .run .head .cells) (o .run .plan)
+    (o .answer)
+
+-- The four words of a call's row, 0 past the plan's end.
+abbrev pub rowWords : List ℕ → ℕ → List ℕ
+rowWords plan j =
+    getD plan (32 * j + 27) 0 ∷ getD plan (32 * j + 27 + 1) 0 ∷ getD plan (32 * j + 27 + 2) 0 ∷ getD plan (32 * j + 27 + 3) 0 ∷ []

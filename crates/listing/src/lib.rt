@@ -1,0 +1,73 @@
+// The listing of a block as text: its refusal; or its numbers, and for each call those that it waits for.
+use block::Verdict;
+use block::limits::MAX_CALLS;
+use block::numbers::number_of;
+use block::numbers::offset_of;
+use text::block_refused_line;
+use text::counts_line;
+use text::row_line;
+ghost use mathlib.Core.Path.{_≡_};
+ghost use Prim.Native.Nat.{_+_, _<_, _≤_};
+ghost use Rattle.block.specs.Limits.{maxCalls};
+ghost use Rattle.text.specs.Written.{Written};
+ghost use Rattle.listing.specs.Listing.{rowWords, rowsText, listingText};
+
+// A call has 32 words of the plan, and its row begins at the word 27.
+const PLAN_WORDS: usize = 32;
+
+const ROW_PLACE: usize = 27;
+
+// A call's row in the plan; words past its end count as 0.
+fn row_in(plan: &[u64], call: usize) -> [u64; 4]
+    requires { ⌜ call < maxCalls ⌝ }
+    ensures { λ r. ⌜ r ≡ rowWords (now (plan .entry)) call ⌝ }
+{
+    let at = PLAN_WORDS * call + ROW_PLACE;
+    [
+        wire::word(plan, at),
+        wire::word(plan, at + 1),
+        wire::word(plan, at + 2),
+        wire::word(plan, at + 3),
+    ]
+}
+
+// The rows of the first `calls` calls, from a position on.
+fn rows(plan: &[u64], calls: usize, out: &mut [u8], from: usize) -> usize
+    requires { ⌜ calls ≤ maxCalls ⌝ }
+    requires { ⌜ from < 1000 ⌝ }
+    ensures { λ r. ⌜ Written (now (out .entry)) (now (out .exit)) from r (rowsText calls 0 (now (plan .entry))) ⌝ }
+{
+    let mut at = from;
+    let mut call = 0;
+    while call < calls {
+        let row = row_in(plan, call);
+        let end = row_line(out, at as u32, call as u64, row);
+        at = end;
+        call += 1;
+    }
+    at
+}
+
+// The listing of a block with these numbers, opened with this verdict and plan, at the start of the buffer; answers its length.
+pub fn listing(
+    verdict: Verdict,
+    functions: u64,
+    cells: u64,
+    calls: usize,
+    keys: u64,
+    plan: &[u64],
+    out: &mut [u8],
+) -> usize
+    ensures { λ r. ⌜ Written (now (out .entry)) (now (out .exit)) 0 r (listingText functions cells calls keys (now (plan .entry)) verdict) ⌝ }
+{
+    match verdict {
+        Verdict::Refused(why) => block_refused_line(out, 0, number_of(why), offset_of(why)),
+        Verdict::Accepted => {
+            let at = counts_line(out, 0, functions, cells, calls as u64, keys);
+            if calls < MAX_CALLS {
+                return rows(plan, calls, out, at);
+            }
+            rows(plan, MAX_CALLS, out, at)
+        }
+    }
+}
