@@ -5,3 +5,4 @@ mod CollectLaws
 mod OpeningLaws
 mod CallLaws
 mod PlanLoops
+mod PrepareLaws

@@ -17,3 +17,4 @@ pub mod CollectedLaws
 pub mod Planned
 pub mod PlanLaws
 pub mod OpeningLaws
+pub mod Preparing

@@ -31,7 +31,7 @@ ghost use Rattle.analysis.specs.Masks.{touches, writes, maskWords, maskR
 ghost use Rattle.analysis.specs.Planned.{Fitting, wordsOfCall, callWords};
 
 // A call has 32 words of the plan: the start of its code, the code's length plus 1, the number of its entries, the entries, its row, and 0.
-const PLAN_WORDS: usize = 32;
+pub(crate) const PLAN_WORDS: usize = 32;
 
 const ENTRIES_AT: usize = 3;
 

@@ -1,18 +1,20 @@
 -- What the proofs of this crate cite: a row by its words, and a loop over the rows of a plan. Assumes nothing.
-use mathlib.Core.Path.{_≡_, refl, sym, ap, _∙_, fun-ext}
+use mathlib.Core.Path.{_≡_, refl, sym, ap, ap₂, _∙_, subst, fun-ext}
 use mathlib.Core.Bool.{Bool}
 use mathlib.Core.List.{List, [], _∷_, _++_, map}
 use Prim.Native.Nat.{ℕ, zero, suc, _+_, _-_, _*_, _/_, _%_, _≤_, _<_, min}
 use native.Mathlib.Decide.{decLt}
 use native.Mathlib.Nat.{add-zero}
 use native.Mathlib.Omega.{arith}
+use lib.IntN.{ℤ}
 use lib.ListN.{length, getD, take, drop, length-append, length-take, List·getD-eq-default}
 use lib.Seq.{getD-take, getD-drop}
 use Rattle.wire.specs.Bytes.{stored}
 use Rattle.wire.specs.Decimal.{decimal, lineFeed, parts}
 use Rattle.wire.specs.Laws.{stored-append, stored-length}
 use Rattle.wire.specs.Rows.{inRow, inWord}
-use Rattle.block.specs.Limits.{maxCalls}
+use Rattle.block.specs.Limits.{maxCalls, maxWorkers}
+use Rattle.block.specs.Reader.{Read, accepted, refused, readBlock}
 use Rattle.block.specs.Refusal.{numberOf, offsetOf}
 use Rattle.block.specs.declared.Refusal.{Refusal}
 use Rattle.block.specs.declared.Verdict.{Verdict}
@@ -21,8 +23,15 @@ use Rattle.text.specs.Lines.{passing, blockRefusedText, countsText, rowText}
 use Rattle.text.specs.Written.{Written, spaced, spaced-line, written-more}
 use Rattle.text.proofs.Laws.{digits-length, spaced-length}
 use Rattle.text.proofs.Bits.{bits-length}
-use Rattle.machine.specs.Run.{rowIn}
-use Rattle.listing.specs.Listing.{rowWords, rowsText, listingText}
+use Rattle.reader.specs.Layout.{layoutOf}
+use Rattle.reader.specs.declared.Layout.{Layout}
+use Rattle.analysis.specs.Laid.{blockIn, blockOf}
+use Rattle.machine.specs.Run.{Sizes, rowIn}
+use Rattle.machine.specs.Opening as machine
+use Rattle.machine.specs.Opening.{openingOf}
+use Rattle.opening.specs.Opened.{opening}
+use Rattle.opening.specs.declared.Opened.{Opened}
+use Rattle.listing.specs.Listing.{rowWords, rowsText, listingText, listingOf, Listed}
 
 -- ---- a row
 
@@ -127,3 +136,34 @@ module _ (functions cells calls keys : ℕ) (plan : List ℕ) where
       → Written s t 0 r (blockRefusedText n o) → Written s t 0 r (listingText functions cells calls keys plan v)
   unfolding listingText
   unlisted s t r n o why v e f g w = rw (e, ← f, ← g) w
+
+-- What was read of a file, in numbers.
+functions-read : (x : Read) → layoutOf x .functions ≡ length (blockIn x .functions)
+unfolding layoutOf blockIn
+functions-read (accepted b) = refl
+functions-read (refused why) = refl
+
+cells-read : (x : Read) → layoutOf x .cells ≡ length (blockIn x .cells)
+unfolding layoutOf blockIn
+cells-read (accepted b) = refl
+cells-read (refused why) = refl
+
+-- A file that is opened, read and listed.
+pub all-listed : (file : List ℕ) (s : Sizes) (plan keys : List ℕ) (cells : List ℤ) (status : List ℕ) (olds : List ℤ) (before after : List ℕ) (r : ℕ)
+    (o : Opened) (l : Layout) → opening o plan keys cells status olds ≡ openingOf s file maxWorkers → l ≡ layoutOf (readBlock file)
+    → Written before after 0 r (listingText (l .functions) (l .cells) (o .head .calls) (o .head .cells) plan (o .verdict))
+    → Listed file s plan keys cells status olds before after r
+all-listed file s plan keys cells status olds before after r o l e f w =
+    let functions : l .functions ≡ length (blockOf file .functions) = ap (λ (x : Layout). x .functions) f ∙ functions-read (readBlock file) in
+    let cellCount : l .cells ≡ length (blockOf file .cells) = ap (λ (x : Layout). x .cells) f ∙ cells-read (readBlock file) in
+    let text : listingText (l .functions) (l .cells) (o .head .calls) (o .head .cells) plan (o .verdict) ≡ listingOf s file =
+    ap (λ (x : machine.Opened). listingText (l .functions) (l .cells) (x .run .head .calls) (x .run .head .cells) (x .run .plan) (x .answer)) e
+    ∙ ap₂ (λ (a b : ℕ). listingText a b (openingOf s file maxWorkers .run .head .calls) (openingOf s file maxWorkers .run .head .cells) (openingOf s file maxWorkers .run .plan) (openingOf s file maxWorkers .answer)) functions cellCount in
+    record {
+      plan-is = ap (λ (x : machine.Opened). x .run .plan) e;
+      keys-is = ap (λ (x : machine.Opened). x .run .keys) e;
+      cells-is = ap (λ (x : machine.Opened). x .run .cells) e;
+      status-is = ap (λ (x : machine.Opened). x .run .status) e;
+      olds-is = ap (λ (x : machine.Opened). x .run .olds) e;
+      text = subst (λ (t : List ℕ). Written before after 0 r t) text w;
+    }

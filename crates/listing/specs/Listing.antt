@@ -1,14 +1,17 @@
 -- What a listing tells of a block: its refusal; or its numbers, and for each call those that it waits for. Assumes nothing.
+use mathlib.Core.Path.{_≡_}
 use mathlib.Core.List.{List, [], _∷_, _++_}
 use Prim.Native.Nat.{ℕ, zero, suc, _+_, _*_, min}
+use lib.IntN.{ℤ}
 use lib.ListN.{length, getD}
 use Rattle.block.specs.Limits.{maxCalls, maxWorkers}
 use Rattle.block.specs.Refusal.{numberOf, offsetOf}
 use Rattle.block.specs.declared.Verdict.{Verdict}
 use Rattle.block.specs.declared.Verdict.the-variants as verdict
 use Rattle.text.specs.Lines.{blockRefusedText, countsText, rowText}
+use Rattle.text.specs.Written.{Written}
 use Rattle.analysis.specs.Laid.{blockOf}
-use Rattle.machine.specs.Run.{fixedSizes, rowIn}
+use Rattle.machine.specs.Run.{Run, Sizes, rowIn}
 use Rattle.machine.specs.Opening.{Opened, openingOf}
 
 -- `w CALL` with its earlier conflicting calls, of the `left` calls from j on.
@@ -22,10 +25,10 @@ listingText functions cells calls keys plan (verdict.Refused why) = blockRefused
 listingText functions cells calls keys plan verdict.Accepted =
     countsText functions cells calls keys ++ rowsText (min calls maxCalls) 0 plan
 
--- The listing of a file, opened for 8 workers.
-abbrev pub listingOf : List ℕ → List ℕ
-listingOf file =
-    let o : Opened = openingOf fixedSizes file maxWorkers in
+-- The listing of a file, opened for 8 workers in buffers of these sizes.
+abbrev pub listingOf : Sizes → List ℕ → List ℕ
+listingOf s file =
+    let o : Opened = openingOf s file maxWorkers in
     listingText (length (blockOf file .functions)) (length (blockOf file .cells)) (o .run .head .calls) (o .run .head .cells) (o .run .plan)
     (o .answer)
 
@@ -33,3 +36,13 @@ listingOf file =
 abbrev pub rowWords : List ℕ → ℕ → List ℕ
 rowWords plan j =
     getD plan (32 * j + 27) 0 ∷ getD plan (32 * j + 27 + 1) 0 ∷ getD plan (32 * j + 27 + 2) 0 ∷ getD plan (32 * j + 27 + 3) 0 ∷ []
+
+-- What a listed file leaves in the buffers of the run and in that of the text.
+pub record Listed (file : List ℕ) (s : Sizes) (plan keys : List ℕ) (cells : List ℤ) (status : List ℕ) (olds : List ℤ) (before after : List ℕ)
+    (length : ℕ) : Type 0 where
+  pub plan-is : plan ≡ openingOf s file maxWorkers .run .plan
+  pub keys-is : keys ≡ openingOf s file maxWorkers .run .keys
+  pub cells-is : cells ≡ openingOf s file maxWorkers .run .cells
+  pub status-is : status ≡ openingOf s file maxWorkers .run .status
+  pub olds-is : olds ≡ openingOf s file maxWorkers .run .olds
+  pub text : Written before after 0 length (listingOf s file)

@@ -1,6 +1,7 @@
 // The listing of a block as text: its refusal; or its numbers, and for each call those that it waits for.
 use block::Verdict;
 use block::limits::MAX_CALLS;
+use block::limits::MAX_WORKERS;
 use block::numbers::number_of;
 use block::numbers::offset_of;
 use text::block_refused_line;
@@ -8,9 +9,11 @@ use text::counts_line;
 use text::row_line;
 ghost use mathlib.Core.Path.{_≡_};
 ghost use Prim.Native.Nat.{_+_, _<_, _≤_};
+ghost use lib.ListN.{length};
 ghost use Rattle.block.specs.Limits.{maxCalls};
 ghost use Rattle.text.specs.Written.{Written};
-ghost use Rattle.listing.specs.Listing.{rowWords, rowsText, listingText};
+ghost use Rattle.opening.specs.Opened.{sizesFor};
+ghost use Rattle.listing.specs.Listing.{rowWords, rowsText, listingText, Listed};
 
 // A call has 32 words of the plan, and its row begins at the word 27.
 const PLAN_WORDS: usize = 32;
@@ -49,7 +52,7 @@ fn rows(plan: &[u64], calls: usize, out: &mut [u8], from: usize) -> usize
 }
 
 // The listing of a block with these numbers, opened with this verdict and plan, at the start of the buffer; answers its length.
-pub fn listing(
+fn listing(
     verdict: Verdict,
     functions: u64,
     cells: u64,
@@ -70,4 +73,31 @@ pub fn listing(
             rows(plan, MAX_CALLS, out, at)
         }
     }
+}
+
+// A block opened for 8 workers in the lent buffers, and its listing at the start of `out`; answers the listing's length.
+pub fn list(
+    file: &[u8],
+    plan: &mut [u64],
+    keys: &mut [u64],
+    cells: &mut [i64],
+    status: &mut [u64],
+    olds: &mut [i64],
+    out: &mut [u8],
+) -> usize
+    ensures { λ r. ⌜ Listed (now (file .entry)) (sizesFor (length (now (plan .entry))) (length (now (keys .entry))) (length (now (cells .entry))) (length (now (status .entry))) (length (now (olds .entry)))) (now (plan .exit)) (now (keys .exit)) (now (cells .exit)) (now (status .exit)) (now (olds .exit)) (now (out .entry)) (now (out .exit)) r ⌝ }
+{
+    let o = opening::open(file, MAX_WORKERS, plan, keys, cells, status, olds);
+    let verdict = o.verdict;
+    let head = o.head;
+    let l = reader::read_block(file);
+    listing(
+        verdict,
+        l.functions as u64,
+        l.cells as u64,
+        head.calls,
+        head.cells as u64,
+        plan,
+        out,
+    )
 }

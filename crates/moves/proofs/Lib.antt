@@ -3,3 +3,8 @@ mod CancelLaws
 mod EarlierLaws
 mod EntryLaws
 mod HeldLaws
+mod LookupLaws
+mod PerformLaws
+mod RunLaws
+mod StepLaws
+mod ViewLaws

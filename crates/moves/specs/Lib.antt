@@ -1,3 +1,4 @@
 pub mod Lent
 pub mod Tests
 pub mod HeldCall
+pub mod Turn

@@ -4,6 +4,9 @@ pub mod cancel;
 mod entries;
 mod held;
 mod layout;
+mod lookup;
+mod perform;
+pub mod step;
 
 use machine::Answer;
 use machine::Head;
@@ -31,4 +34,18 @@ pub enum Earlier {
     Broken,
     Unfinished,
     Finished,
+}
+
+// How a step of a call ends: the lent run is damaged, the call goes on at a place, or it is finished with an outcome.
+pub enum Fate {
+    Broken,
+    Going(usize),
+    Over(u64),
+}
+
+// That, with the count of executed instructions and the registers; they are zero where the fate needs none.
+pub struct Turn {
+    pub fate: Fate,
+    pub count: u64,
+    pub regs: [i64; 8],
 }

@@ -1,0 +1,80 @@
+-- `analysis::prepare` meets its contract: the buffers are zero before the room is tested. Assumes nothing.
+use Rattle.analysis.proofs.PrepareLaws.{prepared-short, room-blank, prepared-read}
+use borrow.Author.Needs.{needs}
+use Rattle.analysis.proofs.prepare.Statement.{statement}
+use Rattle.analysis.proofs.prepare.Tie as tie
+
+clear-words-requires : tie.Need-clear-words-requires
+clear-words-requires c κs = search needs
+
+clear-words-requires-2 : tie.Need-clear-words-requires-2
+clear-words-requires-2 c κs = search needs
+
+clear-values-requires : tie.Need-clear-values-requires
+clear-values-requires c κs = search needs
+
+room-enough-requires : tie.Need-room-enough-requires
+room-enough-requires c κs = search needs
+
+refused-requires : tie.Need-refused-requires
+refused-requires c κs = search needs
+
+same-length : tie.Need-same-length
+same-length c = search needs
+
+same-length-2 : tie.Need-same-length-2
+same-length-2 c = search needs
+
+same-length-3 : tie.Need-same-length-3
+same-length-3 c = search needs
+
+returns : tie.Need-returns
+returns c =
+    let s = c .before .before .before .before .before .before .before .before .before .before .before .before .before .before .before .before .before in
+    let p = c .before .before .before .before .before .before .before .before .before .before .before .before .clear-words in
+    let k = c .before .before .before .before .before .before .before .before .clear-words2 in
+    let v = c .before .before .before .before .clear-values in
+    prepared-short (s .args .file .now) _ _ _ (p .last .0) (k .last .0) (v .last .0) _ _ (p .kept .0) (k .kept .0) (v .kept .0) (p .ensures) (k .ensures) (v .ensures) (c .before .before .room-enough .ensures) (c .before .if1 .taken) (c .refused .ensures)
+
+prepare-read-requires : tie.Need-prepare-read-requires
+prepare-read-requires c κs =
+    let p = c .before .before .before .before .before .before .before .before .before .before .before .before .before .before .clear-words in
+    let k = c .before .before .before .before .before .before .before .before .before .before .clear-words2 in
+    let v = c .before .before .before .before .before .before .clear-values in
+    room-blank _ _ _ (p .last .0) (k .last .0) (v .last .0) _ (p .kept .0) (k .kept .0) (v .kept .0) (p .ensures) (k .ensures) (v .ensures) (c .before .before .before .before .room-enough .ensures) (c .before .before .before .if1 .left)
+
+same-length-4 : tie.Need-same-length-4
+same-length-4 c = search needs
+
+same-length-5 : tie.Need-same-length-5
+same-length-5 c = search needs
+
+same-length-6 : tie.Need-same-length-6
+same-length-6 c = search needs
+
+returns-2 : tie.Need-returns-2
+returns-2 c =
+    let s = c .before .before .before .before .before .before .before .before .before .before .before .before .before .before .before .before .before .before .before .before .before .before .before .before .before in
+    let p = c .before .before .before .before .before .before .before .before .before .before .before .before .before .before .before .before .before .before .before .before .clear-words in
+    let k = c .before .before .before .before .before .before .before .before .before .before .before .before .before .before .before .before .clear-words2 in
+    let v = c .before .before .before .before .before .before .before .before .before .before .before .before .clear-values in
+    prepared-read (s .args .file .now) _ _ _ (p .last .0) (k .last .0) (v .last .0) _ _ (p .kept .0) (k .kept .0) (v .kept .0) (c .before .before .before .before .before .before .before .before .before .before .room-enough .ensures) (c .before .before .before .before .before .before .before .before .before .if1 .left) (c .before .before .before .before .before .prepare-read .ensures)
+
+pub prepare-spec : {M : Type 1} → statement M
+prepare-spec =
+    tie.close
+    (tie.spec
+    clear-words-requires
+    clear-words-requires-2
+    clear-values-requires
+    room-enough-requires
+    refused-requires
+    same-length
+    same-length-2
+    same-length-3
+    returns
+    prepare-read-requires
+    same-length-4
+    same-length-5
+    same-length-6
+    returns-2)

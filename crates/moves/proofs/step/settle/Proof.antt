@@ -1,0 +1,67 @@
+-- `moves::step::settle` meets its contract: each fate is a clause of the definition. Assumes nothing.
+use borrow.Author.Needs.{needs}
+use Rattle.moves.proofs.RunLaws.{settle-broken, settle-going, settle-over}
+use Rattle.moves.proofs.step.settle.Statement.{statement}
+use Rattle.moves.proofs.step.settle.Tie as tie
+
+enum-told : tie.Need-enum-told
+enum-told c = search needs
+
+enum-known-fate : tie.Need-enum-known-fate
+enum-known-fate c = search needs
+
+add-t13 : tie.Need-add-t13
+add-t13 c = search needs
+
+with-seat-requires : tie.Need-with-seat-requires
+with-seat-requires c κs = search needs
+
+enum-known-fate-2 : tie.Need-enum-known-fate-2
+enum-known-fate-2 c = search needs
+
+put-receipt-requires : tie.Need-put-receipt-requires
+put-receipt-requires c κs = search needs
+
+idle-seat-requires : tie.Need-idle-seat-requires
+idle-seat-requires c κs = search needs
+
+with-seat-requires-2 : tie.Need-with-seat-requires-2
+with-seat-requires-2 c κs = search needs
+
+returns : tie.Need-returns
+returns c =
+    let s = c .before .before .before .before in
+    let a = s .args in
+    settle-broken (a .head) (a .status .now) (a .w) (a .c) (a .turn) (c .enum-told .given .1)
+
+returns-2 : tie.Need-returns-2
+returns-2 c =
+    let s = c .before .before .before .before .before .before in
+    let a = s .args in
+    settle-going (a .head) (a .status .now) (a .w) (a .c) (a .turn) (c .before .before .fate .given .1) (c .with-seat .ensures)
+
+same-length : tie.Need-same-length
+same-length c = search needs
+
+returns-3 : tie.Need-returns-3
+returns-3 c =
+    let s = c .before .before .before .before .before .before .before .before .before .before .before in
+    let a = s .args in
+    settle-over (a .head) (a .status .now) (a .w) (a .c) (a .turn) (c .before .before .before .before .before .before .before .fate2 .given .1) (c .before .idle-seat .ensures) (c .with-seat2 .ensures) (c .before .before .before .before .put-receipt .ensures)
+
+pub settle-spec : {M : Type 1} → statement M
+settle-spec =
+    tie.close
+    (tie.spec
+    enum-told
+    enum-known-fate
+    add-t13
+    with-seat-requires
+    enum-known-fate-2
+    put-receipt-requires
+    idle-seat-requires
+    with-seat-requires-2
+    returns
+    returns-2
+    same-length
+    returns-3)

@@ -1,0 +1,85 @@
+// Where a call keeps a cell: the search among its entries for a key with the wanted flags.
+use crate::layout::FIRST_ENTRY;
+use crate::layout::FLAGS;
+use crate::layout::KEY_COUNT;
+use crate::layout::PLAN_WORDS;
+use crate::layout::WRITES;
+use block::limits::MAX_CALL_KEYS;
+use block::limits::MAX_KEYS;
+use footprint::KeyUse;
+use machine::Lookup;
+ghost use mathlib.Core.Path.{_≡_};
+ghost use mathlib.Core.Bool.{_&&_, _||_, not};
+ghost use Prim.Native.Nat.{_*_, _≤_, _<_};
+ghost use lib.ListN.{length};
+ghost use Rattle.arith.specs.Choice.{if_then_else_};
+ghost use Rattle.block.specs.Limits.{maxCalls, maxKeys};
+ghost use Rattle.footprint.specs.Plan.{planWords};
+ghost use Rattle.machine.specs.Run.{entryCell, entryReads, entryWrites, hasKey, planWord};
+ghost use Rattle.moves.specs.Turn.{accessOf, lookupIn, Worded};
+
+// Word k of call c in the plan.
+pub(crate) fn plan_word(plan: &[u64], c: usize, k: usize) -> u64
+    requires { ⌜ c < maxCalls ⌝ }
+    requires { ⌜ k < planWords ⌝ }
+    ensures { λ r. ⌜ r ≡ planWord (now (plan .entry)) c k ⌝ }
+{
+    wire::word(plan, PLAN_WORDS * c + k)
+}
+
+// Whether cell n has the key of a use.
+fn has_key(keys: &[u64], n: usize, u: KeyUse) -> bool
+    requires { ⌜ n < maxKeys ⌝ }
+    requires { ⌜ Worded u ⌝ }
+    ensures { λ r. ⌜ r ≡ hasKey (now (keys .entry)) n (accessOf u .key) ⌝ }
+{
+    let high = wire::word(keys, 2 * n);
+    let low = wire::word(keys, 2 * n + 1);
+    (high == u.high) & (low == u.low)
+}
+
+// Whether an entry has the flags that a use wants.
+fn has_flags(e: u64, u: KeyUse) -> bool
+    ensures { λ r. ⌜ r ≡ ((not (u .reads) || entryReads e) && (not (u .writes) || entryWrites e)) ⌝ }
+{
+    let read = e % 2 == 1;
+    let written = WRITES <= e % FLAGS;
+    (!u.reads | read) & (!u.writes | written)
+}
+
+// The cell of an entry that has the wanted key, if it has the flags too.
+fn kept(e: u64, u: KeyUse) -> Lookup
+    ensures { λ r. ⌜ r ≡ (if (not (u .reads) || entryReads e) && (not (u .writes) || entryWrites e) then Lookup.Cell (entryCell e) else Lookup.NoCell) ⌝ }
+{
+    if has_flags(e, u) {
+        return Lookup::Cell((e / FLAGS) as usize);
+    }
+    Lookup::NoCell
+}
+
+// The cell that the entries of call c keep for the key of a use, with the flags that it wants; an entry that is looked at has a cell
+// number of the table.
+pub(crate) fn lookup(plan: &[u64], keys: &[u64], c: usize, u: KeyUse) -> Lookup
+    requires { ⌜ maxCalls * planWords ≤ length (now plan) ⌝ }
+    requires { ⌜ c < maxCalls ⌝ }
+    requires { ⌜ Worded u ⌝ }
+    ensures { λ r. ⌜ r ≡ lookupIn (now (plan .entry)) (now (keys .entry)) c (accessOf u) ⌝ }
+{
+    let n = plan_word(plan, c, KEY_COUNT) as usize;
+    if MAX_CALL_KEYS < n {
+        return Lookup::NoCell;
+    }
+    let mut k = 0;
+    while k < n {
+        let e = plan_word(plan, c, FIRST_ENTRY + k);
+        let cell = (e / FLAGS) as usize;
+        if MAX_KEYS <= cell {
+            return Lookup::NoCell;
+        }
+        if has_key(keys, cell, u) {
+            return kept(e, u);
+        }
+        k += 1;
+    }
+    Lookup::NoCell
+}

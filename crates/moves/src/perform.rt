@@ -1,0 +1,300 @@
+// An action done on the cells that a place accesses. Every test stands before the first store, so that a damaged run is left as it was.
+use crate::Fate;
+use crate::Turn;
+use crate::entries::restorable;
+use crate::entries::restore;
+use crate::layout::KEY_COUNT;
+use crate::lookup::lookup;
+use crate::lookup::plan_word;
+use footprint::KeyUse;
+use footprint::Uses;
+use machine::Action;
+use machine::Lookup;
+use machine::Next;
+ghost use mathlib.Core.Path.{_≡_};
+ghost use mathlib.Core.Bool.{true, false};
+ghost use mathlib.Core.List.{List, []};
+ghost use Prim.Native.Nat.{_*_, _≤_, _<_};
+ghost use lib.IntN.{ℤ};
+ghost use lib.ListN.{length, set};
+ghost use lib.Signed.{ltZ, nonNeg};
+ghost use Rattle.block.specs.Key.{isBalance};
+ghost use Rattle.block.specs.Limits.{maxCalls, maxCode};
+ghost use Rattle.footprint.specs.Plan.{planWords};
+ghost use Rattle.machine.specs.Step.{cellAt, depositCell, finish, loadCell, perform, storeCell, transferCells};
+ghost use Rattle.moves.specs.Turn.{accessOf, accessesOf, broken, cellView, going, localAt, lookupIn, ownOlds, over, turned, Doable, Ready, Worded};
+
+// The first outcome of those that restore the cells.
+const THROWN: u64 = 3;
+
+const REGISTERS: usize = 8;
+
+// The place value of the field in a key's high word, and the field's own range.
+const FIELD_PLACE: u64 = 4294967296;
+
+const FIELDS: u64 = 65536;
+
+// The largest value.
+const LARGEST: i64 = 9223372036854775807;
+
+// The three ends of a step.
+pub(crate) fn damaged() -> Turn
+    ensures { λ r. ⌜ r ≡ broken ⌝ }
+{
+    Turn {
+        fate: Fate::Broken,
+        count: 0,
+        regs: [0; 8],
+    }
+}
+
+fn go_on(place: usize, count: u64, regs: [i64; 8]) -> Turn
+    ensures { λ r. ⌜ r ≡ going place count regs ⌝ }
+{
+    Turn {
+        fate: Fate::Going(place),
+        count,
+        regs,
+    }
+}
+
+pub(crate) fn done(outcome: u64, count: u64) -> Turn
+    ensures { λ r. ⌜ r ≡ over outcome count ⌝ }
+{
+    Turn {
+        fate: Fate::Over(outcome),
+        count,
+        regs: [0; 8],
+    }
+}
+
+// The registers with a value in one of them.
+fn with_register(mut regs: [i64; 8], x: usize, v: i64) -> [i64; 8]
+    ensures { λ r. ⌜ r ≡ set regs x v ⌝ }
+{
+    if x < REGISTERS {
+        regs[x] = v;
+    }
+    regs
+}
+
+// "Field 0 .. is the balance."
+fn is_balance(u: KeyUse) -> bool
+    requires { ⌜ Worded u ⌝ }
+    ensures { λ r. ⌜ r ≡ isBalance (accessOf u .key) ⌝ }
+{
+    u.high / FIELD_PLACE % FIELDS == 0
+}
+
+// The end of a call. "On 3, 4, 5 the same step restores every cell of the write set."
+fn finish(
+    plan: &[u64],
+    cells: &mut [i64],
+    olds: &[i64],
+    w: usize,
+    c: usize,
+    count: u64,
+    outcome: u64,
+) -> Turn
+    requires { ⌜ Ready (now plan) (now olds) w c ⌝ }
+    ensures { λ r. ⌜ record { turn = r; cells = now (cells .exit) } ≡ turned (now (cells .entry)) (finish (cellView (now (plan .entry)) [] c) (localAt 0 (ownOlds (now (plan .entry)) (now (olds .entry)) w c)) count outcome (now (cells .entry))) ⌝ }
+{
+    if outcome < THROWN {
+        return done(outcome, count);
+    }
+    let n = plan_word(plan, c, KEY_COUNT) as usize;
+    if restorable(plan, c, n) {
+        restore(plan, c, n, olds, w, cells);
+        return done(outcome, count);
+    }
+    damaged()
+}
+
+// A loaded value; of a balance, "below zero" is damage.
+fn load(
+    plan: &[u64],
+    keys: &[u64],
+    cells: &[i64],
+    c: usize,
+    place: usize,
+    count: u64,
+    regs: [i64; 8],
+    x: usize,
+    u: KeyUse,
+) -> Turn
+    requires { ⌜ maxCalls * planWords ≤ length (now plan) ⌝ }
+    requires { ⌜ c < maxCalls ⌝ }
+    requires { ⌜ place ≤ maxCode ⌝ }
+    requires { ⌜ Worded u ⌝ }
+    ensures { λ r. ⌜ ((saved : List ℤ) → record { turn = r; cells = now (cells .entry) } ≡ turned (now (cells .entry)) (loadCell (localAt place saved) count regs x (accessOf u) (now (cells .entry)) (lookupIn (now (plan .entry)) (now (keys .entry)) c (accessOf u)))) ⌝ }
+{
+    match lookup(plan, keys, c, u) {
+        Lookup::NoCell => damaged(),
+        Lookup::Cell(n) => {
+            let v = wire::value(cells, n);
+            if is_balance(u) & (v < 0) {
+                return damaged();
+            }
+            go_on(place + 1, count, with_register(regs, x, v))
+        }
+    }
+}
+
+// A stored value.
+fn store(
+    plan: &[u64],
+    keys: &[u64],
+    cells: &mut [i64],
+    c: usize,
+    place: usize,
+    count: u64,
+    regs: [i64; 8],
+    v: i64,
+    u: KeyUse,
+) -> Turn
+    requires { ⌜ maxCalls * planWords ≤ length (now plan) ⌝ }
+    requires { ⌜ c < maxCalls ⌝ }
+    requires { ⌜ place ≤ maxCode ⌝ }
+    requires { ⌜ Worded u ⌝ }
+    ensures { λ r. ⌜ ((saved : List ℤ) → record { turn = r; cells = now (cells .exit) } ≡ turned (now (cells .entry)) (storeCell (localAt place saved) count regs v (now (cells .entry)) (lookupIn (now (plan .entry)) (now (keys .entry)) c (accessOf u)))) ⌝ }
+{
+    match lookup(plan, keys, c, u) {
+        Lookup::NoCell => damaged(),
+        Lookup::Cell(n) => {
+            wire::put_value(cells, n, v);
+            go_on(place + 1, count, regs)
+        }
+    }
+}
+
+// The amount leaves cell n, which holds it, and reaches cell m; there "a balance .. below zero or passing 2^63 - 1" is damage.
+fn pay_into(
+    cells: &mut [i64],
+    place: usize,
+    count: u64,
+    regs: [i64; 8],
+    amount: i64,
+    n: usize,
+    m: usize,
+) -> Turn
+    requires { ⌜ place ≤ maxCode ⌝ }
+    requires { ⌜ nonNeg amount ≡ true ⌝ }
+    requires { ⌜ ltZ (cellAt (now cells) n) amount ≡ false ⌝ }
+    ensures { λ r. ⌜ ((saved : List ℤ) → record { turn = r; cells = now (cells .exit) } ≡ turned (now (cells .entry)) (depositCell (localAt place saved) count regs amount n (now (cells .entry)) (Lookup.Cell m))) ⌝ }
+{
+    let held = wire::value(cells, n);
+    let there = wire::value(cells, m);
+    if there < 0 {
+        return damaged();
+    }
+    if LARGEST - there < amount {
+        return damaged();
+    }
+    wire::put_value(cells, n, held - amount);
+    wire::put_value(cells, m, there + amount);
+    go_on(place + 1, count, regs)
+}
+
+// The same, where the second cell is found.
+fn deposit(
+    plan: &[u64],
+    keys: &[u64],
+    cells: &mut [i64],
+    c: usize,
+    place: usize,
+    count: u64,
+    regs: [i64; 8],
+    amount: i64,
+    n: usize,
+    u: KeyUse,
+) -> Turn
+    requires { ⌜ maxCalls * planWords ≤ length (now plan) ⌝ }
+    requires { ⌜ c < maxCalls ⌝ }
+    requires { ⌜ place ≤ maxCode ⌝ }
+    requires { ⌜ Worded u ⌝ }
+    requires { ⌜ nonNeg amount ≡ true ⌝ }
+    requires { ⌜ ltZ (cellAt (now cells) n) amount ≡ false ⌝ }
+    ensures { λ r. ⌜ ((saved : List ℤ) → record { turn = r; cells = now (cells .exit) } ≡ turned (now (cells .entry)) (depositCell (localAt place saved) count regs amount n (now (cells .entry)) (lookupIn (now (plan .entry)) (now (keys .entry)) c (accessOf u)))) ⌝ }
+{
+    match lookup(plan, keys, c, u) {
+        Lookup::NoCell => damaged(),
+        Lookup::Cell(m) => pay_into(cells, place, count, regs, amount, n, m),
+    }
+}
+
+// An amount moves from the first cell to the second, which is looked at only where the first holds enough.
+fn transfer(
+    plan: &[u64],
+    keys: &[u64],
+    cells: &mut [i64],
+    olds: &[i64],
+    w: usize,
+    c: usize,
+    place: usize,
+    count: u64,
+    regs: [i64; 8],
+    amount: i64,
+    short: u64,
+    us: Uses,
+) -> Turn
+    requires { ⌜ Ready (now plan) (now olds) w c ⌝ }
+    requires { ⌜ place ≤ maxCode ⌝ }
+    requires { ⌜ Worded (us .first) ⌝ }
+    requires { ⌜ Worded (us .second) ⌝ }
+    requires { ⌜ nonNeg amount ≡ true ⌝ }
+    ensures { λ r. ⌜ record { turn = r; cells = now (cells .exit) } ≡ turned (now (cells .entry)) (transferCells (cellView (now (plan .entry)) (now (keys .entry)) c) (localAt place (ownOlds (now (plan .entry)) (now (olds .entry)) w c)) count regs amount short (accessOf (us .second)) (now (cells .entry)) (lookupIn (now (plan .entry)) (now (keys .entry)) c (accessOf (us .first)))) ⌝ }
+{
+    let to = us.second;
+    let Lookup::Cell(n) = lookup(plan, keys, c, us.first) else {
+        return damaged();
+    };
+    let held = wire::value(cells, n);
+    if held < 0 {
+        return damaged();
+    }
+    if held < amount {
+        return finish(plan, cells, olds, w, c, count, short);
+    }
+    deposit(plan, keys, cells, c, place, count, regs, amount, n, to)
+}
+
+// An action is done on the cells that the place accesses. `count` is the count with this place's own instruction.
+pub(crate) fn perform(
+    plan: &[u64],
+    keys: &[u64],
+    cells: &mut [i64],
+    olds: &[i64],
+    w: usize,
+    c: usize,
+    place: usize,
+    count: u64,
+    us: Uses,
+    a: Action,
+) -> Turn
+    requires { ⌜ Ready (now plan) (now olds) w c ⌝ }
+    requires { ⌜ Doable place us (a .next) ⌝ }
+    ensures { λ r. ⌜ record { turn = r; cells = now (cells .exit) } ≡ turned (now (cells .entry)) (perform (cellView (now (plan .entry)) (now (keys .entry)) c) (localAt place (ownOlds (now (plan .entry)) (now (olds .entry)) w c)) count (accessesOf us) (a .regs) (a .next) (now (cells .entry))) ⌝ }
+{
+    let next = a.next;
+    let regs = a.regs;
+    match next {
+        Next::Go(to) => go_on(to, count, regs),
+        Next::End(outcome) => finish(plan, cells, olds, w, c, count, outcome),
+        Next::Load(x) => load(plan, keys, cells, c, place, count, regs, x, us.first),
+        Next::Store(v) => store(plan, keys, cells, c, place, count, regs, v, us.first),
+        Next::Transfer { amount, short } => transfer(
+            plan,
+            keys,
+            cells,
+            olds,
+            w,
+            c,
+            place,
+            count,
+            regs,
+            amount,
+            short,
+            us,
+        ),
+    }
+}

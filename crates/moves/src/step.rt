@@ -1,0 +1,351 @@
+// STEP: one step of the call that a worker holds.
+use crate::Fate;
+use crate::Holding;
+use crate::Reply;
+use crate::Turn;
+use crate::held::held;
+use crate::held::idle_seat;
+use crate::held::large_enough;
+use crate::held::seat_at;
+use crate::held::with_seat;
+use crate::layout::FINISHED;
+use crate::layout::STATUS_WORDS;
+use crate::lookup::plan_word;
+use crate::perform::damaged;
+use crate::perform::done;
+use crate::perform::perform;
+use action::act_at;
+use action::enter;
+use block::Call;
+use block::CallBody;
+use block::Decoded;
+use block::limits::MAX_CODE;
+use block::record::CALL_BYTES;
+use block::record::HEAD_BYTES;
+use block::record::INSTR_BYTES;
+use block::record::call_at;
+use block::record::code_at;
+use footprint::access::entry_uses;
+use footprint::access::instr_uses;
+use machine::Answer;
+use machine::Head;
+use machine::Seat;
+ghost use mathlib.Core.Path.{_≡_};
+ghost use mathlib.Core.Bool.{_&&_, _||_, not};
+ghost use mathlib.Core.List.{List};
+ghost use Prim.Native.Nat.{ℕ, _+_, _-_, _*_, _≤_, _<_};
+ghost use lib.Dec.{ltb};
+ghost use lib.ListN.{drop};
+ghost use Rattle.block.specs.Instruction.{decode, instrBytes};
+ghost use Rattle.block.specs.Limits.{maxCalls, maxCode, maxWorkers};
+ghost use Rattle.block.specs.Record.{callBytes, headBytes};
+ghost use Rattle.machine.specs.Run.{planWord, seatOf, withReceipt};
+ghost use Rattle.machine.specs.Step.{stepCall, stepDecoded, stepEntry, stepInstr};
+ghost use Rattle.machine.specs.Moves.{localOf, stepHeld, stepOf, stepped, viewOf};
+ghost use Rattle.moves.specs.Lent.{lent, moved};
+ghost use Rattle.moves.specs.Turn.{localIn, ownOlds, settledBy, turned, viewIn, Ready, Placed};
+
+// The outcomes of a call that ends behind its code, and of one whose function is unknown.
+const ENDED: u64 = 0;
+
+const UNKNOWN_FUNCTION: u64 = 1;
+
+// The words of a call in the plan: where its code starts, and its length plus 1.
+const START_WORD: usize = 0;
+
+const CODE_WORD: usize = 1;
+
+// The length of a call record.
+const RECORD_BYTES: usize = HEAD_BYTES + CALL_BYTES;
+
+const LAST_PLACE: usize = MAX_CODE + 1;
+
+// "STEP(worker), at entry: unknown function, outcome 1"
+fn step_entry(
+    plan: &[u64],
+    keys: &[u64],
+    cells: &mut [i64],
+    olds: &[i64],
+    w: usize,
+    c: usize,
+    seat: Seat,
+    call: Call,
+) -> Turn
+    requires { ⌜ Ready (now plan) (now olds) w c ⌝ }
+    requires { ⌜ seat .place ≤ maxCode ⌝ }
+    ensures { λ r. ⌜ ((block : List ℕ) → record { turn = r; cells = now (cells .exit) } ≡ turned (now (cells .entry)) (stepEntry (viewIn block (now (plan .entry)) (now (keys .entry)) c call) (localIn seat (ownOlds (now (plan .entry)) (now (olds .entry)) w c)) (now (cells .entry)))) ⌝ }
+{
+    if plan_word(plan, c, CODE_WORD) == 0 {
+        return done(UNKNOWN_FUNCTION, seat.count);
+    }
+    let regs = seat.regs;
+    let uses = entry_uses(call);
+    let action = enter(call, regs);
+    perform(
+        plan,
+        keys,
+        cells,
+        olds,
+        w,
+        c,
+        seat.place,
+        seat.count,
+        uses,
+        action,
+    )
+}
+
+// "Else one instruction runs and counts 1, also the one that fails." The instruction is the one of the code at the seat's place.
+fn step_decoded(
+    code: &[u8],
+    size: u16,
+    plan: &[u64],
+    keys: &[u64],
+    cells: &mut [i64],
+    olds: &[i64],
+    w: usize,
+    c: usize,
+    seat: Seat,
+    call: Call,
+) -> Turn
+    requires { ⌜ Ready (now plan) (now olds) w c ⌝ }
+    requires { ⌜ (0 < seat .place) × (seat .place ≤ maxCode) ⌝ }
+    requires { ⌜ seat .count ≤ maxCode ⌝ }
+    ensures { λ r. ⌜ ((block : List ℕ) → record { turn = r; cells = now (cells .exit) } ≡ turned (now (cells .entry)) (stepDecoded (viewIn block (now (plan .entry)) (now (keys .entry)) c call) (localIn seat (ownOlds (now (plan .entry)) (now (olds .entry)) w c)) (now (cells .entry)) (decode (seat .place - 1) size (drop (instrBytes * (seat .place - 1)) (now (code .entry)))))) ⌝ }
+{
+    let index = seat.place - 1;
+    let regs = seat.regs;
+    let acted = act_at(code, INSTR_BYTES * index, index as u16, size, call, regs);
+    let decoded = acted.decoded;
+    let Decoded::Valid(i) = decoded else {
+        return damaged();
+    };
+    let uses = instr_uses(call, i);
+    perform(
+        plan,
+        keys,
+        cells,
+        olds,
+        w,
+        c,
+        seat.place,
+        seat.count + 1,
+        uses,
+        acted.action,
+    )
+}
+
+// The code stretch lies in the lent block; the instruction is decoded there.
+fn step_instr(
+    block: &[u8],
+    plan: &[u64],
+    keys: &[u64],
+    cells: &mut [i64],
+    olds: &[i64],
+    w: usize,
+    c: usize,
+    seat: Seat,
+    call: Call,
+) -> Turn
+    requires { ⌜ Ready (now plan) (now olds) w c ⌝ }
+    requires { ⌜ (0 < seat .place) × (seat .place < planWord (now plan) c 1) ⌝ }
+    requires { ⌜ planWord (now plan) c 1 ≤ maxCode + 1 ⌝ }
+    requires { ⌜ seat .count ≤ maxCode ⌝ }
+    ensures { λ r. ⌜ record { turn = r; cells = now (cells .exit) } ≡ turned (now (cells .entry)) (stepInstr (viewIn (now (block .entry)) (now (plan .entry)) (now (keys .entry)) c call) (localIn seat (ownOlds (now (plan .entry)) (now (olds .entry)) w c)) (now (cells .entry))) ⌝ }
+{
+    let start = plan_word(plan, c, START_WORD) as usize;
+    let size = plan_word(plan, c, CODE_WORD) as usize - 1;
+    let len = INSTR_BYTES * size;
+    if block.len() < len {
+        return damaged();
+    }
+    if block.len() - len < start {
+        return damaged();
+    }
+    let code = code_at(block, start, size);
+    step_decoded(code, size as u16, plan, keys, cells, olds, w, c, seat, call)
+}
+
+// One step of a call. "At place = length: outcome 0."
+fn step_call(
+    block: &[u8],
+    plan: &[u64],
+    keys: &[u64],
+    cells: &mut [i64],
+    olds: &[i64],
+    w: usize,
+    c: usize,
+    seat: Seat,
+    call: Call,
+) -> Turn
+    requires { ⌜ Ready (now plan) (now olds) w c ⌝ }
+    requires { ⌜ Placed (now plan) c seat ⌝ }
+    ensures { λ r. ⌜ record { turn = r; cells = now (cells .exit) } ≡ turned (now (cells .entry)) (stepCall (viewIn (now (block .entry)) (now (plan .entry)) (now (keys .entry)) c call) (localIn seat (ownOlds (now (plan .entry)) (now (olds .entry)) w c)) (now (cells .entry))) ⌝ }
+{
+    if seat.place == 0 {
+        return step_entry(plan, keys, cells, olds, w, c, seat, call);
+    }
+    if seat.place as u64 == plan_word(plan, c, CODE_WORD) {
+        return done(ENDED, seat.count);
+    }
+    step_instr(block, plan, keys, cells, olds, w, c, seat, call)
+}
+
+// The receipt of a finished call: its outcome and its count.
+fn put_receipt(status: &mut [u64], c: usize, outcome: u64, count: u64)
+    requires { ⌜ c < maxCalls ⌝ }
+    ensures { λ r. ⌜ now (status .exit) ≡ withReceipt (now (status .entry)) c outcome count ⌝ }
+{
+    let at = STATUS_WORDS * c;
+    wire::put_word(status, at, FINISHED);
+    wire::put_word(status, at + 1, outcome);
+    wire::put_word(status, at + 2, count);
+}
+
+// "A finished or cancelled call frees its worker."
+fn settle(head: Head, status: &mut [u64], w: usize, c: usize, turn: Turn) -> Reply
+    requires { ⌜ w < maxWorkers ⌝ }
+    requires { ⌜ c < maxCalls ⌝ }
+    ensures { λ r. ⌜ record { head = r .head; answer = r .answer; status = now (status .exit) } ≡ settledBy head (now (status .entry)) w c turn ⌝ }
+{
+    let fate = turn.fate;
+    let regs = turn.regs;
+    match fate {
+        Fate::Broken => Reply {
+            head,
+            answer: Answer::Damaged,
+        },
+        Fate::Going(place) => {
+            let seat = Seat {
+                call: c + 1,
+                place,
+                count: turn.count,
+                regs,
+            };
+            Reply {
+                head: with_seat(head, w, seat),
+                answer: Answer::Accepted,
+            }
+        }
+        Fate::Over(outcome) => {
+            put_receipt(status, c, outcome, turn.count);
+            Reply {
+                head: with_seat(head, w, idle_seat()),
+                answer: Answer::Accepted,
+            }
+        }
+    }
+}
+
+// The run after a step of call c on worker w, whose record holds `call`.
+fn step_record(
+    head: Head,
+    block: &[u8],
+    plan: &[u64],
+    keys: &[u64],
+    cells: &mut [i64],
+    status: &mut [u64],
+    olds: &[i64],
+    w: usize,
+    c: usize,
+    call: Call,
+) -> Reply
+    requires { ⌜ Ready (now plan) (now olds) w c ⌝ }
+    requires { ⌜ Placed (now plan) c (seatOf head w) ⌝ }
+    ensures { λ r. ⌜ moved (r .answer) (lent (r .head) (now (plan .entry)) (now (keys .entry)) (now (cells .exit)) (now (status .exit)) (now (olds .entry))) ≡ stepped (lent head (now (plan .entry)) (now (keys .entry)) (now (cells .entry)) (now (status .entry)) (now (olds .entry))) w c (stepCall (viewOf (now (block .entry)) (lent head (now (plan .entry)) (now (keys .entry)) (now (cells .entry)) (now (status .entry)) (now (olds .entry))) c call) (localOf (lent head (now (plan .entry)) (now (keys .entry)) (now (cells .entry)) (now (status .entry)) (now (olds .entry))) w c) (now (cells .entry))) ⌝ }
+{
+    let seat = seat_at(head, w);
+    let turn = step_call(block, plan, keys, cells, olds, w, c, seat, call);
+    settle(head, status, w, c, turn)
+}
+
+// The place (entry, or 0 to the code's length) and the count.
+fn in_range(plan: &[u64], c: usize, seat: Seat) -> bool
+    requires { ⌜ c < maxCalls ⌝ }
+    ensures { λ r. ⌜ r ≡ (not (ltb (maxCode + 1) (planWord (now (plan .entry)) c 1) || ltb (planWord (now (plan .entry)) c 1) (seat .place)) && not (ltb maxCode (seat .count))) ⌝ }
+{
+    let code = plan_word(plan, c, CODE_WORD) as usize;
+    if LAST_PLACE < code {
+        return false;
+    }
+    if code < seat.place {
+        return false;
+    }
+    seat.count <= MAX_CODE as u64
+}
+
+// Whether the record of call c lies in a block of `len` bytes whose first call record starts at `first`.
+fn has_record(len: usize, first: usize, c: usize) -> bool
+    requires { ⌜ c < maxCalls ⌝ }
+    ensures { λ r. ⌜ r ≡ not (ltb len (first + (headBytes + callBytes) * c + (headBytes + callBytes))) ⌝ }
+{
+    let end = RECORD_BYTES * c + RECORD_BYTES;
+    if len < end {
+        return false;
+    }
+    first <= len - end
+}
+
+// A step of the call c that worker w holds.
+fn step_held(
+    head: Head,
+    block: &[u8],
+    plan: &[u64],
+    keys: &[u64],
+    cells: &mut [i64],
+    status: &mut [u64],
+    olds: &[i64],
+    w: usize,
+    c: usize,
+) -> Reply
+    requires { ⌜ Ready (now plan) (now olds) w c ⌝ }
+    ensures { λ r. ⌜ moved (r .answer) (lent (r .head) (now (plan .entry)) (now (keys .entry)) (now (cells .exit)) (now (status .exit)) (now (olds .entry))) ≡ stepHeld (now (block .entry)) (lent head (now (plan .entry)) (now (keys .entry)) (now (cells .entry)) (now (status .entry)) (now (olds .entry))) w c ⌝ }
+{
+    let seat = seat_at(head, w);
+    let first = head.first;
+    if !in_range(plan, c, seat) {
+        return Reply {
+            head,
+            answer: Answer::Damaged,
+        };
+    }
+    if !has_record(block.len(), first, c) {
+        return Reply {
+            head,
+            answer: Answer::Damaged,
+        };
+    }
+    let CallBody::InRange(call) = call_at(block, first + RECORD_BYTES * c + HEAD_BYTES) else {
+        return Reply {
+            head,
+            answer: Answer::Damaged,
+        };
+    };
+    step_record(head, block, plan, keys, cells, status, olds, w, c, call)
+}
+
+// STEP(worker) on a lent run and block: the answer and the head, with the cells and the status changed in place.
+pub fn step(
+    head: Head,
+    block: &[u8],
+    plan: &[u64],
+    keys: &[u64],
+    cells: &mut [i64],
+    status: &mut [u64],
+    olds: &[i64],
+    worker: usize,
+) -> Reply
+    ensures { λ r. ⌜ moved (r .answer) (lent (r .head) (now (plan .entry)) (now (keys .entry)) (now (cells .exit)) (now (status .exit)) (now (olds .entry))) ≡ stepOf (now (block .entry)) (lent head (now (plan .entry)) (now (keys .entry)) (now (cells .entry)) (now (status .entry)) (now (olds .entry))) worker ⌝ }
+{
+    let large = large_enough(
+        plan.len(),
+        keys.len(),
+        cells.len(),
+        status.len(),
+        olds.len(),
+    );
+    match held(head, large, worker) {
+        Holding::Answered(answer) => Reply { head, answer },
+        Holding::Holds(c) => step_held(head, block, plan, keys, cells, status, olds, worker, c),
+    }
+}

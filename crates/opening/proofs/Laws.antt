@@ -1,0 +1,198 @@
+-- What `open` answers, over plain values: the tests before the block is read, and a block that is prepared or refused. Assumes nothing.
+use mathlib.Core.Path.{_≡_, refl, sym, ap, _∙_}
+use mathlib.Core.Bool.{Bool, true, false, _&&_, _||_, not}
+use mathlib.Core.List.{List}
+use Prim.Native.Nat.{ℕ, _*_}
+use native.Mathlib.Omega.{arith}
+use lib.Dec.{eqb, leb, ltb}
+use lib.IntN.{ℤ, pos}
+use lib.ListN.{length}
+use Rattle.arith.specs.Choice.{if_then_else_}
+use Rattle.wire.specs.Bytes.{repeated}
+use Rattle.block.specs.Limits.{maxCalls, maxCallKeys, maxWorkers}
+use Rattle.block.specs.Reader as reading
+use Rattle.block.specs.Reader.{Read, readBlock}
+use Rattle.block.specs.Record.{Block}
+use Rattle.block.specs.declared.Refusal.{Refusal}
+use Rattle.block.specs.declared.Refusal.the-variants.{Workers, Buffers}
+use Rattle.block.specs.declared.Verdict.{Verdict}
+use Rattle.block.specs.declared.Verdict.the-variants as verdict
+use Rattle.footprint.specs.Plan as footprint
+use Rattle.footprint.specs.Plan.{Room, roomEnough, unprepared, prepareAnalysed, prepareRead, preparedOf}
+use Rattle.footprint.specs.Table.{Analysis, analysed, refused}
+use Rattle.analysis.specs.declared.Prepared.{Prepared}
+use Rattle.analysis.specs.Preparing.{preparing, roomOf}
+use Rattle.machine.specs.Opening as machine
+use Rattle.machine.specs.Opening.{headOf, refusedRun, openPrepared, openingOf}
+use Rattle.machine.specs.Run.{Sizes, statusWords, largeEnough}
+use Rattle.opening.specs.declared.Opened.{Opened}
+use Rattle.opening.specs.Opened.{sizesFor, opening, testedFor, openedBy, noneOf}
+
+-- ---- the tests before the block is read
+
+twice : (b : Bool) → not (not b) ≡ b
+twice true = refl
+twice false = refl
+
+-- The sizes are large enough by one test that fails where three of them are not, and one for each of the others.
+pub large-by : (s : Sizes) (room short status olds : Bool) → room ≡ roomEnough (roomOf (s .plan) (s .keys) (s .cells)) → not room ≡ short
+    → leb (maxCalls * statusWords) (s .status) ≡ status → leb (maxWorkers * maxCallKeys) (s .olds) ≡ olds
+    → (not short && status && olds) ≡ largeEnough s
+unfolding roomEnough largeEnough
+large-by s room short status olds e f g h =
+    let first : not short ≡ roomEnough (roomOf (s .plan) (s .keys) (s .cells)) = ap not (sym f) ∙ twice room ∙ e in
+    ap (λ (b : Bool). b && status && olds) first
+    ∙ ap (λ (b : Bool). roomEnough (roomOf (s .plan) (s .keys) (s .cells)) && b && olds) (sym g)
+    ∙ ap (λ (b : Bool). roomEnough (roomOf (s .plan) (s .keys) (s .cells)) && leb (maxCalls * statusWords) (s .status) && b) (sym h)
+
+abbrev by-tests : Bool → Bool → Verdict
+by-tests large workers = if not large then verdict.Refused Buffers else if workers then verdict.Refused Workers else verdict.Accepted
+
+tests-refuse : (a b : Bool) (why : Refusal) (s : Sizes) (x : machine.Opened) → by-tests a b ≡ verdict.Refused why
+    → (if not a then refusedRun s Buffers else if b then refusedRun s Workers else x) ≡ refusedRun s why
+tests-refuse true true why s x e = let same : Workers ≡ why = cc in ap (refusedRun s) same
+tests-refuse true false why s x e = let z : _≡_ {A = ℕ} 0 1 = cc in absurd (omega arith)
+tests-refuse false b why s x e = let same : Buffers ≡ why = cc in ap (refusedRun s) same
+
+tests-pass : (a b : Bool) (s : Sizes) (x : machine.Opened) → by-tests a b ≡ verdict.Accepted
+    → (if not a then refusedRun s Buffers else if b then refusedRun s Workers else x) ≡ x
+tests-pass true true s x e = let z : _≡_ {A = ℕ} 0 1 = cc in absurd (omega arith)
+tests-pass true false s x e = refl
+tests-pass false b s x e = let z : _≡_ {A = ℕ} 0 1 = cc in absurd (omega arith)
+
+-- The block as it is prepared in the room of these sizes.
+abbrev preparedIn : Sizes → List ℕ → footprint.Prepared
+preparedIn s file = preparedOf (roomOf (s .plan) (s .keys) (s .cells)) file
+
+module _ (s : Sizes) (file : List ℕ) (workers : ℕ) where
+  opening-refused : (why : Refusal) → testedFor (largeEnough s) workers ≡ verdict.Refused why → openingOf s file workers ≡ refusedRun s why
+  unfolding testedFor openingOf
+  opening-refused why e =
+      tests-refuse (largeEnough s) (eqb workers 0 || ltb maxWorkers workers) why s
+      (openPrepared s workers (preparedIn s file) (preparedIn s file .verdict)) e
+
+  opening-passed : testedFor (largeEnough s) workers ≡ verdict.Accepted
+      → openingOf s file workers ≡ openPrepared s workers (preparedIn s file) (preparedIn s file .verdict)
+  unfolding testedFor openingOf
+  opening-passed e =
+      tests-pass (largeEnough s) (eqb workers 0 || ltb maxWorkers workers) s
+      (openPrepared s workers (preparedIn s file) (preparedIn s file .verdict)) e
+
+-- ---- a block that is prepared
+
+-- A refused one leaves its buffers zero.
+abbrev pub Zeroed : Room → footprint.Prepared → Type 0
+Zeroed r p = (why : Refusal) → p .verdict ≡ verdict.Refused why → p ≡ unprepared r why
+
+unprepared-zero : (r : Room) (why : Refusal) → Zeroed r (unprepared r why)
+unfolding unprepared
+unprepared-zero r why other e = let same : why ≡ other = cc in ap (unprepared r) same
+
+analysed-zero : (r : Room) (b : Block) (a : Analysis) → Zeroed r (prepareAnalysed r b a)
+unfolding prepareAnalysed
+analysed-zero r b (refused why) = unprepared-zero r why
+analysed-zero r b (analysed sets keys) = λ why e. let z : _≡_ {A = ℕ} 0 1 = cc in absurd (omega arith)
+
+read-zero : (r : Room) (file : List ℕ) (x : Read) → Zeroed r (prepareRead r file x)
+unfolding prepareRead
+read-zero r file (reading.refused why) = unprepared-zero r why
+read-zero r file (reading.accepted b) = analysed-zero r b _
+
+either-zero : (r : Room) (a : Bool) (p q : footprint.Prepared) → Zeroed r p → Zeroed r q → Zeroed r (if a then p else q)
+either-zero r true p q x y = x
+either-zero r false p q x y = y
+
+prepared-zero : (r : Room) (file : List ℕ) → Zeroed r (preparedOf r file)
+unfolding preparedOf
+prepared-zero r file =
+    either-zero r (roomEnough r) (prepareRead r file (readBlock file)) (unprepared r Buffers) (read-zero r file (readBlock file)) (unprepared-zero r Buffers)
+
+-- A head and five lists that are equal, part by part.
+same-run : (v : Verdict) (w c n f c′ n′ f′ : ℕ) (x x′ y y′ : List ℕ) (z z′ : List ℤ) (t t′ : List ℕ) (o o′ : List ℤ)
+    → c ≡ c′ → n ≡ n′ → f ≡ f′ → x ≡ x′ → y ≡ y′ → z ≡ z′ → t ≡ t′ → o ≡ o′
+    → opening (record { verdict = v; head = headOf w c n f }) x y z t o ≡ opening (record { verdict = v; head = headOf w c′ n′ f′ }) x′ y′ z′ t′ o′
+same-run v w c n f c′ n′ f′ x x′ y y′ z z′ t t′ o o′ e₁ e₂ e₃ e₄ e₅ e₆ e₇ e₈ = rw (e₁, e₂, e₃, e₄, e₅, e₆, e₇, e₈)
+
+module _ (s : Sizes) (workers : ℕ) (p : Prepared) (plan keys : List ℕ) (cells : List ℤ) (status : List ℕ) (olds : List ℤ)
+    (q : footprint.Prepared) (e : preparing p plan keys cells ≡ q) (zero : Zeroed (roomOf (s .plan) (s .keys) (s .cells)) q)
+    (f : status ≡ repeated (s .status) 0) (g : olds ≡ repeated (s .olds) (pos 0)) where
+  by-verdict : (v : Verdict) → p .verdict ≡ v → opening (openedBy p workers v) plan keys cells status olds ≡ openPrepared s workers q v
+  unfolding openedBy openPrepared refusedRun unprepared
+  by-verdict verdict.Accepted h =
+      same-run verdict.Accepted workers (p .calls) (p .cells) (p .first) (q .calls) (q .cells) (q .first) plan (q .plan) keys (q .keys) cells (q .values)
+      status (repeated (s .status) 0) olds (repeated (s .olds) (pos 0))
+      (ap (λ (x : footprint.Prepared). x .calls) e)
+      (ap (λ (x : footprint.Prepared). x .cells) e)
+      (ap (λ (x : footprint.Prepared). x .first) e)
+      (ap (λ (x : footprint.Prepared). x .plan) e)
+      (ap (λ (x : footprint.Prepared). x .keys) e)
+      (ap (λ (x : footprint.Prepared). x .values) e)
+      f
+      g
+  by-verdict (verdict.Refused why) h =
+      let none = e ∙ zero why (sym (ap (λ (x : footprint.Prepared). x .verdict) e) ∙ h) in
+      same-run (verdict.Refused why) 0 0 0 0 0 0 0 plan (repeated (s .plan) 0) keys (repeated (s .keys) 0) cells (repeated (s .cells) (pos 0))
+      status (repeated (s .status) 0) olds (repeated (s .olds) (pos 0))
+      refl
+      refl
+      refl
+      (ap (λ (x : footprint.Prepared). x .plan) none)
+      (ap (λ (x : footprint.Prepared). x .keys) none)
+      (ap (λ (x : footprint.Prepared). x .values) none)
+      f
+      g
+
+  prepared-run : opening (openedBy p workers (p .verdict)) plan keys cells status olds ≡ openPrepared s workers q (q .verdict)
+  prepared-run = by-verdict (p .verdict) refl ∙ ap (openPrepared s workers q) (ap (λ (x : footprint.Prepared). x .verdict) e)
+
+-- ---- the answer, in cleared buffers
+
+pub record Cleared (s : Sizes) (plan keys : List ℕ) (cells : List ℤ) (status : List ℕ) (olds : List ℤ) : Type 0 where
+  pub plan-kept : length plan ≡ s .plan
+  pub keys-kept : length keys ≡ s .keys
+  pub cells-kept : length cells ≡ s .cells
+  pub status-kept : length status ≡ s .status
+  pub olds-kept : length olds ≡ s .olds
+  pub plan-zero : plan ≡ repeated (s .plan) 0
+  pub keys-zero : keys ≡ repeated (s .keys) 0
+  pub cells-zero : cells ≡ repeated (s .cells) (pos 0)
+  pub status-zero : status ≡ repeated (s .status) 0
+  pub olds-zero : olds ≡ repeated (s .olds) (pos 0)
+
+module _ (n m k t o : ℕ) (file : List ℕ) (workers : ℕ) (plan keys : List ℕ) (cells : List ℤ) (status : List ℕ) (olds : List ℤ)
+    (z : Cleared (sizesFor n m k t o) plan keys cells status olds) (large : Bool)
+    (l : large ≡ largeEnough (sizesFor (length plan) (length keys) (length cells) (length status) (length olds)))
+    (v : Verdict) (tested : v ≡ testedFor large workers) where
+  tested-as : v ≡ testedFor (largeEnough (sizesFor n m k t o)) workers
+  tested-as =
+      tested
+      ∙ ap (λ (b : Bool). testedFor b workers)
+      (l ∙ ap largeEnough (same n m k t o (length plan) (length keys) (length cells) (length status) (length olds) (z .plan-kept) (z .keys-kept) (z .cells-kept) (z .status-kept) (z .olds-kept)))
+    where
+      same : (n m k t o n′ m′ k′ t′ o′ : ℕ) → n′ ≡ n → m′ ≡ m → k′ ≡ k → t′ ≡ t → o′ ≡ o → sizesFor n′ m′ k′ t′ o′ ≡ sizesFor n m k t o
+      same n m k t o n′ m′ k′ t′ o′ a b c d e = rw (a, b, c, d, e)
+
+  -- 20 and 13.
+  pub open-refused : (why : Refusal) (r : Opened) → v ≡ verdict.Refused why → r ≡ noneOf why
+      → opening r plan keys cells status olds ≡ openingOf (sizesFor n m k t o) file workers
+  unfolding refusedRun
+  open-refused why r h made =
+      ap (λ (x : Opened). opening x plan keys cells status olds) made
+      ∙ same-run (verdict.Refused why) 0 0 0 0 0 0 0 plan (repeated n 0) keys (repeated m 0) cells (repeated k (pos 0)) status (repeated t 0) olds (repeated o (pos 0))
+      refl refl refl (z .plan-zero) (z .keys-zero) (z .cells-zero) (z .status-zero) (z .olds-zero)
+      ∙ sym (opening-refused (sizesFor n m k t o) file workers why (sym tested-as ∙ h))
+
+  -- 1 to 12, and the accepted block.
+  pub open-passed : (p : Prepared) (plan′ keys′ : List ℕ) (cells′ : List ℤ) (r : Opened) → v ≡ verdict.Accepted
+      → preparing p plan′ keys′ cells′ ≡ preparedOf (roomOf (length plan) (length keys) (length cells)) file
+      → r ≡ openedBy p workers (p .verdict)
+      → opening r plan′ keys′ cells′ status olds ≡ openingOf (sizesFor n m k t o) file workers
+  open-passed p plan′ keys′ cells′ r h e made =
+      ap (λ (x : Opened). opening x plan′ keys′ cells′ status olds) made
+      ∙ prepared-run (sizesFor n m k t o) workers p plan′ keys′ cells′ status olds (preparedOf (roomOf n m k) file)
+      (e ∙ ap (λ (x : Room). preparedOf x file) (same n m k (length plan) (length keys) (length cells) (z .plan-kept) (z .keys-kept) (z .cells-kept)))
+      (prepared-zero (roomOf n m k) file) (z .status-zero) (z .olds-zero)
+      ∙ sym (opening-passed (sizesFor n m k t o) file workers (sym tested-as ∙ h))
+    where
+      same : (n m k n′ m′ k′ : ℕ) → n′ ≡ n → m′ ≡ m → k′ ≡ k → roomOf n′ m′ k′ ≡ roomOf n m k
+      same n m k n′ m′ k′ a b c = rw (a, b, c)

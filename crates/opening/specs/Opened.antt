@@ -1,0 +1,47 @@
+-- What `open` answers, put together with the buffers that it leaves. Assumes nothing.
+use mathlib.Core.Bool.{Bool, _||_, not}
+use mathlib.Core.List.{List}
+use Prim.Native.Nat.{ℕ}
+use lib.Dec.{eqb, ltb}
+use lib.IntN.{ℤ}
+use Rattle.arith.specs.Choice.{if_then_else_}
+use Rattle.block.specs.Limits.{maxWorkers}
+use Rattle.block.specs.declared.Refusal.{Refusal}
+use Rattle.block.specs.declared.Refusal.the-variants.{Workers, Buffers}
+use Rattle.block.specs.declared.Verdict.{Verdict}
+use Rattle.block.specs.declared.Verdict.the-variants as verdict
+use Rattle.analysis.specs.declared.Prepared.{Prepared}
+use Rattle.machine.specs.Opening as machine
+use Rattle.machine.specs.Opening.{headOf}
+use Rattle.machine.specs.Run.{Sizes}
+use Rattle.opening.specs.declared.Opened.{Opened}
+
+abbrev pub sizesFor : (plan keys cells status olds : ℕ) → Sizes
+sizesFor plan keys cells status olds = record { plan = plan; keys = keys; cells = cells; status = status; olds = olds }
+
+-- An answer with the buffers.
+abbrev pub opening : Opened → List ℕ → List ℕ → List ℤ → List ℕ → List ℤ → machine.Opened
+opening r plan keys cells status olds =
+    record {
+      answer = r .verdict;
+      run = record { head = r .head; plan = plan; keys = keys; cells = cells; status = status; olds = olds };
+    }
+
+-- The answer of a refusal.
+abbrev pub noneOf : Refusal → Opened
+noneOf why = record { verdict = verdict.Refused why; head = headOf 0 0 0 0 }
+
+-- The answer of a block that is prepared.
+unfoldable pub openedBy : Prepared → ℕ → Verdict → Opened
+openedBy p workers (verdict.Refused why) = noneOf why
+openedBy p workers verdict.Accepted =
+    record { verdict = verdict.Accepted; head = headOf workers (p .calls) (p .cells) (p .first) }
+
+-- "20 (below; here with offset 0 and buffers zero), 13": what is tested before the block is read.
+unfoldable pub testedFor : (large : Bool) → (workers : ℕ) → Verdict
+testedFor large workers =
+    if not large
+    then verdict.Refused Buffers
+    else if eqb workers 0 || ltb maxWorkers workers
+    then verdict.Refused Workers
+    else verdict.Accepted

@@ -1,0 +1,153 @@
+// The opening of a block: the head of its run, with its plan, its keys and its cells in the lent buffers, or its refusal.
+use analysis::Prepared;
+use block::Refusal;
+use block::Verdict;
+use block::limits::MAX_CALL_KEYS;
+use block::limits::MAX_CALLS;
+use block::limits::MAX_WORKERS;
+use machine::Head;
+use machine::Seat;
+ghost use mathlib.Core.Path.{_≡_};
+ghost use lib.IntN.{pos};
+ghost use lib.ListN.{length};
+ghost use Rattle.wire.specs.Bytes.{repeated};
+ghost use Rattle.machine.specs.Opening.{headOf, openingOf};
+ghost use Rattle.machine.specs.Run.{largeEnough};
+ghost use Rattle.opening.specs.Opened.{sizesFor, opening, testedFor, openedBy, noneOf};
+
+// A call has 4 words of the status.
+const STATUS_WORDS: usize = 4;
+
+// What a block is opened to: its verdict, and the head of its run, all zero if it is refused.
+pub struct Opened {
+    pub verdict: Verdict,
+    pub head: Head,
+}
+
+// A head whose workers hold no call.
+fn idle_head(workers: usize, calls: usize, cells: usize, first: usize) -> Head
+    ensures { λ r. ⌜ r ≡ headOf workers calls cells first ⌝ }
+{
+    let seat = Seat {
+        call: 0,
+        place: 0,
+        count: 0,
+        regs: [0; 8],
+    };
+    Head {
+        workers,
+        calls,
+        cells,
+        first,
+        seats: [seat; MAX_WORKERS],
+    }
+}
+
+// What is answered of a refused block.
+fn refused(why: Refusal) -> Opened
+    ensures { λ r. ⌜ r ≡ noneOf why ⌝ }
+{
+    Opened {
+        verdict: Verdict::Refused(why),
+        head: idle_head(0, 0, 0, 0),
+    }
+}
+
+// What is answered of a block that is prepared.
+fn answered(p: Prepared, workers: usize) -> Opened
+    ensures { λ r. ⌜ r ≡ openedBy p workers (p .verdict) ⌝ }
+{
+    let verdict = p.verdict;
+    match verdict {
+        Verdict::Refused(why) => refused(why),
+        Verdict::Accepted => Opened {
+            verdict: Verdict::Accepted,
+            head: idle_head(workers, p.calls, p.cells, p.first),
+        },
+    }
+}
+
+// Whether buffers of these lengths hold what the limits allow.
+fn large_enough(plan: usize, keys: usize, cells: usize, status: usize, olds: usize) -> bool
+    ensures { λ r. ⌜ r ≡ largeEnough (sizesFor plan keys cells status olds) ⌝ }
+{
+    if !analysis::room_enough(plan, keys, cells) {
+        return false;
+    }
+    if status < MAX_CALLS * STATUS_WORDS {
+        return false;
+    }
+    MAX_WORKERS * MAX_CALL_KEYS <= olds
+}
+
+// The refusals that come before the block is read: 20 and 13.
+fn tested(large: bool, workers: usize) -> Verdict
+    ensures { λ r. ⌜ r ≡ testedFor large workers ⌝ }
+{
+    if !large {
+        return Verdict::Refused(Refusal::Buffers);
+    }
+    if workers == 0 {
+        return Verdict::Refused(Refusal::Workers);
+    }
+    if MAX_WORKERS < workers {
+        return Verdict::Refused(Refusal::Workers);
+    }
+    Verdict::Accepted
+}
+
+// The status of the calls and the old values become zero.
+fn clear_states(status: &mut [u64], olds: &mut [i64])
+    ensures { λ r. ⌜ now (status .exit) ≡ repeated (length (now (status .entry))) 0 ⌝ }
+    ensures { λ r. ⌜ now (olds .exit) ≡ repeated (length (now (olds .entry))) (pos 0) ⌝ }
+{
+    wire::clear_words(status);
+    wire::clear_values(olds);
+}
+
+// All five buffers become zero.
+fn clear_all(
+    plan: &mut [u64],
+    keys: &mut [u64],
+    cells: &mut [i64],
+    status: &mut [u64],
+    olds: &mut [i64],
+)
+    ensures { λ r. ⌜ now (plan .exit) ≡ repeated (length (now (plan .entry))) 0 ⌝ }
+    ensures { λ r. ⌜ now (keys .exit) ≡ repeated (length (now (keys .entry))) 0 ⌝ }
+    ensures { λ r. ⌜ now (cells .exit) ≡ repeated (length (now (cells .entry))) (pos 0) ⌝ }
+    ensures { λ r. ⌜ now (status .exit) ≡ repeated (length (now (status .entry))) 0 ⌝ }
+    ensures { λ r. ⌜ now (olds .exit) ≡ repeated (length (now (olds .entry))) (pos 0) ⌝ }
+{
+    wire::clear_words(plan);
+    wire::clear_words(keys);
+    wire::clear_values(cells);
+    clear_states(status, olds);
+}
+
+// The run of a block for 1 to 8 workers, every call waiting: 20 if a buffer is too short, then 13, then 1 to 12. The head and the buffers
+// are zero if it is refused.
+pub fn open(
+    file: &[u8],
+    workers: usize,
+    plan: &mut [u64],
+    keys: &mut [u64],
+    cells: &mut [i64],
+    status: &mut [u64],
+    olds: &mut [i64],
+) -> Opened
+    ensures { λ r. ⌜ opening r (now (plan .exit)) (now (keys .exit)) (now (cells .exit)) (now (status .exit)) (now (olds .exit)) ≡ openingOf (sizesFor (length (now (plan .entry))) (length (now (keys .entry))) (length (now (cells .entry))) (length (now (status .entry))) (length (now (olds .entry)))) (now (file .entry)) workers ⌝ }
+{
+    clear_all(plan, keys, cells, status, olds);
+    let large = large_enough(
+        plan.len(),
+        keys.len(),
+        cells.len(),
+        status.len(),
+        olds.len(),
+    );
+    match tested(large, workers) {
+        Verdict::Refused(why) => refused(why),
+        Verdict::Accepted => answered(analysis::prepare(file, plan, keys, cells), workers),
+    }
+}

@@ -1,0 +1,29 @@
+-- `show::print` keeps to its buffers: the part that is lent is no longer than the whole. Assumes nothing.
+use mathlib.Core.Path.{sym}
+use native.Mathlib.Omega.{arith}
+use lib.Seq.{length-take-le}
+use borrow.Author.Needs.{needs}
+use Rattle.show.proofs.print.Statement.{statement}
+use Rattle.show.proofs.print.Tie as tie
+use Rattle.show.proofs.print.Reads as reads
+use Rattle.show.proofs.print.Lts as lts
+use Rattle.io.proofs.write_all.Reads as write-all-reads
+
+-- src/main.rt:35:38
+slice-aggregate-write-all : tie.Need-slice-aggregate-write-all
+slice-aggregate-write-all c = sym (length-take-le _ _ (omega arith))
+
+-- src/main.rt:35:9
+write-all-requires : tie.Need-write-all-requires
+write-all-requires c κs = search needs
+
+-- src/main.rt:33:1
+returns : tie.Need-returns
+returns c = search needs
+
+-- src/main.rt:33:1
+returns-2 : tie.Need-returns-2
+returns-2 c = search needs
+
+pub print-spec : {M : Type 1} → statement M
+print-spec = tie.close (tie.spec slice-aggregate-write-all write-all-requires returns returns-2)

@@ -1,0 +1,44 @@
+// What programs write to standard output.
+use libc::STDOUT_FILENO;
+
+// The buffers of a run, and of a text of at most 256 rows of 1,024 bytes and the line before them.
+const PLAN: usize = 8192;
+
+const KEYS: usize = 2048;
+
+const CELLS: usize = 1024;
+
+const STATUS: usize = 1024;
+
+const OLDS: usize = 192;
+
+const TEXT: usize = 262400;
+
+// Writes the first n bytes of the text.
+pub fn print(text: &[u8], n: usize) {
+    if n <= text.len() {
+        io::write_all(STDOUT_FILENO, &text[..n]);
+    }
+}
+
+// Writes the listing of the file's first n bytes.
+pub fn print_listing(file: &[u8], n: usize) {
+    let mut plan = [0u64; PLAN];
+    let mut keys = [0u64; KEYS];
+    let mut cells = [0i64; CELLS];
+    let mut status = [0u64; STATUS];
+    let mut olds = [0i64; OLDS];
+    let mut text = [0u8; TEXT];
+    if n <= file.len() {
+        let length = listing::list(
+            &file[..n],
+            &mut plan,
+            &mut keys,
+            &mut cells,
+            &mut status,
+            &mut olds,
+            &mut text,
+        );
+        print(&text, length);
+    }
+}
