@@ -18,7 +18,7 @@ fn list_in(file: &mut [u8]) -> bool {
         return false;
     }
     let n = io::read_full(STDIN_FILENO, &mut file[..length]);
-    show::print_listing(file, n);
+    host::print_listing(file, n);
     true
 }
 

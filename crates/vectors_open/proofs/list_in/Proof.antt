@@ -8,7 +8,7 @@ use Rattle.vectors_open.proofs.list_in.Tie as tie
 use Rattle.vectors_open.proofs.list_in.Reads as reads
 use Rattle.vectors_open.proofs.list_in.Lts as lts
 use Rattle.io.proofs.read_full.Reads as read-full-reads
-use Rattle.show.proofs.print_listing.Reads as print-listing-reads
+use Rattle.host.proofs.print_listing.Reads as print-listing-reads
 use Rattle.wire.proofs.get32.Reads as get32-reads
 
 -- src/main.rt:13:36

@@ -1,4 +1,4 @@
-// What programs write to standard output.
+// What the programs exchange with their host: the file block.bin and standard output.
 use libc::STDOUT_FILENO;
 
 // The buffers of a run, and of a text of at most 256 rows of 1,024 bytes and the line before them.
@@ -13,6 +13,17 @@ const STATUS: usize = 1024;
 const OLDS: usize = 192;
 
 const TEXT: usize = 262400;
+
+// The bytes of block.bin in the current folder, as many as the buffer takes; a missing file has none. Answers how many.
+pub fn read_block_file(file: &mut [u8]) -> usize {
+    let fd = os::open_read(b"block.bin");
+    if fd < 0 {
+        return 0;
+    }
+    let n = io::read_full(fd, file);
+    libc::close(fd);
+    n
+}
 
 // Writes the first n bytes of the text.
 pub fn print(text: &[u8], n: usize) {

@@ -1,12 +1,12 @@
--- `show::print` keeps to its buffers: the part that is lent is no longer than the whole. Assumes nothing.
+-- `host::print` keeps to its buffers: the part that is lent is no longer than the whole. Assumes nothing.
 use mathlib.Core.Path.{sym}
 use native.Mathlib.Omega.{arith}
 use lib.Seq.{length-take-le}
 use borrow.Author.Needs.{needs}
-use Rattle.show.proofs.print.Statement.{statement}
-use Rattle.show.proofs.print.Tie as tie
-use Rattle.show.proofs.print.Reads as reads
-use Rattle.show.proofs.print.Lts as lts
+use Rattle.host.proofs.print.Statement.{statement}
+use Rattle.host.proofs.print.Tie as tie
+use Rattle.host.proofs.print.Reads as reads
+use Rattle.host.proofs.print.Lts as lts
 use Rattle.io.proofs.write_all.Reads as write-all-reads
 
 -- src/main.rt:35:38

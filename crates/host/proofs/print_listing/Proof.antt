@@ -1,13 +1,13 @@
--- `show::print_listing` keeps to its buffers: the part that is lent is no longer than the whole. Assumes nothing.
+-- `host::print_listing` keeps to its buffers: the part that is lent is no longer than the whole. Assumes nothing.
 use mathlib.Core.Path.{sym}
 use native.Mathlib.Omega.{arith}
 use lib.Seq.{length-take-le}
 use borrow.Author.Needs.{needs}
-use Rattle.show.proofs.print_listing.Statement.{statement}
-use Rattle.show.proofs.print_listing.Tie as tie
-use Rattle.show.proofs.print_listing.Reads as reads
-use Rattle.show.proofs.print_listing.Lts as lts
-use Rattle.show.proofs.print.Reads as print-reads
+use Rattle.host.proofs.print_listing.Statement.{statement}
+use Rattle.host.proofs.print_listing.Tie as tie
+use Rattle.host.proofs.print_listing.Reads as reads
+use Rattle.host.proofs.print_listing.Lts as lts
+use Rattle.host.proofs.print.Reads as print-reads
 use Rattle.listing.proofs.list.Reads as list-reads
 
 -- src/main.rt:49:13
