@@ -1,0 +1,30 @@
+-- `serial::run_call` meets its contract: the steps go on from the run that the begin leaves. Assumes nothing.
+use borrow.Author.Needs.{needs}
+use Rattle.serial.specs.SerialLaws.{call-run}
+use Rattle.serial.proofs.run_call.Statement.{statement}
+use Rattle.serial.proofs.run_call.Tie as tie
+
+begin-requires : tie.Need-begin-requires
+begin-requires c κs = search needs
+
+step-to-end-requires : tie.Need-step-to-end-requires
+step-to-end-requires c κs = search needs
+
+same-length : tie.Need-same-length
+same-length c = search needs
+
+same-length-2 : tie.Need-same-length-2
+same-length-2 c = search needs
+
+same-length-3 : tie.Need-same-length-3
+same-length-3 c = search needs
+
+returns : tie.Need-returns
+returns c =
+    let a = c .before .before .before .before .before .before .before .before .before .before .before .before .before .before .before .before .before .before .args in
+    call-run (a .block .now) _ (a .call) (c .before .before .before .before .before .before .before .before .before .before .begin .ensures) (c .before .before .before .step-to-end .ensures)
+
+pub run-call-spec : {M : Type 1} → statement M
+run-call-spec =
+    tie.close
+    (tie.spec begin-requires step-to-end-requires same-length same-length-2 same-length-3 returns)

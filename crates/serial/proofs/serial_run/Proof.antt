@@ -1,0 +1,82 @@
+-- `serial::serial_run` meets its contract: the run so far is that of the calls below the next one. Assumes nothing.
+use borrow.Author.Needs.{needs}
+use native.Mathlib.Omega.{arith}
+use Prim.Native.Nat.{_-_, _≤_, min}
+use mathlib.Core.Path.{_≡_, refl, _∙_}
+use lib.ListN.{length}
+use Rattle.wire.specs.Bytes.{below}
+use Rattle.block.specs.Limits.{maxCalls}
+use Rattle.machine.specs.Serial.{runCalls}
+use Rattle.moves.specs.Lent.{lent}
+use Rattle.serial.specs.SerialLaws.{calls-none, calls-next, calls-all}
+use Rattle.serial.proofs.serial_run.Statement.{statement}
+use Rattle.serial.proofs.serial_run.Tie as tie
+
+abbrev Inv-loop : tie.InvT-loop
+Inv-loop head₀ block plan keys cells₀ status₀ olds₀ calls call₀ head cells status olds call =
+    (call ≤ calls)
+    × (length cells ≡ length cells₀) × (length status ≡ length status₀) × (length olds ≡ length olds₀)
+    × (lent head plan keys cells status olds ≡ runCalls block (lent head₀ plan keys cells₀ status₀ olds₀) (below call))
+
+abbrev μ-loop : tie.MeasureT-loop
+μ-loop head₀ block plan keys cells₀ status₀ olds₀ calls call₀ head cells status olds call = calls - call
+
+call-count-requires : tie.Need-call-count-requires Inv-loop μ-loop
+call-count-requires c κs = search needs
+
+loop-holds : tie.Need-loop-holds Inv-loop μ-loop
+loop-holds c = (omega arith, refl, refl, refl, calls-none (c .before .before .before .before .before .args .block .now) _)
+
+run-call-requires : tie.Need-run-call-requires Inv-loop μ-loop
+run-call-requires c κs = search needs
+
+add-call : tie.Need-add-call Inv-loop μ-loop
+add-call c = omega arith
+
+loop-less : tie.Need-loop-less Inv-loop μ-loop
+loop-less c = omega arith
+
+loop-again : tie.Need-loop-again Inv-loop μ-loop
+loop-again c =
+    let a = c .before .before .before .before .before .before .before .before .before .before .before .before .before .before .before .args in
+    let l = c .before .before .before .before .before .before .before .before .before .loop in
+    let made = c .before .before .before .before .run-call in (
+      omega arith,
+      made .kept .1 .1 .1 .1 .0 ∙ l .inv .1,
+      made .kept .1 .1 .1 .1 .1 .0 ∙ l .inv .2,
+      made .kept .1 .1 .1 .1 .1 .1 .0 ∙ l .inv .3,
+      calls-next (a .block .now) _ (l .call) (l .inv .4) (made .ensures),
+    )
+
+same-length : tie.Need-same-length Inv-loop μ-loop
+same-length c = c .before .loop .inv .1
+
+same-length-2 : tie.Need-same-length-2 Inv-loop μ-loop
+same-length-2 c = c .before .loop .inv .2
+
+same-length-3 : tie.Need-same-length-3 Inv-loop μ-loop
+same-length-3 c = c .before .loop .inv .3
+
+returns : tie.Need-returns Inv-loop μ-loop
+returns c =
+    let a = c .before .before .before .before .before .before .before .args in
+    let l = c .before .loop in
+    let all : l .call ≡ min (a .head .calls) maxCalls = omega (arith, c .before .before .call-count .ensures) in
+    calls-all (a .block .now) _ (l .inv .4) all
+
+pub serial-run-spec : {M : Type 1} → statement M
+serial-run-spec =
+    tie.close
+    (tie.spec
+    Inv-loop
+    μ-loop
+    call-count-requires
+    loop-holds
+    run-call-requires
+    add-call
+    loop-less
+    loop-again
+    same-length
+    same-length-2
+    same-length-3
+    returns)
