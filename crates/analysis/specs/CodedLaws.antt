@@ -3,16 +3,14 @@ use mathlib.Core.Path.{_≡_, refl, sym, ap, ap₂, _∙_}
 use mathlib.Core.Bool.{Bool, true, false}
 use mathlib.Core.List.{List, [], _∷_, map}
 use mathlib.Core.Option.{Option, none, some}
-use Prim.Native.Nat.{ℕ, zero, suc, _+_, _-_, _≤_, _<_}
+use Prim.Native.Nat.{ℕ, suc, _+_, _-_}
 use native.Mathlib.Nat.{zero-add}
-use native.Mathlib.Decide.{decLt}
 use native.Mathlib.Omega.{arith}
 use borrow.Author.Tests.{lt-ltb, eq-eqb, ne-eqb}
 use lib.Dec.{eqb, ltb, leb·suc-suc}
-use lib.ListN.{length, getD, replicate, length-map, List·getD-append, List·getD-eq-default}
-use lib.Seq.{getD-append-add}
+use lib.ListN.{length, getD, length-map}
 use Rattle.arith.specs.Choice.{if_then_else_}
-use Rattle.wire.specs.Bytes.{repeated, padded}
+use Rattle.wire.specs.Laws.{padded-at}
 use Rattle.wire.specs.RowOps.{firstOf}
 use Rattle.block.specs.Record.{Function, Block, functionId, callId, codeAt}
 use Rattle.block.specs.Reader.{accepted}
@@ -24,28 +22,6 @@ use Rattle.reader.specs.Layout.{table, layoutOf}
 use Rattle.analysis.specs.declared.Code.{Code}
 use Rattle.analysis.specs.Coded.{wordsOf, noCode, holdsId, idPlace, codeAtPlace, codeIn, codeSets}
 use Rattle.analysis.specs.GatheredLaws.{if-true, if-false, placeOf, search-place}
-
--- ---- padded lists
-
-zeros-at : (m i : ℕ) → _≡_ {A = ℕ} (getD (replicate m 0) i 0) 0
-zeros-at zero i = refl
-zeros-at (suc m) zero = refl
-zeros-at (suc m) (suc i) = zeros-at m i
-
--- Zeros behind a list of numbers change no element: past the end there is 0 too.
-pub padded-at : (n : ℕ) (l : List ℕ) (i : ℕ) → getD (padded n 0 l) i 0 ≡ getD l i 0
-unfolding repeated
-padded-at n l i = go (decLt i (length l))
-  where
-    go : Dec (i < length l) → getD (padded n 0 l) i 0 ≡ getD l i 0
-    go (yes h) = List·getD-append l (replicate (n - length l) 0) 0 i h
-    go (no h) =
-        let far : i ≡ length l + (i - length l) = omega arith in
-        let past : length l ≤ i = omega arith in
-        ap (λ (k : ℕ). getD (padded n 0 l) k 0) far
-        ∙ getD-append-add l (replicate (n - length l) 0) (i - length l) 0
-        ∙ zeros-at (n - length l) (i - length l)
-        ∙ sym (List·getD-eq-default l 0 {n = i} past)
 
 -- ---- the code of a function
 
@@ -71,7 +47,7 @@ module _ (b : Block) (c : Call) where
       let ids : List ℕ = map functionId (b .functions) in
       ap (λ (n : ℕ). firstOf (holdsId (table functionId (b .functions)) (callId c)) n 0) (sym (length-map (b .functions) functionId))
       ∙ search-place (holdsId (table functionId (b .functions)) (callId c)) (callId c) ids 0
-      (λ i h. ap (λ (n : ℕ). eqb n (callId c)) (padded-at 64 ids (0 + i) ∙ ap (λ (k : ℕ). getD ids k 0) (zero-add i)))
+      (λ i h. ap (λ (n : ℕ). eqb n (callId c)) (padded-at 64 0 ids (0 + i) ∙ ap (λ (k : ℕ). getD ids k 0) (zero-add i)))
       ∙ zero-add (placeOf ids (callId c))
 
   -- The code that the tables tell is that of the function that the call names.
@@ -80,8 +56,8 @@ module _ (b : Block) (c : Call) where
   code-found =
       ap (λ (at : ℕ). wordsOf (codeAtPlace (layoutOf (accepted b)) at)) place-found
       ∙ ap₂ (λ (s n : ℕ). wordsOf (if ltb at (length (b .functions)) then record { start = s; length = n + 1 } else noCode))
-      (padded-at 64 (map (λ f. f .start) (b .functions)) at)
-      (padded-at 64 (map (λ f. f .size) (b .functions)) at)
+      (padded-at 64 0 (map (λ f. f .start) (b .functions)) at)
+      (padded-at 64 0 (map (λ f. f .size) (b .functions)) at)
       ∙ code-by-place (b .functions) c
     where
       at : ℕ

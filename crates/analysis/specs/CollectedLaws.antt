@@ -80,7 +80,7 @@ listed-of : (t : List ℕ) (es : List Access) → Within (keysOf es) t → Each 
 unfolding member
 listed-of t [] w u = tt
 listed-of t (e ∷ es) w u =
-    (record { in-table = w (e .key) (first (e .key) (member (e .key) (keysOf es))); has-use = u .0 .used }, listed-of t es (λ k m. w k (later (eqb k (e .key)) (member k (keysOf es)) m)) (u .1))
+    (record { in-table = w (e .key) (first (e .key) (member (e .key) (keysOf es))); has-use = u .0 }, listed-of t es (λ k m. w k (later (eqb k (e .key)) (member k (keysOf es)) m)) (u .1))
   where
     first : (k : ℕ) (b : Bool) → (eqb k k || b) ≡ true
     first k b = rw (eq-eqb k k refl)

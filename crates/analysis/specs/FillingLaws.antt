@@ -12,11 +12,11 @@ use lib.Dec.{lit<}
 use lib.ListN.{length, getD, drop, drop-of-length-le}
 use lib.Seq.{drop-cons}
 use Rattle.wire.specs.Bytes.{repeated, padded}
+use Rattle.wire.specs.Laws.{padded-at}
 use Rattle.block.specs.Limits.{maxCallKeys, maxKeys}
 use Rattle.footprint.specs.Access.{Access}
 use Rattle.footprint.specs.Plan.{keyWords}
 use Rattle.footprint.specs.Table.{insertKey, insertKeys}
-use Rattle.analysis.specs.CodedLaws.{padded-at}
 use Rattle.analysis.specs.Filling.{pairedKeys, setKeys, insertAll, fitting, countOf, Worded, Filled}
 use Rattle.analysis.specs.Gathered.{highOf, lowOf, gathered}
 use Rattle.analysis.specs.GatheredLaws.{if-true, if-false, gathered-over, gathered-fits, gathered-count}
@@ -74,8 +74,8 @@ pub gathered-worded : (es : List Access) → Worded (gathered es)
 gathered-worded es = record { few = gathered-count es; lows = go (decLt maxCallKeys (length es)) }
   where
     go : Dec (maxCallKeys < length es) → (i : ℕ) → getD (gathered es .lows) i 0 < 2 ^ 32
-    go (yes h) i = rw (gathered-over es h, padded-at maxCallKeys [] i) (lit< tt)
-    go (no h) i = rw (gathered-fits es (omega arith), padded-at maxCallKeys (map lowOf es) i) (lows-below es i)
+    go (yes h) i = rw (gathered-over es h, padded-at {A = ℕ} maxCallKeys 0 [] i) (lit< tt)
+    go (no h) i = rw (gathered-fits es (omega arith), padded-at {A = ℕ} maxCallKeys 0 (map lowOf es) i) (lows-below es i)
 
 -- ---- all keys, and those that fit
 

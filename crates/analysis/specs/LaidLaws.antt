@@ -12,6 +12,7 @@ use lib.Dec.{ltb}
 use lib.IntN.{pos}
 use lib.ListN.{length, getD, drop, length-map, List·getD-eq-default}
 use Rattle.arith.specs.Choice.{if_then_else_}
+use Rattle.wire.specs.Laws.{padded-at}
 use Rattle.block.specs.Limits.{maxBytes, maxCode}
 use Rattle.block.specs.Record.{Function, Cell, Block, callId, callOf, cellOf}
 use Rattle.block.specs.Reader.{accepted, refused, due, emptyBlock, readFrom, readBlock}
@@ -25,7 +26,7 @@ use Rattle.footprint.specs.Sets.{functionOf, setsOf}
 use Rattle.reader.specs.Layout.{layoutOf}
 use Rattle.reader.specs.declared.Layout.{Layout}
 use Rattle.analysis.specs.Coded.{Narrow, wordsOf, codeIn, codeSets}
-use Rattle.analysis.specs.CodedLaws.{padded-at, code-found, code-sets}
+use Rattle.analysis.specs.CodedLaws.{code-found, code-sets}
 use Rattle.analysis.specs.Laid.{Laid, blockOf, functionAt, setsAt, openingKeys}
 
 -- An element of a mapped list.
@@ -77,7 +78,7 @@ module _ (file : List ℕ) (l : Layout) (laid : Laid file l) where
       subst⁻¹ Narrow (laid .layout)
       (record {
         functions = laid-whole .laws .functionLimit;
-        sizes = λ i. rw (padded-at 64 (map (λ f. f .size) (block .functions)) i) (sizes-few file block (laid-whole .laws) i);
+        sizes = λ i. rw (padded-at {A = ℕ} 64 0 (map (λ f. f .size) (block .functions)) i) (sizes-few file block (laid-whole .laws) i);
       })
 
   pub laid-first : l .first ≡ blockOf file .first

@@ -1,6 +1,6 @@
 -- The row from the masks is the row of the conflict definition. Assumes nothing.
 use mathlib.Core.Path.{_≡_, refl, sym, ap, ap₂, _∙_, fun-ext}
-use mathlib.Core.Bool.{Bool, true, false, _&&_, _||_, not, or-assoc, false≢true}
+use mathlib.Core.Bool.{Bool, true, false, _&&_, _||_, or-assoc, false≢true}
 use mathlib.Core.List.{List, [], _∷_, _++_, map}
 use Prim.Native.Nat.{ℕ, zero, suc, _+_, _*_, _%_, _≤_, _<_}
 use native.Mathlib.Decide.{ℕ-discrete}
@@ -17,6 +17,7 @@ use Rattle.footprint.specs.Access.{Access}
 use Rattle.footprint.specs.Sets.{readSet, writeSet}
 use Rattle.footprint.specs.Conflict.{member, apart, strongSwap, conflict, conflictBits, rowFor}
 use Rattle.footprint.specs.ConflictLaws.{eqb-sym, or-false, not-both, member-pick, member-append, meet-left, meet-append, meet-right, meet-none, conflict-length, meet}
+use Rattle.footprint.specs.SetLaws.{Each}
 use Rattle.footprint.specs.Table.{cellNumber}
 use Rattle.analysis.specs.TableLaws.{cell-lt, cell-injective}
 use Rattle.footprint.specs.Plan.{entryWord}
@@ -77,13 +78,21 @@ first-use false true true false b h = refl
 first-use false true false a b h = refl
 first-use false false q a b h = absurd (false≢true h)
 
-module _ (keys : List ℕ) (k : ℕ) (known : member k keys ≡ true) where
-  same-key : (e : Access) → Listed keys e → eqb (cellOf (entryWord keys e)) (cellNumber keys k) ≡ eqb k (e .key)
-  same-key e l =
-      ap (λ (x : ℕ). eqb x (cellNumber keys k)) (entry-cell keys e)
-      ∙ number-same keys (e .key) k (l .in-table) known ∙ eqb-sym (e .key) k
+-- An access to a key of the table.
+abbrev pub InKeys : List ℕ → Access → Type 0
+InKeys keys e = member (e .key) keys ≡ true
 
-  uses-writes : (s : List Access) → AllListed keys s → uses writes (cellNumber keys k) (entryWords keys s) ≡ member k (writeSet s)
+pub listed-keys : (keys : List ℕ) (s : List Access) → AllListed keys s → Each (InKeys keys) s
+listed-keys keys [] l = tt
+listed-keys keys (e ∷ s) l = (l .0 .in-table, listed-keys keys s (l .1))
+
+module _ (keys : List ℕ) (k : ℕ) (known : member k keys ≡ true) where
+  same-key : (e : Access) → member (e .key) keys ≡ true → eqb (cellOf (entryWord keys e)) (cellNumber keys k) ≡ eqb k (e .key)
+  same-key e m =
+      ap (λ (x : ℕ). eqb x (cellNumber keys k)) (entry-cell keys e)
+      ∙ number-same keys (e .key) k m known ∙ eqb-sym (e .key) k
+
+  pub uses-writes : (s : List Access) → Each (InKeys keys) s → uses writes (cellNumber keys k) (entryWords keys s) ≡ member k (writeSet s)
   unfolding anyOf member writeSet
   uses-writes [] l = refl
   uses-writes (e ∷ s) l =
@@ -95,8 +104,8 @@ module _ (keys : List ℕ) (k : ℕ) (known : member k keys ≡ true) where
   unfolding anyOf member readSet writeSet
   uses-touches [] l = refl
   uses-touches (e ∷ s) l =
-      ap₂ _||_ (same-key e (l .0)) (uses-touches s (l .1))
-      ∙ first-use (e .reads) (e .writes) (eqb k (e .key)) (member k (readSet s)) (member k (writeSet s)) (l .0 .has-use)
+      ap₂ _||_ (same-key e (l .0 .in-table)) (uses-touches s (l .1))
+      ∙ first-use (e .reads) (e .writes) (eqb k (e .key)) (member k (readSet s)) (member k (writeSet s)) (l .0 .has-use .used)
       ∙ sym (ap₂ _||_ (member-pick k (e .key) (readSet s) (e .reads)) (member-pick k (e .key) (writeSet s) (e .writes)))
 
 -- ---- a call waits exactly for the calls in conflict
@@ -131,7 +140,7 @@ module _ (keys : List ℕ) (s : List Access) (listed : AllListed keys s) where
       ap₂ (λ (b : Bool) (x : ℕ). uses (if b then touches else writes) x (entryWords keys s)) (entry-writes keys e) (entry-cell keys e)
       ∙ uses-pick (cellNumber keys (e .key)) (entryWords keys s) (e .writes)
       ∙ ap₂ (λ (t u : Bool). if e .writes then t else u) (uses-touches keys (e .key) (l .in-table) s listed)
-      (uses-writes keys (e .key) (l .in-table) s listed)
+      (uses-writes keys (e .key) (l .in-table) s (listed-keys keys s listed))
 
   -- Where the second set writes what the first has, reads what it writes, or writes what it writes.
   meets : List Access → Bool
@@ -148,7 +157,7 @@ module _ (keys : List ℕ) (s : List Access) (listed : AllListed keys s) where
   unfolding meets readSet writeSet
   meets-more e t l =
       turn (e .reads) (e .writes) (member (e .key) (readSet s)) (member (e .key) (writeSet s))
-      (meet (readSet s ++ writeSet s) (writeSet t)) (meet (readSet t) (writeSet s)) (meet (writeSet t) (writeSet s)) (l .has-use)
+      (meet (readSet s ++ writeSet s) (writeSet t)) (meet (readSet t) (writeSet s)) (meet (writeSet t) (writeSet s)) (l .has-use .used)
       ∙ sym
       (ap₂ _||_
       (meet-right (readSet s ++ writeSet s) (e .key) (writeSet t) (e .writes)

@@ -12,6 +12,7 @@ use Rattle.wire.specs.Rows.{rowOf}
 use Rattle.wire.specs.RowOps.{unionOf}
 use Rattle.block.specs.Limits.{maxKeys}
 use Rattle.footprint.specs.Access.{Access}
+use Rattle.footprint.specs.AccessLaws.{Used}
 use Rattle.footprint.specs.Conflict.{member}
 use Rattle.footprint.specs.Plan.{entryWord}
 
@@ -113,10 +114,7 @@ pub record MasksOf (touched writers : List ℕ) (calls : List (List ℕ)) : Type
 abbrev pub entryWords : List ℕ → List Access → List ℕ
 entryWords keys s = map (entryWord keys) s
 
--- An access that reads or writes; and sets of such accesses whose keys are all in the table.
-abbrev pub Used : Access → Type 0
-Used e = e .reads || e .writes ≡ true
-
+-- An access that reads or writes, with a key in the table; and sets of such accesses.
 pub record Listed (keys : List ℕ) (e : Access) : Type 0 where
   pub in-table : member (e .key) keys ≡ true
   pub has-use : Used e

@@ -7,10 +7,11 @@ use native.Mathlib.Nat.{not-suc-le-zero, le-of-suc-le-suc, mod-lt, sub-zero}
 use native.Mathlib.Omega.{arith}
 use borrow.Author.Tests.{leb-true, le-leb, lt-leb}
 use lib.Dec.{leb, lit<}
-use lib.ListN.{length, getD, drop, length-append, length-replicate}
+use lib.ListN.{length, getD, drop}
 use lib.Seq.{getD-drop}
 use Rattle.arith.specs.Choice.{if_then_else_}
 use Rattle.wire.specs.Bytes.{repeated, padded}
+use Rattle.wire.specs.Laws as wire
 use Rattle.block.specs.Limits.{maxKeys}
 use Rattle.footprint.specs.Table.{insertKey}
 use Rattle.footprint.specs.Plan.{highWord, lowWord, keyWords}
@@ -78,8 +79,7 @@ keys-padded m t = keys-of-words t (repeated (m - length (keyWords t)) 0)
 
 -- A buffer with room for a list is as long with it.
 pub padded-length : (m : ℕ) (l : List ℕ) → length l ≤ m → length (padded m 0 l) ≡ m
-unfolding repeated
-padded-length m l h = simp (length-append, length-replicate) (omega arith)
+padded-length m l h = wire.padded-length m 0 l h
 
 -- ---- tables in buffers
 

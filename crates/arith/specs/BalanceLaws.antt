@@ -1,6 +1,6 @@
 -- Moving an amount between two balances: the sum is kept, nothing falls below zero, and within the limit every balance stays a value. Assumes nothing.
 use mathlib.Core.Path.{_≡_, refl, ap}
-use mathlib.Core.Bool.{Bool, true, false, _&&_}
+use mathlib.Core.Bool.{Bool, true, _&&_}
 use mathlib.Core.List.{List, [], _∷_}
 use Prim.Native.Nat.{ℕ, zero, suc, _+_, _^_, _<_, _≤_}
 use native.Mathlib.Nat.{le-of-suc-le-suc}
@@ -9,9 +9,10 @@ use lib.IntN.{ℤ, pos, _+ℤ_, _-ℤ_}
 use lib.ListN.{length, getD, set, length-set}
 use lib.Seq.{getD-set-other}
 use lib.Signed.{leZ, nonNeg}
+use Rattle.arith.specs.ChoiceLaws.{both}
 use Rattle.arith.specs.Exact.{fits64}
 use Rattle.arith.specs.Balance.{total, noneBelowZero, withinLimit, largest}
-use Rattle.arith.specs.Laws.{P, N, N-zero, clash, equal, sum, diff, leZ-true, le-leZ, nonNeg-true, nonNeg-of, within-fits}
+use Rattle.arith.specs.Laws.{P, N, N-zero, equal, sum, diff, leZ-true, le-leZ, nonNeg-true, nonNeg-of, within-fits}
 
 -- The balance at a place; past the end there is none, and it reads 0.
 abbrev pub balance : List ℤ → ℕ → ℤ
@@ -42,26 +43,22 @@ total-moved bs i j m h k d =
 
 -- ---- no balance below zero
 
-and-both : (a b : Bool) → (a && b) ≡ true → (a ≡ true) × (b ≡ true)
-and-both true b e = (refl, e)
-and-both false b e = clash e
-
 both-and : (a b : Bool) → a ≡ true → b ≡ true → (a && b) ≡ true
 both-and a b e f = rw (e, f)
 
 pub balance-from-zero : (bs : List ℤ) (i : ℕ) → noneBelowZero bs ≡ true → N (balance bs i) ≡ 0
 unfolding noneBelowZero
 balance-from-zero [] i e = refl
-balance-from-zero (b ∷ bs) zero e = nonNeg-true b (and-both (nonNeg b) (noneBelowZero bs) e .0)
-balance-from-zero (b ∷ bs) (suc i) e = balance-from-zero bs i (and-both (nonNeg b) (noneBelowZero bs) e .1)
+balance-from-zero (b ∷ bs) zero e = nonNeg-true b (both (nonNeg b) (noneBelowZero bs) e .0)
+balance-from-zero (b ∷ bs) (suc i) e = balance-from-zero bs i (both (nonNeg b) (noneBelowZero bs) e .1)
 
 pub set-from-zero : (bs : List ℤ) (i : ℕ) (v : ℤ) → noneBelowZero bs ≡ true → N v ≤ P v → noneBelowZero (set bs i v) ≡ true
 unfolding noneBelowZero
 set-from-zero [] i v e h = refl
 set-from-zero (b ∷ bs) zero v e h =
-    both-and (nonNeg v) (noneBelowZero bs) (nonNeg-of v h) (and-both (nonNeg b) (noneBelowZero bs) e .1)
+    both-and (nonNeg v) (noneBelowZero bs) (nonNeg-of v h) (both (nonNeg b) (noneBelowZero bs) e .1)
 set-from-zero (b ∷ bs) (suc i) v e h =
-    let o = and-both (nonNeg b) (noneBelowZero bs) e in
+    let o = both (nonNeg b) (noneBelowZero bs) e in
     both-and (nonNeg b) (noneBelowZero (set bs i v)) (o .0) (set-from-zero bs i v (o .1) h)
 
 -- The source had at least m, and m is not below zero.
@@ -80,14 +77,14 @@ pub total-from-zero : (bs : List ℤ) → noneBelowZero bs ≡ true → N (total
 unfolding total noneBelowZero
 total-from-zero [] e = refl
 total-from-zero (b ∷ bs) e =
-    let o = and-both (nonNeg b) (noneBelowZero bs) e in
+    let o = both (nonNeg b) (noneBelowZero bs) e in
     N-zero (b +ℤ total bs) (omega (arith, sum b (total bs), nonNeg-true b (o .0), total-from-zero bs (o .1)))
 
 -- The sum of a first balance and the others, and that none of the others is below zero.
 total-first : (b : ℤ) (bs : List ℤ) → noneBelowZero (b ∷ bs) ≡ true → (P (total (b ∷ bs)) ≡ P b + P (total bs)) × (noneBelowZero bs ≡ true)
 unfolding total noneBelowZero
 total-first b bs e =
-    let o = and-both (nonNeg b) (noneBelowZero bs) e in
+    let o = both (nonNeg b) (noneBelowZero bs) e in
     (omega (arith, sum b (total bs), nonNeg-true b (o .0), total-from-zero bs (o .1), total-from-zero (b ∷ bs) e), o .1)
 
 pub one-below-total : (bs : List ℤ) (i : ℕ) → noneBelowZero bs ≡ true → P (balance bs i) ≤ P (total bs)
@@ -117,7 +114,7 @@ pub record Within (bs : List ℤ) : Type 0 where
 
 pub limit-within : (bs : List ℤ) → withinLimit bs ≡ true → Within bs
 limit-within bs e =
-    let o = and-both (noneBelowZero bs) (leZ (total bs) largest) e in
+    let o = both (noneBelowZero bs) (leZ (total bs) largest) e in
     record {
       fromZero = o .0;
       atMost = omega (arith, leZ-true (total bs) largest (o .1), total-from-zero bs (o .0));

@@ -1,4 +1,5 @@
 pub mod Choice
+pub mod ChoiceLaws
 pub mod Exact
 pub mod Compare
 pub mod Balance

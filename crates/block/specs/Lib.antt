@@ -3,6 +3,7 @@ pub mod Refusal
 pub mod Key
 pub mod KeyLaws
 pub mod Instruction
+pub mod DecodeLaws
 pub mod Record
 pub mod Reader
 pub mod ReaderLaws

@@ -1,7 +1,7 @@
 -- What holds of the block in an accepted file, for the crates above: where its cells and calls stand, that its codes are valid, that
 -- its ids and keys rise, and its limits. Every record that the reader takes keeps it. Assumes nothing.
 use mathlib.Core.Path.{_≡_, refl, sym, _∙_, ap, subst, subst⁻¹}
-use mathlib.Core.Bool.{Bool, true, false, not, _||_, _&&_, true≢false, false≢true}
+use mathlib.Core.Bool.{Bool, true, false, not, _||_, _&&_}
 use mathlib.Core.List.{List, [], _∷_, _++_, map, map-append}
 use Prim.Native.Nat.{ℕ, zero, suc, _+_, _*_, _-_, _/_, _%_, _^_, _<_, _≤_}
 use native.Mathlib.Omega.{arith}
@@ -13,7 +13,7 @@ use lib.IntN.{ℤ, pos, negsuc}
 use lib.Seq.{drop-drop, getD-drop, getD-append-seam}
 use lib.Signed.{leZ, ltZ, nonNeg}
 use borrow.Author.Tests.{ltb-true, ltb-false, leb-true, leb-false, eqb-true, not-false, eq-eqb}
-use Rattle.arith.specs.Choice.{if_then_else_}
+use Rattle.arith.specs.ChoiceLaws.{if-all, both, neither}
 use Rattle.arith.specs.Balance.{total, largest, noneBelowZero, withinLimit}
 use Rattle.wire.specs.Bytes.{number, readLe}
 use Rattle.wire.specs.Laws.{number-lt}
@@ -74,10 +74,6 @@ Right file (ended (refused why)) = Unit {0}
 
 -- ---- lists that grow at their end
 
-if-all : {A : Type 0} (P : A → Type 0) (t : Bool) {x y : A} → (t ≡ true → P x) → (t ≡ false → P y) → P (if t then x else y)
-if-all P true f g = f refl
-if-all P false f g = g refl
-
 module _ {A : Type 0} where
   each-none : (P : ℕ → A → Type 0) (l : List A) → length l ≡ 0 → Each P l
   each-none P l e i d h = absurd (omega arith)
@@ -119,14 +115,6 @@ rising-snoc l n up e i j h k = go (decLt j (length l))
         (last (length l - 1) (omega arith) inside (decLt i (length l - 1)))
 
 -- ---- one record
-
-both : (s t : Bool) → s && t ≡ true → (s ≡ true) × (t ≡ true)
-both true t e = (refl, e)
-both false t e = absurd (false≢true e)
-
-neither : (s t : Bool) → s || t ≡ false → (s ≡ false) × (t ≡ false)
-neither true t e = absurd (true≢false e)
-neither false t e = (refl, e)
 
 pub function-length : (kind len : ℕ) → lengthAllowed kind len ≡ true → kind ≡ 1 → (4 ≤ len) × (len ≤ 516)
 unfolding lengthAllowed

@@ -1,23 +1,24 @@
 -- Laws of the accesses of a call: at most two of an instruction, each used, each key below 2^96; and so in the sets. Assumes nothing.
 use mathlib.Core.Path.{_≡_, refl, subst}
 use mathlib.Core.Logic.{_⊎_, inl, inr, ⊎-elim}
-use mathlib.Core.Bool.{Bool, true, false, _&&_, _||_, not, or-true, and-eq-true-iff, false≢true}
+use mathlib.Core.Bool.{Bool, true, false, _||_, or-true, false≢true}
 use mathlib.Core.List.{List, [], _∷_}
 use mathlib.Core.Option.{Option, none, some}
-use Prim.Native.Nat.{ℕ, zero, suc, _+_, _*_, _/_, _%_, _^_, _≤_, _<_}
+use Prim.Native.Nat.{ℕ, zero, suc, _+_, _*_, _^_, _≤_, _<_}
 use native.Mathlib.Omega.{arith}
-use borrow.Author.Tests.{ltb-true, eqb-false, not-true}
-use lib.Dec.{eqb, ltb, leb, lit<}
+use borrow.Author.Tests.{ltb-true}
+use lib.Dec.{eqb, ltb, lit<}
 use lib.IntN.{pos}
 use lib.Signed.{ltZ}
 use lib.ListN.{length, getD, take, drop}
 use lib.Seq.{getD-drop}
 use Rattle.arith.specs.Choice.{if_then_else_}
-use Rattle.arith.specs.Exact.{signed}
+use Rattle.arith.specs.ChoiceLaws.{if-all}
 use Rattle.wire.specs.Bytes.{number}
 use Rattle.wire.specs.Laws.{number-lt}
 use Rattle.block.specs.Key.{firstContract, accountBalance, contractBalance, payeeOf}
-use Rattle.block.specs.Instruction.{instrBytes, isRegister, isArgument, isSource, sourceOf, allowed, decode, decodeEnd, decodeSet, decodeArg, decodeFact, decodeArith, decodeCell, decodePay, decodeJump, decodeParts}
+use Rattle.block.specs.Instruction.{instrBytes, decode}
+use Rattle.block.specs.DecodeLaws.{SourceFits, CellFits, InstrFits, Lawful, Decodes, decodes-map, decode-lawful}
 use Rattle.block.specs.Record.{Function, argument, codeAt}
 use Rattle.block.specs.declared.Call.{Call}
 use Rattle.block.specs.declared.Payee.{Payee}
@@ -31,11 +32,6 @@ use Rattle.block.specs.declared.Instr.the-variants.{Stop, Throw, Set, Arg, Send
 use Rattle.footprint.specs.Access.{Access, cellKey, sourceValue, entryAccesses, payAccesses, accesses}
 use Rattle.footprint.specs.Sets.{mergeAll, decodedAccesses, codeAccesses, functionSets}
 use Rattle.footprint.specs.SetLaws.{joined, Each, merged-each, code-each}
-
--- What holds of both results of a choice holds of the choice.
-if-both : {A : Type 0} (P : A → Type 0) (b : Bool) {x y : A} → P x → P y → P (if b then x else y)
-if-both P true p q = p
-if-both P false p q = q
 
 -- ---- at most two
 
@@ -70,7 +66,7 @@ decoded-few c Invalid = omega arith
 
 pub entry-few : (c : Call) → length (entryAccesses c) ≤ 2
 unfolding entryAccesses
-entry-few c = if-both (λ (es : List Access). length es ≤ 2) (ltZ (pos 0) (c .value)) (omega arith) (omega arith)
+entry-few c = if-all (λ (es : List Access). length es ≤ 2) (ltZ (pos 0) (c .value)) (λ e. omega arith) (λ e. omega arith)
 
 -- ---- used, and with a key of its kind
 
@@ -123,8 +119,8 @@ module _ (c : Call) (K : ℕ → Type 0) (own : K (contractBalance (c .contract)
     pub entry-keyed : Each (Keyed K) (entryAccesses c)
     unfolding entryAccesses
     entry-keyed =
-        if-both (Each (Keyed K)) (ltZ (pos 0) (c .value))
-        (record { used = refl; keyed = sender }, (record { used = refl; keyed = own }, tt)) tt
+        if-all (Each (Keyed K)) (ltZ (pos 0) (c .value))
+        (λ e. (record { used = refl; keyed = sender }, (record { used = refl; keyed = own }, tt))) (λ e. tt)
 
     -- So do the sets of a function whose code passes.
     pub sets-keyed : (block : List ℕ) (f : Option Function)
@@ -171,61 +167,9 @@ pub record InRanges (c : Call) : Type 0 where
   pub arg3 : c .arg3 < 2 ^ 32
   pub arg4 : c .arg4 < 2 ^ 32
 
-abbrev pub SourceFits : Source → Type 0
-SourceFits source.Zero = Unit {0}
-SourceFits (source.Argument k) = Unit {0}
-SourceFits source.Sender = Unit {0}
-SourceFits (source.Constant n) = n < 2 ^ 16
-
--- The numbers in an instruction of which a key is made lie in their types' ranges.
-abbrev pub InstrFits : Instr → Type 0
-InstrFits Stop = Unit {0}
-InstrFits Throw = Unit {0}
-InstrFits (Set x value) = Unit {0}
-InstrFits (Arg x k) = Unit {0}
-InstrFits (Sender x) = Unit {0}
-InstrFits (Value x) = Unit {0}
-InstrFits (Add x y z) = Unit {0}
-InstrFits (Sub x y z) = Unit {0}
-InstrFits (Mul x y z) = Unit {0}
-InstrFits (Div x y z) = Unit {0}
-InstrFits (Get x field a b) = (field < 2 ^ 16) × (SourceFits a × SourceFits b)
-InstrFits (Put x field a b) = (field < 2 ^ 16) × (SourceFits a × SourceFits b)
-InstrFits (Bal x) = Unit {0}
-InstrFits (Pay x target) = Unit {0}
-InstrFits (Jeq x y to) = Unit {0}
-InstrFits (Jlt x y to) = Unit {0}
-
--- GET and PUT use "field w mod 65536 (not 0)".
-abbrev pub FieldAbove : Instr → Type 0
-FieldAbove Stop = Unit {0}
-FieldAbove Throw = Unit {0}
-FieldAbove (Set x value) = Unit {0}
-FieldAbove (Arg x k) = Unit {0}
-FieldAbove (Sender x) = Unit {0}
-FieldAbove (Value x) = Unit {0}
-FieldAbove (Add x y z) = Unit {0}
-FieldAbove (Sub x y z) = Unit {0}
-FieldAbove (Mul x y z) = Unit {0}
-FieldAbove (Div x y z) = Unit {0}
-FieldAbove (Get x field a b) = 0 < field
-FieldAbove (Put x field a b) = 0 < field
-FieldAbove (Bal x) = Unit {0}
-FieldAbove (Pay x target) = Unit {0}
-FieldAbove (Jeq x y to) = Unit {0}
-FieldAbove (Jlt x y to) = Unit {0}
-
--- Both of them, of an instruction and of what bytes decode to.
+-- The sources' constants have 16 bits.
 abbrev pub InstrSound : Instr → Type 0
-InstrSound i = InstrFits i × FieldAbove i
-
-abbrev pub DecodedSound : Decoded → Type 0
-DecodedSound (Valid i) = InstrSound i
-DecodedSound Invalid = Unit {0}
-
-abbrev pub DecodedFits : Decoded → Type 0
-DecodedFits (Valid i) = InstrFits i
-DecodedFits Invalid = Unit {0}
+InstrSound = InstrFits (2 ^ 16)
 
 abbrev pub below96 : ℕ → Type 0
 below96 k = k < 2 ^ 96
@@ -233,10 +177,11 @@ below96 k = k < 2 ^ 96
 pub argument-below : (c : Call) (k : ℕ) → InRanges c → argument c k < 2 ^ 32
 unfolding argument
 argument-below c k r =
-    if-both (λ (m : ℕ). m < 2 ^ 32) (eqb k 1) (r .arg1)
-    (if-both (λ (m : ℕ). m < 2 ^ 32) (eqb k 2) (r .arg2) (if-both (λ (m : ℕ). m < 2 ^ 32) (eqb k 3) (r .arg3) (r .arg4)))
+    if-all (λ (m : ℕ). m < 2 ^ 32) (eqb k 1) (λ e. r .arg1) λ e.
+    if-all (λ (m : ℕ). m < 2 ^ 32) (eqb k 2) (λ e. r .arg2) λ e.
+    if-all (λ (m : ℕ). m < 2 ^ 32) (eqb k 3) (λ e. r .arg3) (λ e. r .arg4)
 
-pub source-below : (c : Call) (s : Source) → InRanges c → SourceFits s → sourceValue c s < 2 ^ 32
+pub source-below : (c : Call) (s : Source) → InRanges c → SourceFits (2 ^ 16) s → sourceValue c s < 2 ^ 32
 unfolding sourceValue
 source-below c source.Zero r h = omega arith
 source-below c (source.Argument k) r h = argument-below c k r
@@ -257,21 +202,21 @@ module _ (c : Call) (r : InRanges c) where
   sender-below : below96 (accountBalance (c .sender))
   sender-below = key-below (c .sender .0) 0 0 0 (r .sender) (lit< tt) (lit< tt) (lit< tt)
 
-  cell-below : (field : ℕ) (a b : Source) → (field < 2 ^ 16) × (SourceFits a × SourceFits b) → below96 (cellKey c field a b)
+  cell-below : (field : ℕ) (a b : Source) → CellFits (2 ^ 16) field a b → below96 (cellKey c field a b)
   cell-below field a b h =
-      key-below (c .contract .0) field (sourceValue c a) (sourceValue c b) (r .contract) (h .0) (source-below c a r (h .1 .0))
-      (source-below c b r (h .1 .1))
+      key-below (c .contract .0) field (sourceValue c a) (sourceValue c b) (r .contract) (h .below) (source-below c a r (h .first))
+      (source-below c b r (h .second))
 
   pub entry-below : Each (Keyed below96) (entryAccesses c)
   entry-below = entry-keyed c below96 own-below balance-below sender-below
 
-  pub accesses-below : (i : Instr) → InstrFits i → Each (Keyed below96) (accesses c i)
+  pub accesses-below : (i : Instr) → InstrSound i → Each (Keyed below96) (accesses c i)
   accesses-below i h =
       accesses-keyed c below96 own-below balance-below i
       (λ x field a b e.
-      ⊎-elim (λ g. cell-below field a b (subst InstrFits g h)) (λ p. cell-below field a b (subst InstrFits p h)) e)
+      ⊎-elim (λ g. cell-below field a b (subst InstrSound g h)) (λ p. cell-below field a b (subst InstrSound p h)) e)
 
-  decoded-below : (d : Decoded) → DecodedFits d → Each (Keyed below96) (decodedAccesses c d)
+  decoded-below : (d : Decoded) → Decodes InstrSound d → Each (Keyed below96) (decodedAccesses c d)
   decoded-below (Valid i) h = accesses-below i h
   decoded-below Invalid h = tt
 
@@ -289,75 +234,15 @@ take-bytes (suc n) [] h i = lit< tt
 take-bytes (suc n) (b ∷ s) h zero = h 0
 take-bytes (suc n) (b ∷ s) h (suc i) = take-bytes n s (λ j. h (suc j)) i
 
-allowed-sound : (b : Bool) (i : Instr) → (b ≡ true → InstrSound i) → DecodedSound (allowed b i)
-allowed-sound true i h = h refl
-allowed-sound false i h = tt
-
-source-fits : (n w : ℕ) → w < 2 ^ 32 → SourceFits (sourceOf n w)
-unfolding sourceOf
-source-fits n w h =
-    if-both SourceFits (eqb n 0) tt
-    (if-both SourceFits (eqb n 5) tt (if-both SourceFits (eqb n 6) (omega arith) tt))
-
--- The rule of GET and PUT asks for a field above 0.
-field-above : (first rest : Bool) (field : ℕ) → (first && not (eqb field 0) && rest) ≡ true → 0 < field
-field-above first rest field e =
-    let both = and-eq-true-iff (first && not (eqb field 0)) rest .0 e in
-    let apart = eqb-false field 0 (not-true (eqb field 0) (and-eq-true-iff first (not (eqb field 0)) .0 (both .0) .1)) in
-    omega arith
-
-cell-sound : (op x y z w : ℕ) → w < 2 ^ 32 → DecodedSound (decodeCell op x y z w)
-unfolding decodeCell
-cell-sound op x y z w h =
-    let fits : (w % 65536 < 2 ^ 16) × (SourceFits (sourceOf y w) × SourceFits (sourceOf z w)) =
-    (omega arith, (source-fits y w h, source-fits z w h)) in
-    let first : Bool = isRegister x && isSource y && isSource z in
-    let rest : Bool = eqb y 6 || eqb z 6 || eqb (w / 65536) 0 in
-    allowed-sound (first && not (eqb (w % 65536) 0) && rest)
-    (if eqb op 10 then Get x (w % 65536) (sourceOf y w) (sourceOf z w) else Put x (w % 65536) (sourceOf y w) (sourceOf z w))
-    (λ e.
-    let above = field-above first rest (w % 65536) e in
-    if-both InstrSound (eqb op 10) (fits, above) (fits, above))
-
--- An instruction that decodes has fields in their types' ranges, and a field above 0.
-pub parts-sound : (index size op x y z w : ℕ) → w < 2 ^ 32 → DecodedSound (decodeParts index size op x y z w)
-unfolding decodeParts decodeEnd decodeSet decodeArg decodeFact decodeArith decodePay decodeJump
-parts-sound index size op x y z w h =
-    if-both DecodedSound (ltb op 2)
-    (allowed-sound (eqb x 0 && eqb y 0 && eqb z 0 && eqb w 0) (if eqb op 0 then Stop else Throw)
-    (λ e. if-both InstrSound (eqb op 0) (tt, tt) (tt, tt)))
-    (if-both DecodedSound (eqb op 2) (allowed-sound (isRegister x && eqb y 0 && eqb z 0) (Set x (signed 32 w)) (λ e. (tt, tt)))
-    (if-both DecodedSound (eqb op 3)
-    (allowed-sound (isRegister x && isArgument y && eqb z 0 && eqb w 0) (Arg x y) (λ e. (tt, tt)))
-    (if-both DecodedSound (ltb op 6)
-    (allowed-sound (isRegister x && eqb y 0 && eqb z 0 && eqb w 0) (if eqb op 4 then Sender x else Value x)
-    (λ e. if-both InstrSound (eqb op 4) (tt, tt) (tt, tt)))
-    (if-both DecodedSound (ltb op 10)
-    (allowed-sound (isRegister x && isRegister y && isRegister z && eqb w 0)
-    (if eqb op 6 then Add x y z else if eqb op 7 then Sub x y z else if eqb op 8 then Mul x y z else Div x y z)
-    (λ e.
-    if-both InstrSound (eqb op 6) (tt, tt) (if-both InstrSound (eqb op 7) (tt, tt) (if-both InstrSound (eqb op 8) (tt, tt) (tt, tt)))))
-    (if-both DecodedSound (ltb op 12) (cell-sound op x y z w h)
-    (if-both DecodedSound (eqb op 12) (allowed-sound (isRegister x && eqb y 0 && eqb z 0 && eqb w 0) (Bal x) (λ e. (tt, tt)))
-    (if-both DecodedSound (eqb op 13)
-    (allowed-sound (isRegister x && isSource y && eqb z 0 && eqb (w % 65536) 0 && (eqb y 6 || eqb (w / 65536) 0)) (Pay x (sourceOf y w))
-    (λ e. (tt, tt)))
-    (if-both DecodedSound (ltb op 16)
-    (allowed-sound (isRegister x && isRegister y && eqb z 0 && ltb index w && leb w size) (if eqb op 14 then Jeq x y w else Jlt x y w)
-    (λ e. if-both InstrSound (eqb op 14) (tt, tt) (tt, tt)))
-    tt))))))))
-
-pub decode-sound : (index size : ℕ) (s : List ℕ) → Bytes s → DecodedSound (decode index size s)
+-- An instruction that bytes decode to is such.
+pub decode-sound : (index size : ℕ) (s : List ℕ) → Bytes s → Decodes (Lawful (2 ^ 16) index size) (decode index size s)
 decode-sound index size s h =
-    parts-sound index size (number 1 s) (number 1 (drop 1 s)) (number 1 (drop 2 s)) (number 1 (drop 3 s)) (number 4 (drop 4 s))
-    (number-lt 4 (drop 4 s) (drop-bytes 4 s h))
+    let wide : number 4 (drop 4 s) < 2 ^ 32 = number-lt 4 (drop 4 s) (drop-bytes 4 s h) in
+    decode-lawful (2 ^ 16) index size s (omega arith)
 
-sound-fits : (d : Decoded) → DecodedSound d → DecodedFits d
-sound-fits (Valid i) h = h .0
-sound-fits Invalid h = tt
-
-pub decode-fits : (index size : ℕ) (s : List ℕ) → Bytes s → DecodedFits (decode index size s)
-decode-fits index size s h = sound-fits (decode index size s) (decode-sound index size s h)
+pub decode-fits : (index size : ℕ) (s : List ℕ) → Bytes s → Decodes InstrSound (decode index size s)
+decode-fits index size s h =
+    decodes-map (Lawful (2 ^ 16) index size) InstrSound (λ i l. l .0) (decode index size s) (decode-sound index size s h)
 
 -- Every key in the sets of a call has 96 bits.
 pub sets-below : (block : List ℕ) → Bytes block → (c : Call) → InRanges c → (f : Option Function) → Each (Keyed below96) (functionSets block c f)

@@ -14,6 +14,7 @@ use Rattle.wire.specs.Bytes.{number, readLe}
 use Rattle.wire.specs.Laws.{number-lt}
 use Rattle.block.specs.Key.{firstContract, payeeOf}
 use Rattle.block.specs.Instruction.{instrBytes, decode}
+use Rattle.block.specs.DecodeLaws.{Decodes}
 use Rattle.block.specs.Record.{Function, callOf}
 use Rattle.block.specs.declared.Call.{Call}
 use Rattle.block.specs.declared.CallBody.the-variants.{InRange, OutOfRange}
@@ -24,7 +25,7 @@ use Rattle.block.specs.declared.Instr.{Instr}
 use Rattle.block.specs.declared.Instr.the-variants.{Stop, Throw, Set, Arg, Sender, Value, Add, Sub, Mul, Div, Get, Put, Bal, Pay, Jeq, Jlt}
 use Rattle.footprint.specs.Access.{sourceValue}
 use Rattle.footprint.specs.Sets.{functionOf}
-use Rattle.footprint.specs.AccessLaws.{Bytes, drop-bytes, take-bytes, InRanges, source-below, InstrSound, DecodedSound, decode-sound}
+use Rattle.footprint.specs.AccessLaws.{Bytes, drop-bytes, take-bytes, InRanges, source-below, InstrSound, decode-fits}
 use Rattle.footprint.specs.LimitLaws.{limit-move, limit-other, cell-is-not}
 use Rattle.footprint.specs.SetsExact.{instructionsOf}
 use Rattle.footprint.specs.RunLaws.{Every, every-map, Keeps, PayKeeps, transaction-keeps}
@@ -98,9 +99,9 @@ body-sound : (left index size : ℕ) (s : List ℕ) → Bytes s → Every InstrS
 unfolding bodyOf withInstr
 body-sound zero index size s h = tt
 body-sound (suc left) index size s h =
-    go (decode index size s) (decode-sound index size s h) (body-sound left (index + 1) size (drop instrBytes s) (drop-bytes instrBytes s h))
+    go (decode index size s) (decode-fits index size s h) (body-sound left (index + 1) size (drop instrBytes s) (drop-bytes instrBytes s h))
   where
-    go : (d : Decoded) → DecodedSound d → Every InstrSound (bodyOf left (index + 1) size (drop instrBytes s))
+    go : (d : Decoded) → Decodes InstrSound d → Every InstrSound (bodyOf left (index + 1) size (drop instrBytes s))
         → Every InstrSound (withInstr d (bodyOf left (index + 1) size (drop instrBytes s)))
     go (Valid i) f ih = (f, ih)
     go Invalid f ih = ih
@@ -133,8 +134,8 @@ module _ (c : Call) (fits : CallFits c) where
   instr-within (Get x field a b) f = tt
   instr-within (Put x field a b) f =
       λ σ v within. limit-other σ within _ v
-      (cell-is-not (c .contract .0) field (sourceValue c a) (sourceValue c b) (f .0 .0) (source-below c a (fits .ranges) (f .0 .1 .0))
-      (source-below c b (fits .ranges) (f .0 .1 .1)) (λ e. omega (arith, f .1)))
+      (cell-is-not (c .contract .0) field (sourceValue c a) (sourceValue c b) (f .below) (source-below c a (fits .ranges) (f .first))
+      (source-below c b (fits .ranges) (f .second)) (λ e. omega (arith, f .above)))
   instr-within (Bal x) f = tt
   instr-within (Pay x target) f = pay-within (sourceValue c target)
   instr-within (Jeq x y to) f = tt

@@ -1,6 +1,6 @@
 -- What holds of a state at the entry of a transaction and is kept by each of its instructions holds of the state that it leaves. Assumes nothing.
-use mathlib.Core.Path.{_≡_, refl, sym}
-use mathlib.Core.Bool.{Bool, true, false, _||_}
+use mathlib.Core.Path.{_≡_, refl}
+use mathlib.Core.Bool.{Bool, true, false}
 use mathlib.Core.List.{List, [], _∷_}
 use mathlib.Core.Option.{Option, none, some}
 use Prim.Native.Nat.{ℕ, zero, suc, _+_}
@@ -8,8 +8,8 @@ use lib.IntN.{ℤ, pos}
 use lib.ListN.{length, getD, getElem?}
 use lib.Signed.{ltZ, nonNeg}
 use Rattle.arith.specs.Choice.{if_then_else_}
+use Rattle.arith.specs.ChoiceLaws.{neither}
 use Rattle.arith.specs.Exact.{addOf, subOf, mulOf, divOf}
-use Rattle.arith.specs.Laws.{clash}
 use Rattle.arith.specs.declared.Checked.{Checked}
 use Rattle.arith.specs.declared.Checked.the-variants as checked
 use Rattle.block.specs.Key.{accountBalance, contractBalance}
@@ -42,15 +42,11 @@ pub every-map : (P Q : Instr → Type 0) → ((i : Instr) → P i → Q i) → (
 every-map P Q f [] q = tt
 every-map P Q f (i ∷ is) q = (f i (q .0), every-map P Q f is (q .1))
 
-pub or-none : (a b : Bool) → (a || b) ≡ false → (a ≡ false) × (b ≡ false)
-or-none true b e = clash (sym e)
-or-none false b e = (refl, e)
-
 -- Where no instruction passes a test, each fails it.
 pub none-passes : (test : Instr → Bool) (body : List Instr) → someOf test body ≡ false → Every (λ i. test i ≡ false) body
 unfolding someOf
 none-passes test [] e = tt
-none-passes test (i ∷ is) e = (or-none (test i) (someOf test is) e .0, none-passes test is (or-none (test i) (someOf test is) e .1))
+none-passes test (i ∷ is) e = (neither (test i) (someOf test is) e .0, none-passes test is (neither (test i) (someOf test is) e .1))
 
 -- ---- one property of states
 

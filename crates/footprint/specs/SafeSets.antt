@@ -10,6 +10,7 @@ use borrow.Author.Tests.{eq-eqb, eqb-false}
 use lib.Dec.{eqb}
 use lib.IntN.{ℤ, pos, _+ℤ_, _-ℤ_}
 use lib.Signed.{ltZ, nonNeg}
+use Rattle.arith.specs.ChoiceLaws.{neither}
 use Rattle.arith.specs.Laws.{equal, sum, diff, ltZ-false, le-ltZ, nonNeg-true}
 use Rattle.block.specs.Key.{accountBalance, contractBalance}
 use Rattle.block.specs.Record.{Function}
@@ -23,7 +24,7 @@ use Rattle.footprint.specs.Sets.{functionOf, setsOf, readSet, writeSet}
 use Rattle.footprint.specs.Conflict.{member}
 use Rattle.footprint.specs.SetsExact.{readBy, paidTo, writtenBy, someOf, instructionsOf, isRead, isWritten, reads-exact, writes-exact}
 use Rattle.footprint.specs.LimitLaws.{update-same, update-other, limit-balance}
-use Rattle.footprint.specs.RunLaws.{Every, every-map, or-none, none-passes, Keeps, PayKeeps, transaction-keeps}
+use Rattle.footprint.specs.RunLaws.{Every, every-map, none-passes, Keeps, PayKeeps, transaction-keeps}
 use Rattle.footprint.specs.RuleLimit.{CallFits}
 use Rattle.footprint.specs.AlikeLaws.{Alike, LeftAlike, ReadsIn, transaction-alike}
 use Rattle.footprint.specs.Rule.{State, Left, update, credit, debit, stateWithinLimit, transaction}
@@ -37,7 +38,7 @@ pub record Safe (reads writes : List ℕ) (T : State → Left) : Type 0 where
 
 -- ---- the amount 0
 
-no-amount : (m : ℤ) → nonNeg m ≡ true → ltZ (pos 0) m ≡ false → m ≡ pos 0
+pub no-amount : (m : ℤ) → nonNeg m ≡ true → ltZ (pos 0) m ≡ false → m ≡ pos 0
 no-amount m s l = equal m (pos 0) (omega (arith, nonNeg-true m s, ltZ-false (pos 0) m l))
 
 minus-none : (x : ℤ) → x -ℤ pos 0 ≡ x
@@ -90,7 +91,7 @@ module _ (c : Call) (k : ℕ) (v : ℤ) where
   instr-frame (Put x field a b) e = λ σ w h. update-other σ (cellKey c field a b) w k (eqb-false k (cellKey c field a b) e) ∙ h
   instr-frame (Bal x) e = tt
   instr-frame (Pay x target) e =
-      let both = or-none (eqb k (contractBalance (c .contract))) (paidTo k (targetOf c target)) e in
+      let both = neither (eqb k (contractBalance (c .contract))) (paidTo k (targetOf c target)) e in
       pay-frame (targetOf c target) (both .0) (both .1)
   instr-frame (Jeq x y to) e = tt
   instr-frame (Jlt x y to) e = tt
@@ -100,7 +101,7 @@ entry-frame : (σ : State) (j l : ℕ) (m : ℤ) → nonNeg m ≡ true → (k : 
 entry-frame σ j l m s k e = go (ltZ (pos 0) m) refl e
   where
     go : (b : Bool) → ltZ (pos 0) m ≡ b → (b && (eqb k j || eqb k l)) ≡ false → credit (debit σ j m) l m k ≡ σ k
-    go true t f = let both = or-none (eqb k j) (eqb k l) f in move-other σ j l m k (both .0) (both .1)
+    go true t f = let both = neither (eqb k j) (eqb k l) f in move-other σ j l m k (both .0) (both .1)
     go false t f = rw (no-amount m s t) (move-none σ j l k)
 
 module _ (block : List ℕ) (c : Call) (fits : CallFits c) where
@@ -110,7 +111,7 @@ module _ (block : List ℕ) (c : Call) (fits : CallFits c) where
   unfolding isWritten
   function-frame σ k f e g s =
       let both =
-      or-none (ltZ (pos 0) (c .value) && (eqb k (accountBalance (c .sender)) || eqb k (contractBalance (c .contract))))
+      neither (ltZ (pos 0) (c .value) && (eqb k (accountBalance (c .sender)) || eqb k (contractBalance (c .contract))))
       (someOf (writtenBy c k) (instructionsOf block g)) (rw s at e)
       in (
         entry-frame σ (accountBalance (c .sender)) (contractBalance (c .contract)) (c .value) (fits .value) k (both .0),

@@ -9,6 +9,7 @@ use lib.IntN.{ℤ, pos}
 use lib.ListN.{length, getD, length-map, length-replicate, List·getD-append}
 use Rattle.wire.specs.Bytes.{repeated, padded}
 use Rattle.wire.specs.Rows.{inRow}
+use Rattle.wire.specs.Laws.{padded-length}
 use Rattle.block.specs.Limits.{maxCalls, maxKeys, maxWorkers}
 use Rattle.block.specs.Record.{Block}
 use Rattle.block.specs.Reader.{accepted, readBlock}
@@ -20,6 +21,8 @@ use Rattle.footprint.specs.Conflict.{member, conflict}
 use Rattle.footprint.specs.Plan.{plans, keyWords, openingValue}
 use Rattle.footprint.specs.Rule.{stateWithinLimit}
 use Rattle.footprint.specs.Table.{cellNumber, analysed}
+use Rattle.footprint.specs.ConflictLaws.{row-exact}
+use Rattle.analysis.specs.LaidLaws.{map-at}
 use Rattle.analysis.specs.KeyTable.{Rising}
 use Rattle.analysis.specs.TableLaws.{cell-lt, cell-key}
 use Rattle.analysis.specs.TableWords.{words-length}
@@ -30,10 +33,10 @@ use Rattle.machine.specs.Run.{Run, Sizes, sizesOf, largeEnough, rowIn}
 use Rattle.machine.specs.Opening.{headOf, openingOf}
 use Rattle.machine.specs.Step.{cellAt}
 use Rattle.machine.specs.Made.{Hold}
-use Rattle.guarantees.specs.PlanLaws.{padded-length, plans-length}
+use Rattle.guarantees.specs.PlanLaws.{plans-length}
 use Rattle.guarantees.specs.OpeningLimit.{opening-limit}
 use Rattle.guarantees.specs.OpeningLaws.{Large, large-sizes, runWith, Made, opening-made}
-use Rattle.guarantees.specs.OpenedCalls.{CallOpened, call-opened, row-bits, map-at}
+use Rattle.guarantees.specs.OpenedCalls.{CallOpened, call-opened}
 
 -- A run that was opened for a file with its block and table, in buffers of the given sizes.
 pub record OpenedWith (s : Sizes) (file : List ℕ) (workers : ℕ) (b : Block) (table : List ℕ) (r : Run) : Type 0 where
@@ -136,7 +139,7 @@ module _ (s : Sizes) (file : List ℕ) (workers : ℕ) (bytes : (i : ℕ) → ge
         calls = calls;
         waits = λ i j less.
             let c = calls j less in
-            rw (c .1 .row, ← c .1 .own) (row-bits (allSets file b) i j (rw (← same-length) (whole .laws .callLimit)));
+            rw (c .1 .row, ← c .1 .own) (row-exact (allSets file b) j i (rw (← same-length) less) (rw (← same-length) (whole .laws .callLimit)));
         limit = opening-limit (b .cells) (opening-within file b bytes (whole .laws));
       }
 

@@ -10,6 +10,7 @@ use lib.IntN.{ℤ, pos}
 use lib.ListN.{length, getD, drop}
 use Rattle.arith.specs.Choice.{if_then_else_}
 use Rattle.wire.specs.Bytes.{padded}
+use Rattle.wire.specs.Laws.{padded-at}
 use Rattle.block.specs.Limits.{maxCalls, maxKeys, maxWorkers}
 use Rattle.block.specs.Record.{Function, Block, headBytes, callBytes, callOf}
 use Rattle.block.specs.Reader.{Read, accepted, readBlock}
@@ -31,7 +32,7 @@ use Rattle.machine.specs.Made.{madeView}
 use Rattle.machine.specs.Serial.{serialSteps}
 use Rattle.machine.specs.declared.Head.{Head}
 use Rattle.guarantees.specs.ViewCalls.{bodyCall, runView}
-use Rattle.guarantees.specs.ViewKeys.{padded-reads, step-same}
+use Rattle.guarantees.specs.ViewKeys.{step-same}
 use Rattle.guarantees.specs.OpeningLaws.{Large, large-sizes, Made, opening-made}
 use Rattle.guarantees.specs.AfterOpening.{AfterOpening, after-opening}
 use Rattle.guarantees.specs.OpenedRuns.{openedRun, callCount, conflicting, openedCalls, view-made}
@@ -98,7 +99,7 @@ made-alike file room room′ fs table c =
       entries = refl;
       step = λ l cells.
           step-same (madeView file room fs table c) (padded room′ 0 (keyWords table))
-          (λ i. padded-reads room 0 (keyWords table) i ∙ sym (padded-reads room′ 0 (keyWords table) i)) l cells;
+          (λ i. padded-at room 0 (keyWords table) i ∙ sym (padded-at room′ 0 (keyWords table) i)) l cells;
     }
 
 -- One analysis has one table.
@@ -151,9 +152,9 @@ module _ (s t : Sizes) (file : List ℕ) (workers : ℕ) (bytes : Bytes file) (a
   cells-same : (x : ℕ) → cellAt (r .cells) x ≡ cellAt (r′ .cells) x
   cells-same x =
       ap (λ (l : List ℤ). cellAt l x) (after .opened .cells)
-      ∙ padded-reads (s .cells) (pos 0) (values (after .table)) x
+      ∙ padded-at (s .cells) (pos 0) (values (after .table)) x
       ∙ ap (λ (keys : List ℕ). cellAt (values keys) x) tables
-      ∙ sym (padded-reads (t .cells) (pos 0) (values (after′ .table)) x)
+      ∙ sym (padded-at (t .cells) (pos 0) (values (after′ .table)) x)
       ∙ sym (ap (λ (l : List ℤ). cellAt l x) (after′ .opened .cells))
 
   level : Level (openedCalls t file workers) (r .cells) (r′ .cells)

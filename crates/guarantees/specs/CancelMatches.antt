@@ -16,9 +16,9 @@ use Rattle.machine.specs.Step.{restored}
 use Rattle.machine.specs.Moves.{stay, keysOf, ownEntries, oldsOf, cancelHeld, cancelFor, cancelOf}
 use Rattle.machine.specs.Answer.{answerNumber}
 use Rattle.machine.specs.declared.Answer.the-variants.{Accepted, Damaged}
+use Rattle.machine.specs.RestoreLaws.{restored-length}
 use Rattle.guarantees.specs.RunMatches.{Base, callsIn, Held, Matches}
 use Rattle.guarantees.specs.BufferLaws.{state-here, state-there, state-length}
-use Rattle.guarantees.specs.StepKeeps.{restored-length}
 use Rattle.guarantees.specs.ChangeMatches.{changed, Change, change-matches}
 use Rattle.guarantees.specs.Follows.{Follows, large, can-restore}
 use Rattle.guarantees.specs.HeldMatches.{held-follows}

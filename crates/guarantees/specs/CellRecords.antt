@@ -10,6 +10,7 @@ use lib.IntN.{ℤ, pos, negsuc}
 use lib.ListN.{length, drop, length-append}
 use lib.Signed.{mag, leZ, ltZ, nonNeg}
 use Rattle.arith.specs.Choice.{if_then_else_}
+use Rattle.arith.specs.ChoiceLaws.{both}
 use Rattle.arith.specs.Balance.{total, largest, noneBelowZero, withinLimit}
 use Rattle.arith.specs.BalanceLaws.{Within, limit-within}
 use Rattle.arith.specs.Compare.{eqZ}
@@ -25,7 +26,6 @@ use Rattle.footprint.specs.Plan.{highWord, lowWord}
 use Rattle.analysis.specs.KeyTable.{Rising}
 use Rattle.sheet.specs.Sheet.{recordOf, keyBytes}
 use Rattle.guarantees.specs.KeyFits.{KeyFits, key-parts}
-use Rattle.guarantees.specs.OpeningLaws.{both}
 use Rattle.guarantees.specs.OpeningLimit.{total-first}
 
 -- ---- the bytes of cells

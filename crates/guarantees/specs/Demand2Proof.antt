@@ -25,7 +25,6 @@ use Rattle.analysis.specs.Masks.{AllListed}
 use Rattle.analysis.specs.TableWords.{keys-padded}
 use Rattle.machine.specs.Run.{Run, Sizes, stateOf, statusWord, finished}
 use Rattle.machine.specs.declared.Head.{Head}
-use Rattle.machine.specs.CallRanges.{call-ranges}
 use Rattle.machine.specs.CallRule.{call-rule}
 use Rattle.machine.specs.Made.{begun, stepsOf, Hold}
 use Rattle.machine.specs.Serial.{maxSteps}
@@ -103,9 +102,7 @@ module _ (s : Sizes) (file : List ℕ) (workers : ℕ) (bytes : Bytes file) (aft
         → Leaves (after .table) (ruleFor file c σ) (wholeCall s file workers c cells)
     made-leaves σ within cells hold =
         subst⁻¹ (λ (v : View). Leaves (after .table) (ruleFor file c σ) (stepsOf maxSteps v (more (begun v cells) cells))) (opened .view)
-        (call-rule file bytes (b .functions) (after .whole .laws .codes) x
-        (call-ranges record-bytes (drop-bytes (b .first + 34 * c + 4) file bytes) x (opened .body))
-        (after .table) (after .opened .fewKeys) (listed-in (after .table) (setsOf file (b .functions) x) (opened .listed)) (opened .few) (s .keys) σ within cells hold)
+        (call-rule file bytes (b .functions) (after .whole .laws .codes) x fits (after .table) (after .opened .fewKeys) (listed-in (after .table) (setsOf file (b .functions) x) (opened .listed)) (opened .few) (s .keys) σ within cells hold)
 
     leaves : (σ : State) → stateWithinLimit σ ≡ true → (cells : List ℤ) → Hold (tableIn r₀) σ cells
         → Leaves (tableIn r₀) (ruleFor file c σ) (wholeCall s file workers c cells)

@@ -2,36 +2,26 @@
 use mathlib.Core.Path.{_≡_, refl, sym, ap, _∙_}
 use mathlib.Core.Bool.{Bool, true, false, _&&_, _||_}
 use mathlib.Core.List.{List, [], _∷_, map}
-use Prim.Native.Nat.{ℕ, _+_, _*_, _%_, _≤_, _<_}
+use Prim.Native.Nat.{ℕ, _%_, _≤_, _<_}
 use native.Mathlib.Omega.{arith}
-use borrow.Author.Tests.{eqb-true}
+use borrow.Author.Tests.{eqb-false, eqb-true}
 use lib.Dec.{eqb}
 use lib.ListN.{length}
 use Rattle.arith.specs.Choice.{if_then_else_}
-use Rattle.wire.specs.Rows.{bit}
+use Rattle.arith.specs.ChoiceLaws.{neither}
 use Rattle.block.specs.Limits.{maxKeys}
 use Rattle.schedule.specs.Runs.{both}
 use Rattle.footprint.specs.Access.{Access}
 use Rattle.footprint.specs.Table.{cellNumber}
 use Rattle.footprint.specs.Plan.{entryWord}
-use Rattle.analysis.specs.Masks.{touches, writes, against, anyOf, uses, Used, AllListed}
+use Rattle.analysis.specs.Masks.{touches, writes, against, anyOf, uses, AllListed}
 use Rattle.analysis.specs.MaskLaws.{entry-cell, waits}
 use Rattle.analysis.specs.TableLaws.{cell-lt}
+use Rattle.machine.specs.RestoreLaws.{entry-used}
 use Rattle.machine.specs.Run.{entryCell, entryReads, entryWrites}
 use Rattle.guarantees.specs.ViewCalls.{anyEntry, Proper}
-use Rattle.guarantees.specs.OpeningLaws.{neither}
 
 -- ---- entries are proper
-
-flagged : (n : ℕ) (r w : Bool) → r || w ≡ true → (n * 4 + bit r + 2 * bit w) % 4 ≡ 0 → ⊥
-flagged n true true h e = omega arith
-flagged n true false h e = omega arith
-flagged n false true h e = omega arith
-flagged n false false h e = both h refl
-
-used-flag : (table : List ℕ) (e : Access) → Used e → entryWord table e % 4 ≡ 0 → ⊥
-unfolding entryWord
-used-flag table e h = flagged (cellNumber table (e .key)) (e .reads) (e .writes) h
 
 -- Each entry has a flag, and a cell of the table.
 pub entries-proper : (table : List ℕ) (es : List Access) → length table ≤ maxKeys → AllListed table es → Proper (map (entryWord table) es)
@@ -39,7 +29,7 @@ entries-proper table [] few all = tt
 entries-proper table (e ∷ es) few all =
     let inside : cellNumber table (e .key) < length table = cell-lt table (e .key) (all .0 .in-table) in
     let same : entryCell (entryWord table e) ≡ cellNumber table (e .key) = entry-cell table e in
-    ((used-flag table e (all .0 .has-use), omega arith), entries-proper table es few (all .1))
+    ((eqb-false (entryWord table e % 4) 0 (entry-used table e (all .0 .has-use)), omega arith), entries-proper table es few (all .1))
 
 -- ---- entries apart
 

@@ -1,6 +1,6 @@
 -- A lent run's move follows the machine's: what that means, test by test, and the facts that the moves' tests read. Assumes nothing.
 use mathlib.Core.Path.{_≡_, refl, sym, ap, ap₂, _∙_}
-use mathlib.Core.Bool.{Bool, true, false, cond, not, _||_}
+use mathlib.Core.Bool.{Bool, true, false, cond, not, _||_, or-true}
 use mathlib.Core.List.{List, [], _∷_}
 use Prim.Native.Nat.{ℕ, suc, _+_, _%_, _≤_, _<_}
 use native.Mathlib.Omega.{arith}
@@ -38,10 +38,6 @@ state-read status c ready h = record { known = rw h; waits = rw h; ends = rw h }
 state-read status c (active l o) h = record { known = rw h; waits = rw h; ends = rw h }
 state-read status c (ended broken) h = absurd h
 state-read status c (ended (receipt outcome count)) h = record { known = rw (h .0); waits = rw (h .0); ends = rw (h .0) }
-
-or-true : (b : Bool) → b || true ≡ true
-or-true true = refl
-or-true false = refl
 
 proper-allowed : (es : List ℕ) → Proper es → entriesAllowed es ≡ true
 unfolding entriesAllowed

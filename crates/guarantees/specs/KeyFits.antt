@@ -9,6 +9,7 @@ use native.Mathlib.Omega.{arith}
 use borrow.Author.Tests.{le-ltb, eqb-true, ne-eqb}
 use lib.Dec.{eqb, ltb, lit<}
 use lib.ListN.{length, getD, drop}
+use Rattle.arith.specs.ChoiceLaws.{both}
 use Rattle.wire.specs.Bytes.{number, readLe}
 use Rattle.wire.specs.Laws.{number-lt}
 use Rattle.block.specs.Key.{firstContract, addressOf, keyOf, addressIn, fieldIn, aIn, bIn, accountBalance, contractBalance, keyAllowed}
@@ -25,8 +26,9 @@ use Rattle.block.specs.declared.Decoded.{Decoded}
 use Rattle.block.specs.declared.Decoded.the-variants.{Valid, Invalid}
 use Rattle.block.specs.declared.Instr.{Instr}
 use Rattle.block.specs.declared.Source.{Source}
+use Rattle.block.specs.DecodeLaws.{CellFits, Decodes}
 use Rattle.footprint.specs.Access.{Access, cellKey, sourceValue, accesses}
-use Rattle.footprint.specs.AccessLaws.{Bytes, drop-bytes, take-bytes, Keyed, InstrSound, DecodedSound, SourceFits, source-below, accesses-keyed, sets-keyed, decode-sound}
+use Rattle.footprint.specs.AccessLaws.{Bytes, drop-bytes, take-bytes, Keyed, InstrSound, source-below, accesses-keyed, sets-keyed, decode-fits}
 use Rattle.footprint.specs.Conflict.{member}
 use Rattle.footprint.specs.RuleLimit.{CallFits, call-fits}
 use Rattle.footprint.specs.SetLaws as sets
@@ -38,7 +40,6 @@ use Rattle.analysis.specs.KeyTable.{keysOf}
 use Rattle.analysis.specs.Laid.{openingKeys, blockOf, allSets}
 use Rattle.analysis.specs.TableLaws.{member-inserts}
 use Rattle.machine.specs.Run.{Sizes}
-use Rattle.guarantees.specs.OpeningLaws.{both}
 use Rattle.guarantees.specs.AfterOpening.{AfterOpening}
 
 -- "A key is address (16 bits), field (16), a (32), b (32)", and "Field 0 has only a = b = 0 and is the balance; an account has no other key".
@@ -119,20 +120,18 @@ module _ (c : Call) (fits : CallFits c) where
   account-fits : (n : ℕ) → n < firstContract → KeyFits (accountBalance (record { 0 = n }))
   account-fits n h = balance-fits n (omega arith)
 
-  named-fits : (field : ℕ) (a b : Source) → (field < 2 ^ 16) × (SourceFits a × SourceFits b) → 0 < field → KeyFits (cellKey c field a b)
-  named-fits field a b h above =
-      cell-fits (c .contract .0) field (sourceValue c a) (sourceValue c b) (fits .ranges .contract) (h .0)
-      (source-below c a (fits .ranges) (h .1 .0)) (source-below c b (fits .ranges) (h .1 .1)) (fits .contract) above
+  named-fits : (field : ℕ) (a b : Source) → CellFits (2 ^ 16) field a b → KeyFits (cellKey c field a b)
+  named-fits field a b h =
+      cell-fits (c .contract .0) field (sourceValue c a) (sourceValue c b) (fits .ranges .contract) (h .below)
+      (source-below c a (fits .ranges) (h .first)) (source-below c b (fits .ranges) (h .second)) (fits .contract) (h .above)
 
   instr-fits : (i : Instr) → InstrSound i → sets.Each (Keyed KeyFits) (accesses c i)
   instr-fits i h =
       accesses-keyed c KeyFits own-fits account-fits i
       (λ x field a b e.
-      ⊎-elim
-      (λ g. let f = subst InstrSound g h in named-fits field a b (f .0) (f .1))
-      (λ p. let f = subst InstrSound p h in named-fits field a b (f .0) (f .1)) e)
+      ⊎-elim (λ g. named-fits field a b (subst InstrSound g h)) (λ p. named-fits field a b (subst InstrSound p h)) e)
 
-  decoded-fits : (d : Decoded) → DecodedSound d → sets.Each (Keyed KeyFits) (decodedAccesses c d)
+  decoded-fits : (d : Decoded) → Decodes InstrSound d → sets.Each (Keyed KeyFits) (decodedAccesses c d)
   decoded-fits (Valid i) h = instr-fits i h
   decoded-fits Invalid h = tt
 
@@ -140,7 +139,7 @@ module _ (c : Call) (fits : CallFits c) where
   sets-fit block h f =
       sets-keyed c KeyFits own-fits account-fits (balance-fits (c .sender .0) (fits .ranges .sender)) block f
       (λ g. code-each (Keyed KeyFits) Bytes (drop-bytes instrBytes) c (g .size)
-      (λ index s q. decoded-fits (decode index (g .size) s) (decode-sound index (g .size) s q)) (g .size) 0
+      (λ index s q. decoded-fits (decode index (g .size) s) (decode-fits index (g .size) s q)) (g .size) 0
       (codeAt block (g .start) (g .size)) (take-bytes (instrBytes * g .size) (drop (g .start) block) (drop-bytes (g .start) block h)))
 
 keyed-hold : (K : ℕ → Type 0) (es : List Access) → sets.Each (Keyed K) es → Holds K (keysOf es)

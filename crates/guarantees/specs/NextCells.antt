@@ -13,6 +13,7 @@ use lib.Signed.{mag, nonNeg}
 use Rattle.arith.specs.Balance.{total, noneBelowZero, withinLimit}
 use Rattle.arith.specs.BalanceLaws.{limit-within, within-limit}
 use Rattle.arith.specs.Choice.{if_then_else_}
+use Rattle.arith.specs.ChoiceLaws.{both}
 use Rattle.arith.specs.Compare.{eqZ}
 use Rattle.arith.specs.Laws.{P, eqZ-true}
 use Rattle.block.specs.Key.{addressOf, addressIn, fieldIn, aIn, bIn, isBalance, keyAllowed}
@@ -28,7 +29,6 @@ use Rattle.footprint.specs.Rule.{State, balancesIn, stateWithinLimit}
 use Rattle.analysis.specs.KeyTable.{Above, Rising}
 use Rattle.guarantees.specs.CellRecords.{AllFit, Opens}
 use Rattle.guarantees.specs.KeyFits.{KeyFits, key-parts, Holds, holds-none, holds-cons}
-use Rattle.guarantees.specs.OpeningLaws.{both}
 use Rattle.guarantees.specs.OpeningLimit.{total-first}
 
 -- "all non-zero cells by key": those of a state, of the keys of a rising table.

@@ -1,19 +1,15 @@
 -- What an opened run has of each call of its block: its record, its words in the plan, its view, and its function. Assumes nothing.
 use mathlib.Core.Path.{_≡_, refl, sym, ap, subst, _∙_}
-use mathlib.Core.Bool.{Bool, true, false, _&&_}
+use mathlib.Core.Bool.{Bool, true, false}
 use mathlib.Core.List.{List, [], _∷_, map}
 use mathlib.Core.Option.{Option, none, some, Option·some-injective, Option·none-ne-some}
 use Prim.Native.Nat.{ℕ, zero, suc, _+_, _*_, _≤_, _<_}
-use native.Mathlib.Decide.{decLt}
 use native.Mathlib.Omega.{arith}
-use borrow.Author.Tests.{lt-ltb, le-ltb}
-use lib.Dec.{eqb, ltb}
-use lib.ListN.{length, getD, getElem?, take, drop, length-map, List·getD-eq-default}
-use lib.Seq.{getD-take}
+use lib.Dec.{eqb}
+use lib.ListN.{length, getD, getElem?, take, drop, length-map}
 use Rattle.arith.specs.Choice.{if_then_else_}
 use Rattle.wire.specs.Bytes.{padded}
-use Rattle.wire.specs.Rows.{inRow}
-use Rattle.block.specs.Limits.{maxCalls, maxCallKeys}
+use Rattle.block.specs.Limits.{maxCallKeys}
 use Rattle.block.specs.Record.{Function, Block, functionId, callId, callOf}
 use Rattle.block.specs.ReaderLaws as reading
 use Rattle.block.specs.ReaderLaws.{Whole}
@@ -23,11 +19,11 @@ use Rattle.footprint.specs.Access.{Access}
 use Rattle.footprint.specs.Sets.{functionOf, functionSets, setsOf}
 use Rattle.footprint.specs.SetLaws as sets
 use Rattle.footprint.specs.SetLaws.{Distinct, merged-distinct}
-use Rattle.footprint.specs.Conflict.{conflict, conflictBits, rowFor}
-use Rattle.footprint.specs.ConflictLaws.{row-bit, bit-conflict}
+use Rattle.footprint.specs.Conflict.{rowFor}
 use Rattle.footprint.specs.Table.{cellNumber}
 use Rattle.footprint.specs.Plan.{entryWord, codeWords, plans, keyWords}
 use Rattle.analysis.specs.Laid.{allSets}
+use Rattle.analysis.specs.LaidLaws.{map-at}
 use Rattle.analysis.specs.Masks.{AllListed, EveryListed}
 use Rattle.analysis.specs.MaskLaws.{entry-cell}
 use Rattle.analysis.specs.TableLaws.{cell-lt, cell-key}
@@ -80,16 +76,6 @@ element-at (x ∷ l) zero h = record { element = x; found = refl; same = refl }
 element-at (x ∷ l) (suc j) h =
     let a : At l j = element-at l j (omega arith) in
     record { element = a .element; found = a .found; same = a .same }
-
-pub map-at : {A B : Type 0} (f : A → B) (l : List A) (j : ℕ) (d : A) (e : B) → j < length l → getD (map f l) j e ≡ f (getD l j d)
-map-at f [] j d e h = absurd (omega arith)
-map-at f (x ∷ l) zero d e h = refl
-map-at f (x ∷ l) (suc j) d e h = map-at f l j d e (omega arith)
-
-take-short : {A : Type 0} (j : ℕ) (l : List A) → (length (take j l) ≤ j) × (length (take j l) ≤ length l)
-take-short zero l = (omega arith, omega arith)
-take-short (suc j) [] = (omega arith, omega arith)
-take-short (suc j) (x ∷ l) = let rest = take-short j l in (omega arith, omega arith)
 
 -- ---- sets and functions
 
@@ -178,21 +164,3 @@ module _ (file : List ℕ) (b : Block) (whole : Whole file b) (table : List ℕ)
   call-opened j less =
       let a : At (b .calls) j = element-at (b .calls) j less in
       (a .element, opened j less (a .element) (a .found) (a .same))
-
--- ---- the bits of a row
-
-none-conflict : (t : List Access) → conflict [] t ≡ false
-unfolding conflictBits
-none-conflict t = sym (bit-conflict t [] 0)
-
--- Call j waits for call i exactly if i is before j and their sets conflict.
-pub row-bits : (ls : List (List Access)) (i j : ℕ) → length ls ≤ maxCalls
-    → inRow (rowFor (take j ls) (getD ls j [])) i ≡ (ltb i j && conflict (getD ls i []) (getD ls j []))
-row-bits ls i j few = row-bit (take j ls) (getD ls j []) i (omega (arith, take-short j ls .1)) ∙ go (decLt i j)
-  where
-    go : Dec (i < j) → conflict (getD (take j ls) i []) (getD ls j []) ≡ (ltb i j && conflict (getD ls i []) (getD ls j []))
-    go (yes h) = rw (lt-ltb i j h, getD-take j ls i [] h)
-    go (no h) =
-        let past : j ≤ i = omega arith in
-        let out : length (take j ls) ≤ i = omega (arith, take-short j ls .0) in
-        rw (le-ltb i j past, List·getD-eq-default (take j ls) [] out) (none-conflict (getD ls j []))

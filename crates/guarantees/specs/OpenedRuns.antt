@@ -4,11 +4,12 @@ use mathlib.Core.Path.{_≡_, refl, sym, ap, ap₂, subst⁻¹, _∙_}
 use mathlib.Core.Bool.{Bool, false, _&&_}
 use mathlib.Core.List.{List, []}
 use mathlib.Core.Option.{Option, none, some}
-use Prim.Native.Nat.{ℕ, zero, suc, _+_, _*_, _≤_, _<_}
+use Prim.Native.Nat.{ℕ, _+_, _*_, _≤_, _<_}
 use native.Mathlib.Omega.{arith}
 use borrow.Author.Tests.{lt-ltb}
 use lib.ListN.{length, getD, drop, length-map}
 use Rattle.wire.specs.Bytes.{repeated}
+use Rattle.wire.specs.Laws.{repeated-at}
 use Rattle.block.specs.Limits.{maxCode, maxCallKeys}
 use Rattle.block.specs.Record.{Function, Block, headBytes, callBytes, callOf}
 use Rattle.block.specs.ReaderLaws.{Sound}
@@ -60,12 +61,6 @@ code-few : (file : List ℕ) (f : Option Function) → ((g : Function) → f ≡
 unfolding codeWords
 code-few file none h = omega arith
 code-few file (some g) h = let few : g .size ≤ 64 = h g refl .few in omega arith
-
-repeated-at : {A : Type 0} (n i : ℕ) (a : A) → getD (repeated n a) i a ≡ a
-unfolding repeated
-repeated-at zero i a = refl
-repeated-at (suc n) zero a = refl
-repeated-at (suc n) (suc i) a = repeated-at n i a
 
 module _ (s : Sizes) (file : List ℕ) (workers : ℕ) (after : AfterOpening s file workers) where
   abbrev r₀ : Run

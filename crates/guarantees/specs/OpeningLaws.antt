@@ -1,7 +1,7 @@
 -- What an accepted opening went through: its tests passed, the file is a block, the analysis refused nothing, and the run is the one made
 -- of them. Assumes nothing.
 use mathlib.Core.Path.{_≡_, refl, ap}
-use mathlib.Core.Bool.{Bool, true, false, _&&_, _||_, not, false≢true, true≢false}
+use mathlib.Core.Bool.{Bool, true, false, _||_, not, false≢true}
 use mathlib.Core.List.{List, [], map}
 use Prim.Native.Nat.{ℕ, _*_, _≤_, _<_}
 use native.Mathlib.Omega.{arith}
@@ -9,7 +9,7 @@ use borrow.Author.Tests.{ltb-false, leb-true, eqb-false, not-false}
 use lib.Dec.{eqb, leb, ltb}
 use lib.IntN.{pos}
 use lib.ListN.{length}
-use Rattle.arith.specs.Choice.{if_then_else_}
+use Rattle.arith.specs.ChoiceLaws.{both, if-all, neither}
 use Rattle.wire.specs.Bytes.{repeated, padded}
 use Rattle.block.specs.Limits.{maxCalls, maxKeys, maxCallKeys, maxWorkers}
 use Rattle.block.specs.Record.{Block}
@@ -26,18 +26,6 @@ use Rattle.machine.specs.Run.{Run, Sizes, fixedSizes, largeEnough, statusWords}
 use Rattle.machine.specs.Opening.{Opened, headOf, refusedRun, openPrepared, openingOf}
 
 -- ---- the tests
-
-pub if-all : {A : Type 0} (P : A → Type 0) (t : Bool) {x y : A} → (t ≡ true → P x) → (t ≡ false → P y) → P (if t then x else y)
-if-all P true f g = f refl
-if-all P false f g = g refl
-
-pub both : (s t : Bool) → (s && t) ≡ true → (s ≡ true) × (t ≡ true)
-both true t e = (refl, e)
-both false t e = absurd (false≢true e)
-
-pub neither : (s t : Bool) → (s || t) ≡ false → (s ≡ false) × (t ≡ false)
-neither true t e = absurd (true≢false e)
-neither false t e = (refl, e)
 
 accepts : Verdict → Bool
 accepts verdict.Accepted = true

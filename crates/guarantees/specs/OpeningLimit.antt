@@ -6,28 +6,21 @@ use mathlib.Core.List.{List, [], _∷_, _++_, map, map-append}
 use Prim.Native.Nat.{ℕ, zero, suc, _+_, _^_, _≤_, _<_}
 use native.Mathlib.Omega.{arith}
 use borrow.Author.Tests.{eqb-true, ne-eqb}
-use lib.Dec.{eqb, lit<}
+use lib.Dec.{eqb}
 use lib.IntN.{ℤ, pos, _+ℤ_}
 use lib.Signed.{nonNeg}
 use Rattle.arith.specs.Choice.{if_then_else_}
+use Rattle.arith.specs.ChoiceLaws.{both}
 use Rattle.arith.specs.Balance.{total, noneBelowZero, withinLimit}
 use Rattle.arith.specs.BalanceLaws.{Within, limit-within, within-limit, total-from-zero}
 use Rattle.arith.specs.Laws.{P, N, sum, nonNeg-true, N-zero}
 use Rattle.wire.specs.Bytes.{below}
-use Rattle.block.specs.Key.{keyOf, isBalance}
-use Rattle.block.specs.KeyLaws.{field-of}
+use Rattle.block.specs.Key.{isBalance}
 use Rattle.block.specs.Record.{Cell}
 use Rattle.block.specs.Reader.{balances}
+use Rattle.footprint.specs.LimitLaws.{balanceKey, balance-is}
 use Rattle.footprint.specs.Plan.{openingValue}
 use Rattle.footprint.specs.Rule.{stateWithinLimit}
-use Rattle.guarantees.specs.OpeningLaws.{both}
-
--- "Field 0 has only a = b = 0 and is the balance": the key of an address's balance.
-abbrev balanceKey : ℕ → ℕ
-balanceKey address = keyOf address 0 0 0
-
-key-balance : (address : ℕ) → isBalance (balanceKey address) ≡ true
-key-balance address = ap (λ (f : ℕ). eqb f 0) (field-of address 0 0 0 (lit< tt) (lit< tt) (lit< tt))
 
 -- ---- sums over the addresses below n
 
@@ -127,7 +120,7 @@ value-above (c ∷ cs) e a = go (eqb (balanceKey a) (c .key)) refl (value-above 
   where
     go : (b : Bool) → eqb (balanceKey a) (c .key) ≡ b → nonNeg (openingValue cs (balanceKey a)) ≡ true
         → nonNeg (if b then c .value else openingValue cs (balanceKey a)) ≡ true
-    go true f ih = first-from-zero c cs e .0 (subst (λ (k : ℕ). isBalance k ≡ true) (eqb-true (balanceKey a) (c .key) f) (key-balance a))
+    go true f ih = first-from-zero c cs e .0 (subst (λ (k : ℕ). isBalance k ≡ true) (eqb-true (balanceKey a) (c .key) f) (balance-is a))
     go false f ih = ih
 
 -- Their sum is at most that of the balances among the cells: each cell counts for one address at most, and only as a balance.
@@ -155,7 +148,7 @@ value-sum (c ∷ cs) e n =
     go false own parts ih rest =
         let nowhere : sumBelow (single (c .key) (P (c .value))) n ≡ 0 =
         sum-none (single (c .key) (P (c .value))) n
-        (λ a h. rw (ne-eqb (balanceKey a) (c .key) (λ f. false≢true (sym own ∙ ap isBalance (sym f) ∙ key-balance a)))) in
+        (λ a h. rw (ne-eqb (balanceKey a) (c .key) (λ f. false≢true (sym own ∙ ap isBalance (sym f) ∙ balance-is a)))) in
         omega arith
 
 -- The state that an opening's cells make keeps the limit that its balances keep.

@@ -4,9 +4,10 @@ use mathlib.Core.List.{List, [], _∷_, _++_, map, append-assoc, append-nil}
 use mathlib.Core.Option.{Option, none, some}
 use Prim.Native.Nat.{ℕ, zero, suc, _+_, _-_, _*_, _≤_, _<_}
 use native.Mathlib.Omega.{arith}
-use lib.ListN.{length, getD, take, drop, length-append, length-replicate, length-map}
+use lib.ListN.{length, getD, take, drop, length-append, length-map}
 use lib.Seq.{getD-drop, drop-drop, drop-append-add, take-at}
 use Rattle.wire.specs.Bytes.{repeated, padded}
+use Rattle.wire.specs.Laws.{padded-length}
 use Rattle.wire.specs.RowLaws.{rowOf-is-row}
 use Rattle.block.specs.Limits.{maxCallKeys}
 use Rattle.block.specs.Record.{Function}
@@ -19,10 +20,6 @@ use Rattle.footprint.specs.Plan.{planWords, entryWord, codeWords, callPlan, pla
 -- ---- lists one behind another
 
 module _ {A : Type 0} where
-  pub padded-length : (n : ℕ) (a : A) (l : List A) → length l ≤ n → length (padded n a l) ≡ n
-  unfolding repeated
-  padded-length n a l h = simp (length-append, length-replicate) (omega arith)
-
   take-front : (p a b c d : List A) → take (length p) ((((p ++ a) ++ b) ++ c) ++ d) ≡ p
   take-front [] a b c d = refl
   take-front (x ∷ p) a b c d = ap (λ (l : List A). x ∷ l) (take-front p a b c d)

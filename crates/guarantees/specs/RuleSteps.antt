@@ -9,6 +9,7 @@ use native.Mathlib.Omega.{arith}
 use lib.IntN.{ℤ, _+ℤ_}
 use lib.Signed.{ltZ, leZ, nonNeg}
 use lib.Dec.{ltb}
+use Rattle.arith.specs.ChoiceLaws.{if-all}
 use Rattle.arith.specs.Balance.{largest}
 use Rattle.schedule.specs.Calls.{Calls, Course, more, done, Here, advance, trace, stepsFrom, stepsOf, whole}
 use Rattle.block.specs.Key.{isBalance}
@@ -23,7 +24,6 @@ use Rattle.machine.specs.declared.Next.{Next}
 use Rattle.machine.specs.declared.Next.the-variants.{Go, End, Load, Store, Transfer}
 use Rattle.machine.specs.declared.Lookup.{Lookup}
 use Rattle.machine.specs.declared.Lookup.the-variants.{Cell, NoCell}
-use Rattle.guarantees.specs.OpeningLaws.{if-all}
 use Rattle.guarantees.specs.ViewCalls.{Place, withOlds, Receipt, broken, receipt, pointOf, viewCalls}
 use Rattle.guarantees.specs.ViewSteps.{step-all}
 

@@ -22,7 +22,7 @@ use Rattle.footprint.specs.SetLaws.{keysOf}
 use Rattle.footprint.specs.Conflict.{member}
 use Rattle.footprint.specs.Plan.{openingValue}
 use Rattle.footprint.specs.Rule.{State, stateWithinLimit, Left, transaction, transactions}
-use Rattle.footprint.specs.RuleLimit.{call-fits, limit-kept}
+use Rattle.footprint.specs.RuleLimit.{CallFits, call-fits, limit-kept}
 use Rattle.analysis.specs.Laid.{blockOf}
 use Rattle.analysis.specs.Masks.{AllListed}
 use Rattle.machine.specs.Run.{Run, Sizes}
@@ -33,7 +33,6 @@ use Rattle.machine.specs.Step.{View, Stepped}
 use Rattle.machine.specs.Moves.{viewOf}
 use Rattle.machine.specs.Made.{madeView, begun, stepsOf, Hold}
 use Rattle.machine.specs.Serial.{maxSteps}
-use Rattle.machine.specs.CallRanges.{call-ranges}
 use Rattle.machine.specs.LookupLaws.{InTable}
 use Rattle.machine.specs.StepRule.{Leaves}
 use Rattle.machine.specs.CallRule.{call-rule}
@@ -180,13 +179,15 @@ module _ (s : Sizes) (file : List ℕ) (bytes : Bytes file) (workers : ℕ) (aft
       ∙ ap (λ (d : CallBody). viewOf file r c (bodyCall d)) (o .body)
       ∙ o .view
 
+  opened-fits : (c : ℕ) (x : Call) → Opened c x → CallFits x
+  opened-fits c x o = call-fits (drop (b .first + 34 * c + 4) file) (drop-bytes (b .first + 34 * c + 4) file bytes) x (o .body)
+
   -- Its steps, by its view in the run.
   steps-leave : (c : ℕ) (x : Call) → Opened c x → (σ : State) → stateWithinLimit σ ≡ true → (cells : List ℤ) → Hold table σ cells
       → Leaves table (rule x σ) (stepsOf maxSteps (runView file r c) (machine.more (begun (runView file r c) cells) cells))
   steps-leave c x o σ within cells hold =
       subst⁻¹ (λ (v : View). Leaves table (rule x σ) (stepsOf maxSteps v (machine.more (begun v cells) cells))) (view-made c x o)
-      (call-rule file bytes (b .functions) (after .whole .laws .codes) x
-      (call-ranges (drop (b .first + 34 * c + 4) file) (drop-bytes (b .first + 34 * c + 4) file bytes) x (o .body))
+      (call-rule file bytes (b .functions) (after .whole .laws .codes) x (opened-fits c x o)
       table (after .opened .fewKeys) (listed-in table (setsOf file (b .functions) x) (o .listed)) (o .few) (s .keys) σ within cells hold)
 
   opened-follows : (c : ℕ) (x : Call) → Opened c x → (σ : State) → stateWithinLimit σ ≡ true → (cells : List ℤ) → Hold table σ cells
@@ -196,8 +197,7 @@ module _ (s : Sizes) (file : List ℕ) (bytes : Bytes file) (workers : ℕ) (aft
     where
       limit : stateWithinLimit (rule x σ .state) ≡ true
       limit =
-          limit-kept x (call-fits (drop (b .first + 34 * c + 4) file) (drop-bytes (b .first + 34 * c + 4) file bytes) x (o .body))
-          file bytes (b .functions) σ within
+          limit-kept x (opened-fits c x o) file bytes (b .functions) σ within
 
       go : (t : Stepped) → stepsOf maxSteps (runView file r c) (machine.more (begun (runView file r c) cells) cells) ≡ t
           → Leaves table (rule x σ) t → Follows c cells (rule x σ)

@@ -7,6 +7,7 @@ use native.Mathlib.Omega.{arith}
 use lib.IntN.{ℤ, _+ℤ_}
 use lib.Signed.{ltZ, leZ, nonNeg}
 use lib.Dec.{ltb}
+use Rattle.arith.specs.ChoiceLaws.{if-all}
 use Rattle.arith.specs.Balance.{largest}
 use Rattle.schedule.specs.Calls.{Calls, Course, more, done, isDone, advance, trace}
 use Rattle.block.specs.Limits.{maxCode}
@@ -19,7 +20,6 @@ use Rattle.machine.specs.declared.Next.{Next}
 use Rattle.machine.specs.declared.Next.the-variants.{Go, End, Load, Store, Transfer}
 use Rattle.machine.specs.declared.Lookup.{Lookup}
 use Rattle.machine.specs.declared.Lookup.the-variants.{Cell, NoCell}
-use Rattle.guarantees.specs.OpeningLaws.{if-all}
 use Rattle.guarantees.specs.ViewCalls.{Place, withOlds, Receipt, pointOf, viewCalls}
 use Rattle.guarantees.specs.ViewSteps.{Fits, step-all}
 

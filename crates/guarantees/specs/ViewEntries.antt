@@ -8,23 +8,20 @@ use native.Mathlib.Decide.{ℕ-discrete}
 use borrow.Author.Tests.{ltb-true, not-false, eqb-true, eq-eqb}
 use lib.IntN.{ℤ, pos}
 use lib.Dec.{eqb, leb, ltb}
-use lib.ListN.{length, set, length-set}
+use lib.ListN.{length, set}
 use lib.Seq.{getD-set-same, getD-set-other}
 use Rattle.arith.specs.Choice.{if_then_else_}
+use Rattle.arith.specs.ChoiceLaws.{both, by-test, if-all}
 use Rattle.schedule.specs.Runs as runs
 use Rattle.block.specs.Limits.{maxCallKeys, maxKeys}
 use Rattle.footprint.specs.Access.{Access}
+use Rattle.analysis.specs.Masks.{anyOf, uses}
 use Rattle.machine.specs.Run.{entryCell, entryReads, entryWrites, hasKey}
+use Rattle.machine.specs.RestoreLaws.{onward, onward-length, restored-other, restored-back}
 use Rattle.machine.specs.Step.{View, findEntry, lookup, cellAt, savedOf, restored}
 use Rattle.machine.specs.declared.Lookup.{Lookup}
 use Rattle.machine.specs.declared.Lookup.the-variants.{Cell, NoCell}
-use Rattle.guarantees.specs.OpeningLaws.{if-all, both, neither}
 use Rattle.guarantees.specs.ViewCalls.{anyEntry, Proper}
-
--- What holds at both answers of a test holds at its own.
-pub by-test : (Q : Bool → Type 0) (t : Bool) → (t ≡ true → Q true) → (t ≡ false → Q false) → Q t
-by-test Q true f g = f refl
-by-test Q false f g = g refl
 
 -- ---- what a lookup finds
 
@@ -45,6 +42,23 @@ any-first test e es t = rw (t, eq-eqb (entryCell e) (entryCell e) refl)
 any-later : (test : ℕ → Bool) (e : ℕ) (es : List ℕ) (x : ℕ) → anyEntry test es x ≡ true → anyEntry test (e ∷ es) x ≡ true
 unfolding anyEntry
 any-later test e es x h = rw h (or-true (test e && eqb (entryCell e) x))
+
+-- The same, by the test of the analysis.
+pub any-uses : (test : ℕ → Bool) (es : List ℕ) (x : ℕ) → anyEntry test es x ≡ uses test x es
+unfolding anyEntry anyOf
+any-uses test [] x = refl
+any-uses test (e ∷ es) x = ap (λ (b : Bool). (test e && eqb (entryCell e) x) || b) (any-uses test es x)
+
+-- A cell of an entry is one of the table.
+any-low : (test : ℕ → Bool) (es : List ℕ) → Proper es → (x : ℕ) → anyEntry test es x ≡ true → x < maxKeys
+unfolding anyEntry
+any-low test [] p x m = absurd (false≢true m)
+any-low test (e ∷ es) p x m = go (test e && eqb (entryCell e) x) refl m (any-low test es (p .1) x)
+  where
+    go : (b : Bool) → (test e && eqb (entryCell e) x) ≡ b → (b || anyEntry test es x) ≡ true → (anyEntry test es x ≡ true → x < maxKeys)
+        → x < maxKeys
+    go true f m later = omega (arith, p .0 .1, eqb-true (entryCell e) x (both (test e) (eqb (entryCell e) x) f .1))
+    go false f m later = later m
 
 -- A flag that is wanted is there.
 wanted : (want flag : Bool) → (not want || flag) ≡ true → want ≡ true → flag ≡ true
@@ -101,14 +115,6 @@ set-outside es s n z x w f = getD-set-other s n x z (pos 0) (λ q. runs.both w (
 
 -- ---- the write set kept and restored
 
-pub restored-length : (es : List ℕ) (olds cells : List ℤ) → length (restored es olds cells) ≡ length cells
-unfolding restored
-restored-length [] olds cells = refl
-restored-length (e ∷ es) [] cells = refl
-restored-length (e ∷ es) (old ∷ olds) cells =
-    restored-length es olds (if entryWrites e then set cells (entryCell e) old else cells)
-    ∙ if-all (λ (l : List ℤ). length l ≡ length cells) (entryWrites e) (λ w. length-set cells (entryCell e) old) (λ w. refl)
-
 -- What is kept depends on the cells that are written.
 pub saved-alike : (es : List ℕ) (s s′ : List ℤ) → ((x : ℕ) → anyEntry entryWrites es x ≡ true → cellAt s x ≡ cellAt s′ x)
     → savedOf es s ≡ savedOf es s′
@@ -126,22 +132,10 @@ saved-alike (e ∷ es) s s′ h =
 -- Other cells stay.
 pub restored-frame : (es : List ℕ) (olds cells : List ℤ) (x : ℕ) → anyEntry entryWrites es x ≡ false
     → cellAt (restored es olds cells) x ≡ cellAt cells x
-unfolding restored anyEntry
-restored-frame [] olds cells x h = refl
-restored-frame (e ∷ es) [] cells x h = refl
-restored-frame (e ∷ es) (old ∷ olds) cells x h =
-    restored-frame es olds (if entryWrites e then set cells (entryCell e) old else cells) x
-    (neither (entryWrites e && eqb (entryCell e) x) (anyEntry entryWrites es x) h .1)
-    ∙ if-all (λ (l : List ℤ). cellAt l x ≡ cellAt cells x) (entryWrites e)
-    (λ w. set-outside (e ∷ es) cells (entryCell e) old x (any-first entryWrites e es w) h)
-    (λ w. refl)
-
--- The cells with one entry's old value restored.
-abbrev onward : ℕ → ℤ → List ℤ → List ℤ
-onward e old cells = if entryWrites e then set cells (entryCell e) old else cells
+restored-frame es olds cells x h = restored-other es olds cells x (sym (any-uses entryWrites es x) ∙ h)
 
 onward-good : (e : ℕ) (old : ℤ) (s : List ℤ) → maxKeys ≤ length s → maxKeys ≤ length (onward e old s)
-onward-good e old s g = if-all (λ (l : List ℤ). maxKeys ≤ length l) (entryWrites e) (λ w. rw length-set g) (λ w. g)
+onward-good e old s g = rw (onward-length e old s) g
 
 -- The cells behind a restore depend on the same cells before it.
 pub restored-alike : (es : List ℕ) → Proper es → (olds s s′ : List ℤ) (x : ℕ) → maxKeys ≤ length s → maxKeys ≤ length s′
@@ -156,49 +150,9 @@ restored-alike (e ∷ es) p (old ∷ olds) s s′ x g g′ h =
     (λ t. cellAt (if t then set s (entryCell e) old else s) x ≡ cellAt (if t then set s′ (entryCell e) old else s′) x) (entryWrites e)
     (λ w. set-alike s s′ (entryCell e) old x (omega arith) (omega arith) h) (λ w. h))
 
--- One cell set to its value in another list, if others agree already.
-set-back : (s s₁ : List ℤ) (n x : ℕ) → n < length s → (¬ (x ≡ n) → cellAt s x ≡ cellAt s₁ x) → cellAt (set s n (cellAt s₁ n)) x ≡ cellAt s₁ x
-set-back s s₁ n x l h = go (ℕ-discrete x n)
-  where
-    go : Dec (x ≡ n) → cellAt (set s n (cellAt s₁ n)) x ≡ cellAt s₁ x
-    go (yes q) = rw q (getD-set-same s n (cellAt s₁ n) (pos 0) l)
-    go (no d) = getD-set-other s n x (cellAt s₁ n) (pos 0) d ∙ h d
-
--- The old value that an entry keeps.
-abbrev kept : ℕ → List ℤ → ℤ
-kept e s₁ = if entryWrites e then cellAt s₁ (entryCell e) else pos 0
-
--- A cell that is as it was when the old values were kept stays so.
-restored-same : (es : List ℕ) → Proper es → (s₁ s : List ℤ) (x : ℕ) → maxKeys ≤ length s
-    → cellAt s x ≡ cellAt s₁ x → cellAt (restored es (savedOf es s₁) s) x ≡ cellAt s₁ x
-unfolding restored savedOf
-restored-same [] p s₁ s x g h = h
-restored-same (e ∷ es) p s₁ s x g h =
-    let low : entryCell e < maxKeys = p .0 .1 in
-    restored-same es (p .1) s₁ (onward e (kept e s₁) s) x (onward-good e (kept e s₁) s g)
-    (by-test (λ t. cellAt (if t then set s (entryCell e) (if t then cellAt s₁ (entryCell e) else pos 0) else s) x ≡ cellAt s₁ x) (entryWrites e)
-    (λ w. set-back s s₁ (entryCell e) x (omega arith) (λ d. h)) (λ w. h))
-
--- Every cell of the write set is as it was when the old values were kept, also one that stands in two entries.
-pub restored-back : (es : List ℕ) → Proper es → (s₁ s : List ℤ) (x : ℕ) → maxKeys ≤ length s → anyEntry entryWrites es x ≡ true
+-- Every cell of the write set is as it was when the old values were kept.
+pub written-back : (es : List ℕ) → Proper es → (s₁ s : List ℤ) (x : ℕ) → maxKeys ≤ length s → anyEntry entryWrites es x ≡ true
     → cellAt (restored es (savedOf es s₁) s) x ≡ cellAt s₁ x
-unfolding restored savedOf anyEntry
-restored-back [] p s₁ s x g m = absurd (false≢true m)
-restored-back (e ∷ es) p s₁ s x g m =
-    go (entryWrites e && eqb (entryCell e) x) refl m (onward-good e (kept e s₁) s g)
-    (restored-back es (p .1) s₁ (onward e (kept e s₁) s) x (onward-good e (kept e s₁) s g))
-  where
-    low : entryCell e < maxKeys
-    low = p .0 .1
-
-    here : entryWrites e ≡ true → entryCell e ≡ x → cellAt (onward e (kept e s₁) s) x ≡ cellAt s₁ x
-    here w q = rw w (set-back s s₁ (entryCell e) x (omega (arith, low)) (λ d. absurd (d (sym q))))
-
-    go : (b : Bool) → (entryWrites e && eqb (entryCell e) x) ≡ b → (b || anyEntry entryWrites es x) ≡ true
-        → maxKeys ≤ length (onward e (kept e s₁) s)
-        → (anyEntry entryWrites es x ≡ true → cellAt (restored es (savedOf es s₁) (onward e (kept e s₁) s)) x ≡ cellAt s₁ x)
-        → cellAt (restored es (savedOf es s₁) (onward e (kept e s₁) s)) x ≡ cellAt s₁ x
-    go true f m good rest =
-        let h = both (entryWrites e) (eqb (entryCell e) x) f in
-        restored-same es (p .1) s₁ (onward e (kept e s₁) s) x good (here (h .0) (eqb-true (entryCell e) x (h .1)))
-    go false f m good rest = rest m
+written-back es p s₁ s x g m =
+    let low : x < maxKeys = any-low entryWrites es p x m in
+    restored-back es s₁ s x (omega arith) (sym (any-uses entryWrites es x) ∙ m)

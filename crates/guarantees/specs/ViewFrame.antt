@@ -9,20 +9,21 @@ use lib.Signed.{ltZ, leZ, nonNeg}
 use lib.Dec.{ltb}
 use lib.ListN.{length, set, length-set}
 use Rattle.arith.specs.Choice.{if_then_else_}
+use Rattle.arith.specs.ChoiceLaws.{if-all}
 use Rattle.arith.specs.Balance.{largest}
 use Rattle.block.specs.Limits.{maxKeys}
 use Rattle.block.specs.Key.{isBalance}
 use Rattle.footprint.specs.Access.{Access}
 use Rattle.machine.specs.Run.{entryReads, entryWrites}
 use Rattle.machine.specs.Action.{thrown}
+use Rattle.machine.specs.RestoreLaws.{restored-length}
 use Rattle.machine.specs.Step.{View, Local, Stepped, damaged, more, done, cellAt, lookup, restorable, restored, finish, loadCell, storeCell, depositCell, transferCells, accessAt, perform, stepCall}
 use Rattle.machine.specs.declared.Next.{Next}
 use Rattle.machine.specs.declared.Next.the-variants.{Go, End, Load, Store, Transfer}
 use Rattle.machine.specs.declared.Lookup.{Lookup}
 use Rattle.machine.specs.declared.Lookup.the-variants.{Cell, NoCell}
-use Rattle.guarantees.specs.OpeningLaws.{if-all}
 use Rattle.guarantees.specs.ViewCalls.{pointOf, anyEntry, Proper}
-use Rattle.guarantees.specs.ViewEntries.{Finds, lookup-finds, set-alike, set-outside, restored-length, restored-frame, restored-alike}
+use Rattle.guarantees.specs.ViewEntries.{Finds, lookup-finds, set-alike, set-outside, restored-frame, restored-alike}
 use Rattle.guarantees.specs.ViewSteps.{Fits, step-all}
 
 -- ---- the write set alone

@@ -2,14 +2,13 @@
 -- both. Assumes nothing.
 use mathlib.Core.Path.{_≡_, refl, ap, ap₂, _∙_}
 use mathlib.Core.Bool.{Bool, _&&_, _||_, not}
-use mathlib.Core.List.{List, [], _∷_, _++_}
-use Prim.Native.Nat.{ℕ, zero, suc, _+_, _-_, _*_}
+use mathlib.Core.List.{List, [], _∷_}
+use Prim.Native.Nat.{ℕ, _+_, _-_, _*_}
 use lib.IntN.{ℤ}
 use lib.Signed.{ltZ, nonNeg}
 use lib.Dec.{eqb, leb, ltb}
 use lib.ListN.{length, getD, drop}
 use Rattle.arith.specs.Choice.{if_then_else_}
-use Rattle.wire.specs.Bytes.{repeated, padded}
 use Rattle.block.specs.Limits.{maxCallKeys, maxKeys}
 use Rattle.block.specs.Instruction.{instrBytes, decode}
 use Rattle.block.specs.declared.Decoded.{Decoded}
@@ -23,23 +22,6 @@ use Rattle.machine.specs.declared.Next.{Next}
 use Rattle.machine.specs.declared.Next.the-variants.{Go, End, Load, Store, Transfer}
 use Rattle.machine.specs.declared.Lookup.{Lookup}
 use Rattle.machine.specs.declared.Lookup.the-variants.{Cell, NoCell}
-
--- ---- padding
-
--- What stands behind a list in its buffer is read as what is read past its end.
-pub padded-reads : {A : Type 0} (n : ℕ) (a : A) (l : List A) (i : ℕ) → getD (padded n a l) i a ≡ getD l i a
-unfolding repeated
-padded-reads {A} n a l i = behind l (n - length l) i
-  where
-    zeros : (k i : ℕ) → getD (repeated k a) i a ≡ a
-    zeros zero i = refl
-    zeros (suc k) zero = refl
-    zeros (suc k) (suc i) = zeros k i
-
-    behind : (l : List A) (k i : ℕ) → getD (l ++ repeated k a) i a ≡ getD l i a
-    behind [] k i = zeros k i
-    behind (x ∷ l) k zero = refl
-    behind (x ∷ l) k (suc i) = behind l k i
 
 -- ---- one step
 

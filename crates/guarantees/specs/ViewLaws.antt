@@ -8,9 +8,10 @@ use lib.IntN.{ℤ}
 use Rattle.schedule.specs.Calls.{Lawful}
 use Rattle.block.specs.Limits.{maxKeys}
 use Rattle.machine.specs.Run.{entryReads}
+use Rattle.machine.specs.RestoreLaws.{restored-length}
 use Rattle.machine.specs.Step.{View, Local, savedOf}
 use Rattle.guarantees.specs.ViewCalls.{Place, withOlds, anyEntry, viewCalls, Tidy}
-use Rattle.guarantees.specs.ViewEntries.{saved-alike, restored-length, restored-frame, restored-back}
+use Rattle.guarantees.specs.ViewEntries.{saved-alike, restored-frame, written-back}
 use Rattle.guarantees.specs.ViewFrame.{step-keeps, step-like}
 use Rattle.guarantees.specs.ViewEnds.{view-ends}
 
@@ -27,7 +28,7 @@ view-lawful view n before c tidy =
       step-course = λ s₁ s s′ g₁ g g′ a l. step-like v (tidy .entries) (at s₁ l) s s′ g g′ a .course;
       step-cells = λ s₁ s s′ g₁ g g′ a l. step-like v (tidy .entries) (at s₁ l) s s′ g g′ a .cells;
       restore-good = λ s₁ s g₁ g. room-kept (restored-length es (savedOf es s₁) s) g;
-      restore-back = λ s₁ s g₁ g x. restored-back es (tidy .entries) s₁ s x g;
+      restore-back = λ s₁ s g₁ g x. written-back es (tidy .entries) s₁ s x g;
       restore-frame = λ s₁ s g₁ g. restored-frame es (savedOf es s₁) s;
       ends = λ s g. view-ends view n before c s (tidy .code);
     }

@@ -1,22 +1,23 @@
 -- What one step of a call can be: damaged, an end, or an action that fits the accesses of its place and leads forward. Assumes nothing.
 use mathlib.Core.Path.{_≡_, refl, sym, _∙_}
-use mathlib.Core.Bool.{Bool, true, false, _&&_, _||_, not}
+use mathlib.Core.Bool.{Bool, true}
 use mathlib.Core.List.{List, [], _∷_}
-use Prim.Native.Nat.{ℕ, _+_, _-_, _*_, _/_, _%_, _≤_, _<_}
+use Prim.Native.Nat.{ℕ, _+_, _-_, _*_, _≤_, _<_}
 use native.Mathlib.Omega.{arith}
-use borrow.Author.Tests.{ltb-true, leb-true, eqb-true, eqb-false}
+use borrow.Author.Tests.{eqb-true, eqb-false}
 use lib.IntN.{ℤ, pos}
 use lib.Signed.{ltZ, nonNeg}
-use lib.Dec.{eqb, leb, ltb}
+use lib.Dec.{eqb, leb}
 use lib.ListN.{length, drop}
 use Rattle.arith.specs.Choice.{if_then_else_}
-use Rattle.arith.specs.Exact.{signed, addOf, subOf, mulOf, divOf}
+use Rattle.arith.specs.ChoiceLaws.{if-all, by-test}
+use Rattle.arith.specs.Exact.{addOf, subOf, mulOf, divOf}
 use Rattle.arith.specs.Compare.{eqZ}
 use Rattle.arith.specs.declared.Checked.{Checked}
 use Rattle.arith.specs.declared.Checked.the-variants as checked
-use Rattle.wire.specs.Bytes.{number}
 use Rattle.block.specs.Key.{accountBalance, contractBalance}
-use Rattle.block.specs.Instruction.{instrBytes, isRegister, isArgument, isSource, sourceOf, allowed, decode, decodeEnd, decodeSet, decodeArg, decodeFact, decodeArith, decodeCell, decodePay, decodeJump, decodeParts}
+use Rattle.block.specs.Instruction.{instrBytes, decode}
+use Rattle.block.specs.DecodeLaws.{Forward, Decodes, decode-forward}
 use Rattle.block.specs.declared.Call.{Call}
 use Rattle.block.specs.declared.Payee.{Payee}
 use Rattle.block.specs.declared.Payee.the-variants.{To, NoAccount}
@@ -29,80 +30,6 @@ use Rattle.machine.specs.Action.{ended, unknownFunction, balanceTooLow, placeOf
 use Rattle.machine.specs.Step.{View, Local, Stepped, damaged, done, accessAt, perform, performAction, stepEntry, stepDecoded, stepInstr, stepCall}
 use Rattle.machine.specs.declared.Next.{Next}
 use Rattle.machine.specs.declared.Next.the-variants.{Go, End, Load, Store, Transfer}
-use Rattle.guarantees.specs.OpeningLaws.{if-all, both}
-use Rattle.guarantees.specs.ViewEntries.{by-test}
-
--- ---- jumps
-
--- "Jumps go forward: w above the instruction's own index, at most the code's length."
-abbrev Jumps : ℕ → ℕ → Instr → Type 0
-Jumps index size Stop = Unit {0}
-Jumps index size Throw = Unit {0}
-Jumps index size (Set x value) = Unit {0}
-Jumps index size (Arg x k) = Unit {0}
-Jumps index size (Sender x) = Unit {0}
-Jumps index size (Value x) = Unit {0}
-Jumps index size (Add x y z) = Unit {0}
-Jumps index size (Sub x y z) = Unit {0}
-Jumps index size (Mul x y z) = Unit {0}
-Jumps index size (Div x y z) = Unit {0}
-Jumps index size (Get x field a b) = Unit {0}
-Jumps index size (Put x field a b) = Unit {0}
-Jumps index size (Bal x) = Unit {0}
-Jumps index size (Pay x target) = Unit {0}
-Jumps index size (Jeq x y to) = (index < to) × (to ≤ size)
-Jumps index size (Jlt x y to) = (index < to) × (to ≤ size)
-
-abbrev DecodedJumps : ℕ → ℕ → Decoded → Type 0
-DecodedJumps index size (Valid i) = Jumps index size i
-DecodedJumps index size Invalid = Unit {0}
-
-module _ (index size : ℕ) where
-  allowed-jumps : (t : Bool) (i : Instr) → (t ≡ true → Jumps index size i) → DecodedJumps index size (allowed t i)
-  allowed-jumps true i h = h refl
-  allowed-jumps false i h = tt
-
-  jump-jumps : (op x y z w : ℕ) → DecodedJumps index size (decodeJump index size op x y z w)
-  unfolding decodeJump
-  jump-jumps op x y z w =
-      allowed-jumps (isRegister x && isRegister y && eqb z 0 && ltb index w && leb w size) (if eqb op 14 then Jeq x y w else Jlt x y w) λ t.
-      let ends = both (isRegister x && isRegister y && eqb z 0 && ltb index w) (leb w size) t in
-      let starts = both (isRegister x && isRegister y && eqb z 0) (ltb index w) (ends .0) in
-      let forward : (index < w) × (w ≤ size) = (ltb-true index w (starts .1), leb-true w size (ends .1)) in
-      if-all (Jumps index size) (eqb op 14) (λ e. forward) (λ e. forward)
-
-  -- What is shown of every branch of `decodeParts`; only a jump has something to show.
-  abbrev D : Decoded → Type 0
-  D = DecodedJumps index size
-
-  abbrev J : Instr → Type 0
-  J = Jumps index size
-
-  parts-jumps : (op x y z w : ℕ) → D (decodeParts index size op x y z w)
-  unfolding decodeParts decodeEnd decodeSet decodeArg decodeFact decodeArith decodeCell decodePay
-  parts-jumps op x y z w =
-      if-all D (ltb op 2)
-      (λ e. allowed-jumps (eqb x 0 && eqb y 0 && eqb z 0 && eqb w 0) (if eqb op 0 then Stop else Throw) λ t. if-all J (eqb op 0) (λ e. tt) (λ e. tt)) λ e.
-      if-all D (eqb op 2) (λ e. allowed-jumps (isRegister x && eqb y 0 && eqb z 0) (Set x (signed 32 w)) (λ t. tt)) λ e.
-      if-all D (eqb op 3) (λ e. allowed-jumps (isRegister x && isArgument y && eqb z 0 && eqb w 0) (Arg x y) (λ t. tt)) λ e.
-      if-all D (ltb op 6)
-      (λ e. allowed-jumps (isRegister x && eqb y 0 && eqb z 0 && eqb w 0) (if eqb op 4 then Sender x else Value x) λ t. if-all J (eqb op 4) (λ e. tt) (λ e. tt)) λ e.
-      if-all D (ltb op 10)
-      (λ e. allowed-jumps (isRegister x && isRegister y && isRegister z && eqb w 0)
-      (if eqb op 6 then Add x y z else if eqb op 7 then Sub x y z else if eqb op 8 then Mul x y z else Div x y z) λ t.
-      if-all J (eqb op 6) (λ e. tt) λ e. if-all J (eqb op 7) (λ e. tt) λ e. if-all J (eqb op 8) (λ e. tt) (λ e. tt)) λ e.
-      if-all D (ltb op 12)
-      (λ e. allowed-jumps
-      (isRegister x && isSource y && isSource z && not (eqb (w % 65536) 0) && (eqb y 6 || eqb z 6 || eqb (w / 65536) 0))
-      (if eqb op 10 then Get x (w % 65536) (sourceOf y w) (sourceOf z w) else Put x (w % 65536) (sourceOf y w) (sourceOf z w)) λ t.
-      if-all J (eqb op 10) (λ e. tt) (λ e. tt)) λ e.
-      if-all D (eqb op 12) (λ e. allowed-jumps (isRegister x && eqb y 0 && eqb z 0 && eqb w 0) (Bal x) (λ t. tt)) λ e.
-      if-all D (eqb op 13)
-      (λ e. allowed-jumps (isRegister x && isSource y && eqb z 0 && eqb (w % 65536) 0 && (eqb y 6 || eqb (w / 65536) 0)) (Pay x (sourceOf y w)) (λ t. tt)) λ e.
-      if-all D (ltb op 16) (λ e. jump-jumps op x y z w) (λ e. tt)
-
-  decode-jumps : (s : List ℕ) → D (decode index size s)
-  decode-jumps s = parts-jumps (number 1 s) (number 1 (drop 1 s)) (number 1 (drop 2 s)) (number 1 (drop 3 s)) (number 4 (drop 4 s))
 
 -- ---- what fits a place
 
@@ -136,7 +63,7 @@ module _ (code place : ℕ) where
       if-all (Fits code place (payAccesses c (To account))) (nonNeg amount) (λ e. (refl, refl, refl)) (λ e. tt)
   pay-fits c regs amount NoAccount = tt
 
-  instr-fits : (c : Call) (regs : List ℤ) (i : Instr) → Jumps (place - 1) (code - 1) i
+  instr-fits : (c : Call) (regs : List ℤ) (i : Instr) → Forward (place - 1) (code - 1) i
       → Fits code place (accesses c i) (instrAction c place regs i .next)
   unfolding accesses instrAction
   instr-fits c regs Stop j = tt
@@ -186,7 +113,7 @@ module _ (v : View) (l : Local) (P : (List ℤ → Stepped) → Type 0) (breaks 
       acts (l .count) (entryAccesses (v .call)) (entryAction (v .call) (l .regs) .regs) (entryAction (v .call) (l .regs) .next)
       (λ q. eqb-false (v .code) 0 h (sym q ∙ e)) (entry-fits (v .code) (l .place) (v .call) (l .regs) e))
 
-  decoded-all : (d : Decoded) → DecodedJumps (l .place - 1) (v .code - 1) d → ¬ (l .place ≡ v .code) → P (λ cells. stepDecoded v l cells d)
+  decoded-all : (d : Decoded) → Decodes (Forward (l .place - 1) (v .code - 1)) d → ¬ (l .place ≡ v .code) → P (λ cells. stepDecoded v l cells d)
   unfolding stepDecoded
   decoded-all (Valid i) j inside =
       acts (l .count + 1) (accesses (v .call) i) (instrAction (v .call) (l .place) (l .regs) i .regs)
@@ -199,7 +126,7 @@ module _ (v : View) (l : Local) (P : (List ℤ → Stepped) → Type 0) (breaks 
       let d : Decoded = decode (l .place - 1) (v .code - 1) (drop (v .start + instrBytes * (l .place - 1)) (v .block)) in
       by-test (λ t. P (λ cells. if t then stepDecoded v l cells d else damaged))
       (leb (v .start + instrBytes * (v .code - 1)) (length (v .block)))
-      (λ h. decoded-all d (decode-jumps (l .place - 1) (v .code - 1) (drop (v .start + instrBytes * (l .place - 1)) (v .block))) inside)
+      (λ h. decoded-all d (decode-forward (l .place - 1) (v .code - 1) (drop (v .start + instrBytes * (l .place - 1)) (v .block))) inside)
       (λ h. breaks)
 
   pub step-all : P (λ cells. stepCall v l cells)

@@ -1,29 +1,28 @@
 -- The calls of an opened run and their sets are those of its file, and the cells that a call may write are those of its write set. Assumes nothing.
-use mathlib.Core.Path.{_≡_, refl, sym, ap, ap₂, _∙_}
-use mathlib.Core.Bool.{true, _&&_, _||_}
-use mathlib.Core.List.{List, [], _∷_, map}
+use mathlib.Core.Path.{_≡_, sym, ap, ap₂, _∙_}
+use mathlib.Core.Bool.{true}
+use mathlib.Core.List.{List, [], map}
 use Prim.Native.Nat.{ℕ, _<_}
 use native.Mathlib.Omega.{arith}
-use lib.Dec.{eqb}
 use lib.ListN.{length, getD, length-map}
 use Rattle.wire.specs.Bytes.{padded}
 use Rattle.footprint.specs.Access.{Access}
 use Rattle.footprint.specs.Sets.{setsOf, writeSet}
 use Rattle.footprint.specs.Conflict.{member}
-use Rattle.footprint.specs.ConflictLaws.{eqb-sym, member-pick}
 use Rattle.footprint.specs.Table.{cellNumber}
 use Rattle.footprint.specs.Plan.{entryWord, keyWords}
 use Rattle.analysis.specs.KeyTable.{keyAt}
 use Rattle.analysis.specs.TableLaws.{member-at, cell-at}
 use Rattle.analysis.specs.TableWords.{keys-at, keys-padded}
-use Rattle.analysis.specs.Masks.{Listed, AllListed}
-use Rattle.analysis.specs.MaskLaws.{number-same, entry-cell, entry-writes}
+use Rattle.analysis.specs.Masks.{AllListed}
+use Rattle.analysis.specs.MaskLaws.{listed-keys, uses-writes}
 use Rattle.analysis.specs.Laid.{blockOf, allSets}
-use Rattle.machine.specs.Run.{Run, Sizes, entryCell, entryWrites}
+use Rattle.machine.specs.Run.{Run, Sizes, entryWrites}
 use Rattle.machine.specs.declared.Head.{Head}
 use Rattle.guarantees.specs.BlockTally.{setsIn, fileSets}
 use Rattle.guarantees.specs.Agreement.{mayWrite}
 use Rattle.guarantees.specs.ViewCalls.{anyEntry}
+use Rattle.guarantees.specs.ViewEntries.{any-uses}
 use Rattle.guarantees.specs.AfterOpening.{AfterOpening}
 use Rattle.guarantees.specs.OpenedRuns.{openedRun, callCount, openedCalls}
 
@@ -34,20 +33,11 @@ pub key-at : (room : ℕ) (table : List ℕ) (x : ℕ) → x < length table → 
 key-at room table x h =
     sym (keys-at (length table) (padded room 0 (keyWords table)) x h) ∙ ap (λ (t : List ℕ). getD t x 0) (keys-padded room table)
 
-module _ (table : List ℕ) (k : ℕ) (known : member k table ≡ true) where
-  same-key : (e : Access) → Listed table e → eqb (entryCell (entryWord table e)) (cellNumber table k) ≡ eqb k (e .key)
-  same-key e l =
-      ap (λ (x : ℕ). eqb x (cellNumber table k)) (entry-cell table e)
-      ∙ number-same table (e .key) k (l .in-table) known ∙ eqb-sym (e .key) k
-
-  -- The entries of a set write a key's cell if the set writes the key.
-  entries-write : (es : List Access) → AllListed table es
-      → anyEntry entryWrites (map (entryWord table) es) (cellNumber table k) ≡ member k (writeSet es)
-  unfolding anyEntry member writeSet
-  entries-write [] l = refl
-  entries-write (e ∷ es) l =
-      ap₂ _||_ (ap₂ _&&_ (entry-writes table e) (same-key e (l .0))) (entries-write es (l .1))
-      ∙ sym (member-pick k (e .key) (writeSet es) (e .writes))
+-- The entries of a set write a key's cell if the set writes the key.
+entries-write : (table : List ℕ) (k : ℕ) → member k table ≡ true → (es : List Access) → AllListed table es
+    → anyEntry entryWrites (map (entryWord table) es) (cellNumber table k) ≡ member k (writeSet es)
+entries-write table k known es l =
+    any-uses entryWrites (map (entryWord table) es) (cellNumber table k) ∙ uses-writes table k known es (listed-keys table es l)
 
 -- ---- an opened run
 

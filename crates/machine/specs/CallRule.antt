@@ -4,7 +4,7 @@ use mathlib.Core.Path.{_≡_, refl, sym, _∙_, subst}
 use mathlib.Core.Bool.{Bool, true, false}
 use mathlib.Core.List.{List, [], _∷_, map}
 use mathlib.Core.Option.{Option, none, some}
-use Prim.Native.Nat.{ℕ, zero, suc, _+_, _-_, _*_, _≤_, _<_, suc-le-suc}
+use Prim.Native.Nat.{ℕ, zero, suc, _+_, _-_, _*_, _^_, _≤_, _<_, suc-le-suc}
 use native.Mathlib.Decide.{decLt, ℕ-discrete}
 use native.Mathlib.Nat.{le-of-suc-le-suc}
 use native.Mathlib.Omega.{arith}
@@ -12,13 +12,13 @@ use borrow.Author.Tests.{eq-eqb, ne-eqb, le-leb}
 use lib.Dec.{eqb}
 use lib.IntN.{ℤ, pos, _+ℤ_, _-ℤ_}
 use lib.ListN.{length, getD, getElem?, drop}
-use lib.Seq.{getD-drop}
-use lib.Signed.{ltZ, nonNeg}
+use lib.Signed.{ltZ}
 use Rattle.arith.specs.Choice.{if_then_else_}
 use Rattle.arith.specs.Laws.{equal, sum, diff, ltZ-true, ltZ-false, nonNeg-true}
 use Rattle.wire.specs.Bytes.{padded}
 use Rattle.block.specs.Limits.{maxCallKeys, maxKeys}
 use Rattle.block.specs.Instruction.{instrBytes, decode}
+use Rattle.block.specs.DecodeLaws.{Lawful, Decodes}
 use Rattle.block.specs.Record.{Function, functionId, callId, codeAt}
 use Rattle.block.specs.ReaderLaws as reader
 use Rattle.block.specs.ReaderLaws.{Sound}
@@ -26,19 +26,20 @@ use Rattle.block.specs.declared.Call.{Call}
 use Rattle.block.specs.declared.Decoded.the-variants.{Valid}
 use Rattle.block.specs.declared.Instr.{Instr}
 use Rattle.footprint.specs.Access.{Access, changing, writing, accesses, entryAccesses}
-use Rattle.footprint.specs.AccessLaws.{Bytes, DecodedFits, InstrFits, decode-fits, sets-used}
+use Rattle.footprint.specs.AccessLaws.{Bytes, drop-bytes, decode-sound, sets-used}
 use Rattle.footprint.specs.Sets.{functionOf, functionSets, setsOf, writeSet}
 use Rattle.footprint.specs.SetLaws.{Each}
 use Rattle.footprint.specs.Plan.{entryWord, codeWords, keyWords}
 use Rattle.footprint.specs.Rule.{State, update, credit, debit, stateWithinLimit, Result, Course, before, over, executeAt, runBody, bodyOf, settle, runFunction, transactionBy, transaction}
 use Rattle.footprint.specs.LimitLaws.{update-same, update-other, balanceKey, limit-balance, limit-move}
+use Rattle.footprint.specs.RuleLimit.{CallFits}
+use Rattle.footprint.specs.SafeSets.{no-amount}
 use Rattle.machine.specs.Run.{zeroRegisters}
 use Rattle.machine.specs.Action.{instrAction, entryAction}
 use Rattle.machine.specs.Step.{View, Local, Stepped, damaged, more, done, finish, perform, performAction, stepEntry, stepDecoded, stepInstr, stepCall}
 use Rattle.machine.specs.Made.{madeView, begun, stepsOf, Hold}
 use Rattle.machine.specs.Serial.{maxSteps}
-use Rattle.machine.specs.CallRanges.{CallRanges}
-use Rattle.machine.specs.CodeLaws.{InstrOf, instr-of, function-length, function-end, decode-placed}
+use Rattle.machine.specs.CodeLaws.{InstrOf, instr-of, function-length, function-end}
 use Rattle.machine.specs.LookupLaws.{Covered, entry-covered, instr-covered, sets-distinct, lookup-covered, InTable}
 use Rattle.machine.specs.RestoreLaws.{made-restorable}
 use Rattle.machine.specs.HoldLaws.{Now, movedCells, hold-alike}
@@ -64,9 +65,6 @@ minus-zero x m z = rw z (equal (x -ℤ pos 0) x (omega (arith, diff x (pos 0))))
 zero-moved : (σ : State) (a b : ℕ) (m : ℤ) → m ≡ pos 0 → (l : ℕ) → credit (debit σ a m) b m l ≡ σ l
 zero-moved σ a b m z l =
     still (debit σ a m) b (debit σ a m b +ℤ m) (plus-zero (debit σ a m b) m z) l ∙ still σ a (σ a -ℤ m) (minus-zero (σ a) m z) l
-
-no-value : (m : ℤ) → nonNeg m ≡ true → ltZ (pos 0) m ≡ false → m ≡ pos 0
-no-value m s e = equal m (pos 0) (omega (arith, ltZ-false (pos 0) m e, nonNeg-true m s))
 
 -- ---- steps and turns
 
@@ -116,7 +114,7 @@ viewIn file room table c f =
     }
 
 -- A call of the function f, begun at a state that the old cells hold.
-module _ (file : List ℕ) (bytes : Bytes file) (c : Call) (ranges : CallRanges c) (f : Function) (sound : Sound file f) (table : List ℕ)
+module _ (file : List ℕ) (bytes : Bytes file) (c : Call) (fits : CallFits c) (f : Function) (sound : Sound file f) (table : List ℕ)
     (few : length table ≤ maxKeys) (known : InTable table (functionSets file c (some f))) (small : length (functionSets file c (some f)) ≤ maxCallKeys)
     (room : ℕ) (start : State) (within : stateWithinLimit start ≡ true) (old : List ℤ) (first : Hold table start old) where
   abbrev es : List Access
@@ -142,11 +140,10 @@ module _ (file : List ℕ) (bytes : Bytes file) (c : Call) (ranges : CallRanges 
 
   -- ---- one step from an instruction
 
-  fits-file : (p : ℕ) (i : Instr) → decode p (f .size) (drop (f .start + instrBytes * p) file) ≡ Valid i → InstrFits i
-  fits-file p i e =
-      subst DecodedFits e
-      (decode-fits p (f .size) (drop (f .start + instrBytes * p) file)
-      (λ j. rw (getD-drop (f .start + instrBytes * p) file j 0) (bytes (f .start + instrBytes * p + j))))
+  lawful-file : (p : ℕ) (i : Instr) → decode p (f .size) (drop (f .start + instrBytes * p) file) ≡ Valid i → Lawful (2 ^ 16) p (f .size) i
+  lawful-file p i e =
+      subst (Decodes (Lawful (2 ^ 16) p (f .size))) e
+      (decode-sound p (f .size) (drop (f .start + instrBytes * p) file) (drop-bytes (f .start + instrBytes * p) file bytes))
 
   step-instr : (p : ℕ) (ρ : List ℤ) (n : ℕ) (cells : List ℤ) (i : Instr) → p < f .size → decode p (f .size) (drop (f .start + instrBytes * p) file) ≡ Valid i
       → stepCall view (at (p + 1) ρ n) cells ≡ performAction view (at (p + 1) ρ n) (n + 1) (accesses c i) (instrAction c (p + 1) ρ i) cells
@@ -169,9 +166,8 @@ module _ (file : List ℕ) (bytes : Bytes file) (c : Call) (ranges : CallRanges 
   instr-step p ρ n σ cells l now =
       let this : InstrOf file f p = instr-of file f sound p l in
       rw (this .listed, step-instr p ρ n cells (this .instr) l (this .decoded))
-      (instr-match view table es made (f .size) start old first p l σ cells now ρ n (n + 1) c ranges (this .instr)
-      (decode-placed p (f .size) (drop (f .start + instrBytes * p) file) (this .instr) (this .decoded))
-      (fits-file p (this .instr) (this .decoded)) (instr-covered file c f p l (this .instr) (this .decoded)))
+      (instr-match view table es made (f .size) start old first p l σ cells now ρ n (n + 1) c fits (this .instr)
+      (lawful-file p (this .instr) (this .decoded)) (instr-covered file c f p l (this .instr) (this .decoded)))
 
   -- "At place = length: outcome 0."
   end-step : (ρ : List ℤ) (n : ℕ) (σ : State) (cells : List ℤ) → Here σ cells
@@ -228,10 +224,10 @@ module _ (file : List ℕ) (bytes : Bytes file) (c : Call) (ranges : CallRanges 
   began = record { hold = first; limit = within; outside = λ k out. refl }
 
   payer-small : payer < 65536
-  payer-small = let low : c .sender .0 < 32768 = ranges .sender in omega arith
+  payer-small = let low : c .sender .0 < 32768 = fits .account in omega arith
 
   apart : paid ≡ payer → ⊥
-  apart e = let low : c .sender .0 < 32768 = ranges .sender in let high : 32768 ≤ c .contract .0 = ranges .contract in omega arith
+  apart e = let low : c .sender .0 < 32768 = fits .account in let high : 32768 ≤ c .contract .0 = fits .contract in omega arith
 
   -- The entry step, where the value is above 0 and where it is 0.
   step-entry : stepCall view (at 0 zeroRegisters 0) old ≡ performAction view (at 0 zeroRegisters 0) 0 (entryAccesses c) (entryAction c zeroRegisters) old
@@ -250,7 +246,7 @@ module _ (file : List ℕ) (bytes : Bytes file) (c : Call) (ranges : CallRanges 
     entry-short less =
         step-entry ∙ rw (
           above,
-          transfer-short view table es made (f .size) start old first start old began payer paid payer-small (ranges .parts .contract) apart
+          transfer-short view table es made (f .size) start old first start old began payer paid payer-small (fits .ranges .contract) apart
               (both-covered .0) (both-covered .1) (at 0 zeroRegisters 0) 0 zeroRegisters (c .value) 2 less,
         )
 
@@ -260,14 +256,14 @@ module _ (file : List ℕ) (bytes : Bytes file) (c : Call) (ranges : CallRanges 
     entry-moves enough =
         step-entry ∙ rw (
           above,
-          transfer-moves view table es made (f .size) start old first start old began payer paid payer-small (ranges .parts .contract) apart
-              (both-covered .0) (both-covered .1) (at 0 zeroRegisters 0) 0 zeroRegisters (c .value) 2 (ranges .value) enough,
+          transfer-moves view table es made (f .size) start old first start old began payer paid payer-small (fits .ranges .contract) apart
+              (both-covered .0) (both-covered .1) (at 0 zeroRegisters 0) 0 zeroRegisters (c .value) 2 (fits .value) enough,
         )
 
     entry-now : ltZ (start (balanceKey payer)) (c .value) ≡ false → Here entered (movedCells table old (balanceKey payer) (balanceKey paid) (c .value))
     entry-now enough =
-        transfer-now view table es made (f .size) start old first start old began payer paid payer-small (ranges .parts .contract) apart
-        (both-covered .0) (both-covered .1) (at 0 zeroRegisters 0) 0 zeroRegisters (c .value) 2 (ranges .value) enough
+        transfer-now view table es made (f .size) start old first start old began payer paid payer-small (fits .ranges .contract) apart
+        (both-covered .0) (both-covered .1) (at 0 zeroRegisters 0) 0 zeroRegisters (c .value) 2 (fits .value) enough
 
   module _ (none′ : ltZ (pos 0) (c .value) ≡ false) where
     entry-passes : stepCall view (at 0 zeroRegisters 0) old ≡ more (at 1 zeroRegisters 0) old
@@ -281,17 +277,17 @@ module _ (file : List ℕ) (bytes : Bytes file) (c : Call) (ranges : CallRanges 
           arith,
           ltZ-true (start (balanceKey payer)) (c .value) less,
           ltZ-false (pos 0) (c .value) none′,
-          nonNeg-true (c .value) (ranges .value),
+          nonNeg-true (c .value) (fits .value),
           nonNeg-true (start (balanceKey payer)) (limit-balance start within payer payer-small .0),
         )
 
     passes-now : ltZ (start (balanceKey payer)) (c .value) ≡ false → Here entered old
     passes-now enough =
         let same : (k : ℕ) → entered k ≡ start k =
-        zero-moved start (balanceKey payer) (balanceKey paid) (c .value) (no-value (c .value) (ranges .value) none′) in
+        zero-moved start (balanceKey payer) (balanceKey paid) (c .value) (no-amount (c .value) (fits .value) none′) in
         record {
           hold = hold-alike table start entered old (λ k. sym (same k)) first;
-          limit = limit-move start within payer paid payer-small (ranges .parts .contract) (c .value) (ranges .value) enough;
+          limit = limit-move start within payer paid payer-small (fits .ranges .contract) (c .value) (fits .value) enough;
           outside = λ k out. same k;
         }
 
@@ -342,13 +338,13 @@ unknown-function file c table σ v cells e first = rw e (record { same-outcome =
 
 -- A call of any accepted block, begun in cells that hold a state within the balance limit and stepped at most 66 times, has ended: its
 -- outcome and count are those of the published rule at that state, and its cells hold the state that the rule leaves.
-pub call-rule : (file : List ℕ) → Bytes file → (functions : List Function) → reader.Each (λ i f. Sound file f) functions → (c : Call) → CallRanges c
+pub call-rule : (file : List ℕ) → Bytes file → (functions : List Function) → reader.Each (λ i f. Sound file f) functions → (c : Call) → CallFits c
     → (table : List ℕ) → length table ≤ maxKeys → InTable table (setsOf file functions c) → length (setsOf file functions c) ≤ maxCallKeys → (room : ℕ)
     → (σ : State) → stateWithinLimit σ ≡ true → (cells : List ℤ) → Hold table σ cells
     → Leaves table (transaction file functions c σ)
     (stepsOf maxSteps (madeView file room functions table c) (more (begun (madeView file room functions table c) cells) cells))
 unfolding codeWords
-call-rule file bytes functions all c ranges table few known small room σ within cells first =
+call-rule file bytes functions all c fits table few known small room σ within cells first =
     go (functionOf functions c) (found-sound file functions c all) known small
   where
     viewBy : Option Function → View
@@ -366,4 +362,4 @@ call-rule file bytes functions all c ranges table few known small room σ within
     go : (o : Option Function) → OfSound file o → InTable table (functionSets file c o) → length (functionSets file c o) ≤ maxCallKeys
         → Leaves table (transactionBy file c σ o) (stepsOf maxSteps (viewBy o) (more (begun (viewBy o) cells) cells))
     go none sound known′ small′ = unknown-function file c table σ (viewBy none) cells refl first
-    go (some f) sound known′ small′ = known-function file bytes c ranges f sound table few known′ small′ room σ within cells first
+    go (some f) sound known′ small′ = known-function file bytes c fits f sound table few known′ small′ room σ within cells first

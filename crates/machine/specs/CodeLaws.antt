@@ -1,27 +1,22 @@
 -- The code of a function as its file has it: the rule's body and the sets take their instructions from the stretch, a step takes
 -- them from the file, and these are the same valid instructions, each covered by the sets. Assumes nothing.
-use mathlib.Core.Path.{_≡_, refl, sym, ap, _∙_, subst}
-use mathlib.Core.Bool.{Bool, true, false, _&&_, _||_, not, false≢true}
+use mathlib.Core.Path.{_≡_, refl, sym, ap, _∙_}
+use mathlib.Core.Bool.{Bool, true, false, false≢true}
 use mathlib.Core.List.{List, [], _∷_}
 use mathlib.Core.Option.{none, some}
-use Prim.Native.Nat.{ℕ, zero, suc, _+_, _*_, _/_, _%_, _≤_, _<_}
+use Prim.Native.Nat.{ℕ, zero, suc, _+_, _*_, _<_}
 use native.Mathlib.Nat.{not-suc-le-zero, le-of-suc-le-suc, add-zero, zero-add}
 use native.Mathlib.Omega.{arith}
-use borrow.Author.Tests.{ltb-true, leb-true, eqb-false, not-true}
-use lib.Dec.{eqb, ltb, leb}
 use lib.ListN.{length, getD, getElem?, drop}
 use lib.Seq.{getD-drop, getD-take, drop-drop}
-use Rattle.arith.specs.Choice.{if_then_else_}
-use Rattle.arith.specs.Exact.{signed}
 use Rattle.wire.specs.Bytes.{number}
 use Rattle.wire.specs.Laws.{read-same}
-use Rattle.block.specs.Instruction.{instrBytes, isRegister, isArgument, isSource, sourceOf, allowed, decode, isValid, firstInvalid, decodeEnd, decodeSet, decodeArg, decodeFact, decodeArith, decodeCell, decodePay, decodeJump, decodeParts}
+use Rattle.block.specs.Instruction.{instrBytes, decode, isValid, firstInvalid}
 use Rattle.block.specs.Record.{Function, codeAt}
 use Rattle.block.specs.ReaderLaws.{Sound}
 use Rattle.block.specs.declared.Decoded.{Decoded}
 use Rattle.block.specs.declared.Decoded.the-variants.{Valid, Invalid}
 use Rattle.block.specs.declared.Instr.{Instr}
-use Rattle.block.specs.declared.Instr.the-variants.{Stop, Throw, Set, Arg, Sender, Value, Add, Sub, Mul, Div, Get, Put, Bal, Pay, Jeq, Jlt}
 use Rattle.footprint.specs.Rule.{withInstr, bodyOf}
 
 -- ---- the same bytes are the same instruction
@@ -157,90 +152,3 @@ module _ (file : List ℕ) (f : Function) where
     -- Behind the last there is none.
     pub function-end : getElem? (bodyOf (f .size) 0 (f .size) (codeAt file (f .start) (f .size))) (f .size) ≡ none
     function-end = past-end (bodyOf (f .size) 0 (f .size) (codeAt file (f .start) (f .size))) (f .size) function-length
-
--- ---- what the parts of a valid instruction keep
-
--- A jump goes forward and within the code; the field of a cell is no balance's.
-abbrev pub Placed : (index size : ℕ) → Instr → Type 0
-Placed index size Stop = Unit {0}
-Placed index size Throw = Unit {0}
-Placed index size (Set x value) = Unit {0}
-Placed index size (Arg x k) = Unit {0}
-Placed index size (Sender x) = Unit {0}
-Placed index size (Value x) = Unit {0}
-Placed index size (Add x y z) = Unit {0}
-Placed index size (Sub x y z) = Unit {0}
-Placed index size (Mul x y z) = Unit {0}
-Placed index size (Div x y z) = Unit {0}
-Placed index size (Get x field a b) = 0 < field
-Placed index size (Put x field a b) = 0 < field
-Placed index size (Bal x) = Unit {0}
-Placed index size (Pay x target) = Unit {0}
-Placed index size (Jeq x y to) = (index < to) × (to ≤ size)
-Placed index size (Jlt x y to) = (index < to) × (to ≤ size)
-
-abbrev DecodedPlaced : (index size : ℕ) → Decoded → Type 0
-DecodedPlaced index size (Valid i) = Placed index size i
-DecodedPlaced index size Invalid = Unit {0}
-
-and-both : (a b : Bool) → (a && b) ≡ true → (a ≡ true) × (b ≡ true)
-and-both true b e = (refl, e)
-and-both false b e = absurd (false≢true e)
-
-if-both : {A : Type 0} (P : A → Type 0) (b : Bool) {x y : A} → P x → P y → P (if b then x else y)
-if-both P true p q = p
-if-both P false p q = q
-
-module _ (index size : ℕ) where
-  allowed-placed : (b : Bool) (i : Instr) → (b ≡ true → Placed index size i) → DecodedPlaced index size (allowed b i)
-  allowed-placed true i h = h refl
-  allowed-placed false i h = tt
-
-  cell-placed : (op x y z w : ℕ) → DecodedPlaced index size (decodeCell op x y z w)
-  unfolding decodeCell
-  cell-placed op x y z w =
-      allowed-placed
-      (isRegister x && isSource y && isSource z && not (eqb (w % 65536) 0) && (eqb y 6 || eqb z 6 || eqb (w / 65536) 0))
-      (if eqb op 10 then Get x (w % 65536) (sourceOf y w) (sourceOf z w) else Put x (w % 65536) (sourceOf y w) (sourceOf z w))
-      (λ e.
-      let named : Bool = isRegister x && isSource y && isSource z in
-      let front = and-both (named && not (eqb (w % 65536) 0)) (eqb y 6 || eqb z 6 || eqb (w / 65536) 0) e in
-      let own : not (eqb (w % 65536) 0) ≡ true = and-both named (not (eqb (w % 65536) 0)) (front .0) .1 in
-      let other : (w % 65536 ≡ 0) → ⊥ = eqb-false (w % 65536) 0 (not-true (eqb (w % 65536) 0) own) in
-      let field : 0 < w % 65536 = omega arith in
-      if-both (Placed index size) (eqb op 10) field field)
-
-  jump-placed : (op x y z w : ℕ) → DecodedPlaced index size (decodeJump index size op x y z w)
-  unfolding decodeJump
-  jump-placed op x y z w =
-      allowed-placed (isRegister x && isRegister y && eqb z 0 && ltb index w && leb w size) (if eqb op 14 then Jeq x y w else Jlt x y w)
-      (λ e.
-      let last = and-both (isRegister x && isRegister y && eqb z 0 && ltb index w) (leb w size) e in
-      let forward : index < w = ltb-true index w (and-both (isRegister x && isRegister y && eqb z 0) (ltb index w) (last .0) .1) in
-      let inside : w ≤ size = leb-true w size (last .1) in
-      if-both (Placed index size) (eqb op 14) (forward, inside) (forward, inside))
-
-  parts-placed : (op x y z w : ℕ) → DecodedPlaced index size (decodeParts index size op x y z w)
-  unfolding decodeParts decodeEnd decodeSet decodeArg decodeFact decodeArith decodePay
-  parts-placed op x y z w =
-      if-both (DecodedPlaced index size) (ltb op 2)
-      (allowed-placed (eqb x 0 && eqb y 0 && eqb z 0 && eqb w 0) (if eqb op 0 then Stop else Throw) (λ e. if-both (Placed index size) (eqb op 0) tt tt))
-      (if-both (DecodedPlaced index size) (eqb op 2) (allowed-placed (isRegister x && eqb y 0 && eqb z 0) (Set x (signed 32 w)) (λ e. tt))
-      (if-both (DecodedPlaced index size) (eqb op 3)
-      (allowed-placed (isRegister x && isArgument y && eqb z 0 && eqb w 0) (Arg x y) (λ e. tt))
-      (if-both (DecodedPlaced index size) (ltb op 6)
-      (allowed-placed (isRegister x && eqb y 0 && eqb z 0 && eqb w 0) (if eqb op 4 then Sender x else Value x) (λ e. if-both (Placed index size) (eqb op 4) tt tt))
-      (if-both (DecodedPlaced index size) (ltb op 10)
-      (allowed-placed (isRegister x && isRegister y && isRegister z && eqb w 0)
-      (if eqb op 6 then Add x y z else if eqb op 7 then Sub x y z else if eqb op 8 then Mul x y z else Div x y z)
-      (λ e. if-both (Placed index size) (eqb op 6) tt (if-both (Placed index size) (eqb op 7) tt (if-both (Placed index size) (eqb op 8) tt tt))))
-      (if-both (DecodedPlaced index size) (ltb op 12) (cell-placed op x y z w)
-      (if-both (DecodedPlaced index size) (eqb op 12) (allowed-placed (isRegister x && eqb y 0 && eqb z 0 && eqb w 0) (Bal x) (λ e. tt))
-      (if-both (DecodedPlaced index size) (eqb op 13)
-      (allowed-placed (isRegister x && isSource y && eqb z 0 && eqb (w % 65536) 0 && (eqb y 6 || eqb (w / 65536) 0)) (Pay x (sourceOf y w)) (λ e. tt))
-      (if-both (DecodedPlaced index size) (ltb op 16) (jump-placed op x y z w) tt))))))))
-
-  pub decode-placed : (s : List ℕ) (i : Instr) → decode index size s ≡ Valid i → Placed index size i
-  decode-placed s i e =
-      subst (DecodedPlaced index size) e
-      (parts-placed (number 1 s) (number 1 (drop 1 s)) (number 1 (drop 2 s)) (number 1 (drop 3 s)) (number 4 (drop 4 s)))

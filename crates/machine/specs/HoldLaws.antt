@@ -1,7 +1,7 @@
 -- Cells that hold a state of the rule: after a store, after an amount has moved, and after a restoration. Assumes nothing.
 use mathlib.Core.Path.{_≡_, refl, sym, ap, _∙_}
 use mathlib.Core.Bool.{Bool, true, false, false≢true}
-use mathlib.Core.List.{List}
+use mathlib.Core.List.{List, map}
 use Prim.Native.Nat.{ℕ, _≤_, _<_}
 use native.Mathlib.Decide.{ℕ-discrete}
 use native.Mathlib.Omega.{arith}
@@ -15,13 +15,17 @@ use Rattle.footprint.specs.Access.{Access}
 use Rattle.footprint.specs.Sets.{writeSet}
 use Rattle.footprint.specs.Conflict.{member}
 use Rattle.footprint.specs.Table.{cellNumber}
+use Rattle.footprint.specs.Plan.{entryWord}
 use Rattle.footprint.specs.Rule.{State, update, credit, debit, stateWithinLimit}
 use Rattle.footprint.specs.LimitLaws.{update-same, update-other, balanceKey, balance-keys, limit-other, limit-move}
+use Rattle.analysis.specs.Masks.{uses}
+use Rattle.analysis.specs.MaskLaws.{uses-writes}
 use Rattle.analysis.specs.TableLaws.{cell-lt, cell-injective}
-use Rattle.machine.specs.Step.{cellAt}
+use Rattle.machine.specs.Run.{entryWrites}
+use Rattle.machine.specs.Step.{cellAt, savedOf}
 use Rattle.machine.specs.Made.{Hold}
-use Rattle.machine.specs.LookupLaws.{written-key, InTable}
-use Rattle.machine.specs.RestoreLaws.{back, back-length, back-other, back-written}
+use Rattle.machine.specs.LookupLaws.{InTable, in-each}
+use Rattle.machine.specs.RestoreLaws.{back, restored-length, restored-other, restored-back}
 
 -- Where a call stands in the rule: its cells hold the rule's state, which keeps the balance limit and is like the state at the begin
 -- outside the call's write set.
@@ -104,13 +108,19 @@ module _ (table : List ℕ) (few : length table ≤ maxKeys) where
       → Hold table start (back table old es cells)
   hold-back es start σ old cells known first now =
       record {
-        room = rw (back-length table old es cells) (now .hold .room);
+        room = rw (restored-length words (savedOf words old) cells) (now .hold .room);
         same = λ k m. go k m (member k (writeSet es)) refl;
       }
     where
+      words : List ℕ
+      words = map (entryWord table) es
+
+      writes : (k : ℕ) → member k table ≡ true → uses entryWrites (cellNumber table k) words ≡ member k (writeSet es)
+      writes k m = uses-writes table k m es (in-each table es known)
+
       go : (k : ℕ) → member k table ≡ true → (b : Bool) → member k (writeSet es) ≡ b → cellAt (back table old es cells) (cellNumber table k) ≡ start k
-      go k m true e = back-written table old few k es cells known (now .hold .room) e ∙ first .same k m
+      go k m true e =
+          let inside : cellNumber table k < length cells = omega (arith, few, cell-lt table k m, now .hold .room) in
+          restored-back words old cells (cellNumber table k) inside (writes k m ∙ e) ∙ first .same k m
       go k m false e =
-          back-other table old (cellNumber table k) es cells
-          (λ j w s. false≢true (sym e ∙ ap (λ (i : ℕ). member i (writeSet es)) (cell-injective table k j m (known j (written-key j es w)) s) ∙ w))
-          ∙ now .hold .same k m ∙ now .outside k e
+          restored-other words (savedOf words old) cells (cellNumber table k) (writes k m ∙ e) ∙ now .hold .same k m ∙ now .outside k e

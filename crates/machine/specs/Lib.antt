@@ -7,7 +7,6 @@ pub mod Moves
 pub mod Serial
 pub mod Made
 pub mod Damage
-pub mod CallRanges
 pub mod CodeLaws
 pub mod LookupLaws
 pub mod RestoreLaws

@@ -12,6 +12,7 @@ use lib.Dec.{eqb}
 use lib.ListN.{length, getD, drop}
 use lib.Seq.{drop-drop}
 use Rattle.arith.specs.Choice.{if_then_else_}
+use Rattle.arith.specs.ChoiceLaws.{neither}
 use Rattle.wire.specs.Bytes.{repeated, padded}
 use Rattle.wire.specs.Rows.{bit}
 use Rattle.block.specs.Limits.{maxCallKeys, maxKeys}
@@ -29,7 +30,7 @@ use Rattle.footprint.specs.SetLaws.{keysOf, Each, Distinct, keys-union, reads-u
 use Rattle.footprint.specs.Table.{cellNumber}
 use Rattle.footprint.specs.Plan.{entryWord, highWord, lowWord, keyWords}
 use Rattle.analysis.specs.TableLaws.{cell-lt, cell-key}
-use Rattle.analysis.specs.MaskLaws.{entry-cell, entry-writes}
+use Rattle.analysis.specs.MaskLaws.{InKeys, entry-cell, entry-writes}
 use Rattle.machine.specs.CodeLaws.{stretch-decode}
 use Rattle.machine.specs.Run.{entryReads, entryWrites, hasKey}
 use Rattle.machine.specs.Step.{View, findEntry, lookup}
@@ -224,9 +225,9 @@ pub in-rest : (table : List ℕ) (e : Access) (es : List Access) → InTable tab
 unfolding member
 in-rest table e es known k m = known k (or-right (eqb k (e .key)) (member k (keysOf es)) m)
 
-neither : (a b : Bool) → (a || b) ≡ false → (a ≡ false) × (b ≡ false)
-neither true b h = absurd (false≢true (sym h))
-neither false b h = (refl, h)
+pub in-each : (table : List ℕ) (es : List Access) → InTable table es → Each (InKeys table) es
+in-each table [] known = tt
+in-each table (e ∷ es) known = (in-first table e es known, in-each table es (in-rest table e es known))
 
 first-flag : (f q m : Bool) → m ≡ false → ((f && q) || m) ≡ true → f ≡ true
 first-flag true q m h e = refl
@@ -254,15 +255,6 @@ module _ (f : Access → Bool) (chosen : List Access → List ℕ) (nothing : ch
 
   flag-later : (k : ℕ) (e : Access) (es : List Access) → eqb k (e .key) ≡ false → member k (chosen (e ∷ es)) ≡ true → member k (chosen es) ≡ true
   flag-later k e es other m = first-skipped (f e) (eqb k (e .key)) (member k (chosen es)) other (sym (pick-first k e es) ∙ m)
-
--- A key of the write set is a key of the sets.
-pub written-key : (k : ℕ) (es : List Access) → member k (writeSet es) ≡ true → member k (keysOf es) ≡ true
-unfolding writeSet
-written-key k es m = go (member k (keysOf es)) refl
-  where
-    go : (b : Bool) → member k (keysOf es) ≡ b → b ≡ true
-    go true e = refl
-    go false e = absurd (false≢true (sym (not-chosen (λ x. x .writes) writeSet refl (λ x xs. refl) k es e) ∙ m))
 
 wanted : (r has : Bool) → (r ≡ true → has ≡ true) → (not r || has) ≡ true
 wanted true has h = h refl

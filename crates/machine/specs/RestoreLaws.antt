@@ -1,6 +1,6 @@
--- Restoring a call's old values: the cells of its write set are as at its begin, every other cell is as it was; and the entries of a
--- made call can be restored. Assumes nothing.
-use mathlib.Core.Path.{_≡_, refl, sym, ap, _∙_}
+-- Restoring a call's old values: the cells that its entries write are as at its begin, every other cell is as it was; and the entries of
+-- a made call can be restored. Assumes nothing.
+use mathlib.Core.Path.{_≡_, refl, sym, ap₂, _∙_}
 use mathlib.Core.Bool.{Bool, true, false, _&&_, _||_, not, false≢true, or-true}
 use mathlib.Core.List.{List, [], _∷_, map}
 use Prim.Native.Nat.{ℕ, _+_, _*_, _%_, _≤_, _<_}
@@ -12,118 +12,96 @@ use lib.Dec.{eqb}
 use lib.ListN.{length, set, length-set}
 use lib.Seq.{getD-set-same, getD-set-other}
 use Rattle.arith.specs.Choice.{if_then_else_}
+use Rattle.arith.specs.ChoiceLaws.{by-test, if-all, both, neither}
 use Rattle.wire.specs.Rows.{bit}
 use Rattle.block.specs.Limits.{maxCallKeys, maxKeys}
 use Rattle.footprint.specs.Access.{Access}
-use Rattle.footprint.specs.Sets.{writeSet}
-use Rattle.footprint.specs.Conflict.{member}
-use Rattle.footprint.specs.ConflictLaws.{member-pick}
 use Rattle.footprint.specs.SetLaws.{Each}
 use Rattle.footprint.specs.AccessLaws.{Used}
 use Rattle.footprint.specs.Table.{cellNumber}
 use Rattle.footprint.specs.Plan.{entryWord}
+use Rattle.analysis.specs.Masks.{anyOf, uses}
 use Rattle.analysis.specs.TableLaws.{cell-lt}
-use Rattle.analysis.specs.MaskLaws.{entry-cell, entry-writes}
-use Rattle.machine.specs.Run.{entryWrites}
-use Rattle.machine.specs.LookupLaws.{or-right, InTable, in-first, in-rest}
+use Rattle.analysis.specs.MaskLaws.{entry-cell}
+use Rattle.machine.specs.Run.{entryCell, entryWrites}
+use Rattle.machine.specs.LookupLaws.{InTable, in-first, in-rest}
 use Rattle.machine.specs.Step.{cellAt, entriesAllowed, restorable, savedOf, restored}
 
 -- ---- the cells after a restoration
 
-module _ (table : List ℕ) (old : List ℤ) where
-  -- The cells after the entries of these accesses are restored from what was kept of `old`.
-  abbrev pub back : List Access → List ℤ → List ℤ
-  back es cells = restored (map (entryWord table) es) (savedOf (map (entryWord table) es) old) cells
+-- The cells with one entry's old value restored.
+abbrev pub onward : ℕ → ℤ → List ℤ → List ℤ
+onward e old cells = if entryWrites e then set cells (entryCell e) old else cells
 
-  -- One entry is restored before the others.
-  first-back : (e : Access) (cells : List ℤ) → List ℤ
-  first-back e cells = if e .writes then set cells (cellNumber table (e .key)) (cellAt old (cellNumber table (e .key))) else cells
+pub onward-length : (e : ℕ) (old : ℤ) (cells : List ℤ) → length (onward e old cells) ≡ length cells
+onward-length e old cells =
+    if-all (λ (l : List ℤ). length l ≡ length cells) (entryWrites e) (λ w. length-set cells (entryCell e) old) (λ w. refl)
 
-  back-first : (e : Access) (es : List Access) (cells : List ℤ) → back (e ∷ es) cells ≡ back es (first-back e cells)
-  unfolding restored savedOf first-back
-  back-first e es cells = rw (entry-writes table e, entry-cell table e) (go (e .writes))
-    where
-      go : (b : Bool)
-          → back es (if b then set cells (cellNumber table (e .key)) (if b then cellAt old (cellNumber table (e .key)) else pos 0) else cells)
-          ≡ back es (if b then set cells (cellNumber table (e .key)) (cellAt old (cellNumber table (e .key))) else cells)
-      go true = refl
-      go false = refl
+pub restored-length : (es : List ℕ) (olds cells : List ℤ) → length (restored es olds cells) ≡ length cells
+unfolding restored
+restored-length [] olds cells = refl
+restored-length (e ∷ es) [] cells = refl
+restored-length (e ∷ es) (old ∷ olds) cells = restored-length es olds (onward e old cells) ∙ onward-length e old cells
 
-  first-length : (e : Access) (cells : List ℤ) → length (first-back e cells) ≡ length cells
-  unfolding first-back
-  first-length e cells = go (e .writes)
-    where
-      go : (b : Bool) → length (if b then set cells (cellNumber table (e .key)) (cellAt old (cellNumber table (e .key))) else cells) ≡ length cells
-      go true = length-set cells (cellNumber table (e .key)) (cellAt old (cellNumber table (e .key)))
-      go false = refl
+-- A cell that no entry writes stays.
+pub restored-other : (es : List ℕ) (olds cells : List ℤ) (x : ℕ) → uses entryWrites x es ≡ false
+    → cellAt (restored es olds cells) x ≡ cellAt cells x
+unfolding restored anyOf
+restored-other [] olds cells x h = refl
+restored-other (e ∷ es) [] cells x h = refl
+restored-other (e ∷ es) (old ∷ olds) cells x h =
+    let apart = neither (entryWrites e && eqb (entryCell e) x) (uses entryWrites x es) h in
+    restored-other es olds (onward e old cells) x (apart .1)
+    ∙ if-all (λ (l : List ℤ). cellAt l x ≡ cellAt cells x) (entryWrites e)
+    (λ w. getD-set-other cells (entryCell e) x old (pos 0) (λ q. false≢true (sym (apart .0) ∙ ap₂ _&&_ w (eq-eqb (entryCell e) x (sym q)))))
+    (λ w. refl)
 
-  pub back-length : (es : List Access) (cells : List ℤ) → length (back es cells) ≡ length cells
-  unfolding restored
-  back-length [] cells = refl
-  back-length (e ∷ es) cells = ap length (back-first e es cells) ∙ back-length es (first-back e cells) ∙ first-length e cells
+-- One cell set to its value in another list, if others agree already.
+set-back : (s s₁ : List ℤ) (n x : ℕ) → x < length s → (¬ (x ≡ n) → cellAt s x ≡ cellAt s₁ x) → cellAt (set s n (cellAt s₁ n)) x ≡ cellAt s₁ x
+set-back s s₁ n x l h = go (ℕ-discrete x n)
+  where
+    go : Dec (x ≡ n) → cellAt (set s n (cellAt s₁ n)) x ≡ cellAt s₁ x
+    go (yes q) = rw q (getD-set-same s n (cellAt s₁ n) (pos 0) (omega (arith, l)))
+    go (no d) = getD-set-other s n x (cellAt s₁ n) (pos 0) d ∙ h d
 
-  -- At a number of no key of the write set the cell is as it was.
-  pub back-other : (n : ℕ) (es : List Access) (cells : List ℤ) → ((k : ℕ) → member k (writeSet es) ≡ true → n ≡ cellNumber table k → ⊥)
-      → cellAt (back es cells) n ≡ cellAt cells n
-  unfolding restored first-back writeSet member
-  back-other n [] cells apart = refl
-  back-other n (e ∷ es) cells apart =
-      ap (λ (l : List ℤ). cellAt l n) (back-first e es cells)
-      ∙ back-other n es (first-back e cells)
-      (λ k m. apart k (member-pick k (e .key) (writeSet es) (e .writes) ∙ or-right (e .writes && eqb k (e .key)) (member k (writeSet es)) m))
-      ∙ go (e .writes) refl
-    where
-      go : (b : Bool) → e .writes ≡ b
-          → cellAt (if b then set cells (cellNumber table (e .key)) (cellAt old (cellNumber table (e .key))) else cells) n ≡ cellAt cells n
-      go true w =
-          getD-set-other cells (cellNumber table (e .key)) n (cellAt old (cellNumber table (e .key))) (pos 0)
-          (apart (e .key) (member-pick (e .key) (e .key) (writeSet es) (e .writes) ∙ rw (w, eq-eqb (e .key) (e .key) refl)))
-      go false w = refl
+-- The old value that an entry keeps.
+abbrev kept : ℕ → List ℤ → ℤ
+kept e s₁ = if entryWrites e then cellAt s₁ (entryCell e) else pos 0
 
-  module _ (few : length table ≤ maxKeys) where
-    -- A cell that has its old value keeps it.
-    first-keeps : (n : ℕ) (e : Access) (cells : List ℤ) → member (e .key) table ≡ true → maxKeys ≤ length cells → cellAt cells n ≡ cellAt old n
-        → cellAt (first-back e cells) n ≡ cellAt old n
-    unfolding first-back
-    first-keeps n e cells m room h = go (e .writes) (ℕ-discrete n (cellNumber table (e .key)))
-      where
-        go : (b : Bool) → Dec (n ≡ cellNumber table (e .key))
-            → cellAt (if b then set cells (cellNumber table (e .key)) (cellAt old (cellNumber table (e .key))) else cells) n ≡ cellAt old n
-        go true (yes same) =
-            let small : cellNumber table (e .key) < length table = cell-lt table (e .key) m in
-            rw same (getD-set-same cells (cellNumber table (e .key)) (cellAt old (cellNumber table (e .key))) (pos 0) (omega arith))
-        go true (no other) = getD-set-other cells (cellNumber table (e .key)) n (cellAt old (cellNumber table (e .key))) (pos 0) other ∙ h
-        go false d = h
+-- A cell that is as it was when the old values were kept stays so.
+restored-same : (es : List ℕ) (s₁ s : List ℤ) (x : ℕ) → x < length s → cellAt s x ≡ cellAt s₁ x
+    → cellAt (restored es (savedOf es s₁) s) x ≡ cellAt s₁ x
+unfolding restored savedOf
+restored-same [] s₁ s x l h = h
+restored-same (e ∷ es) s₁ s x l h =
+    restored-same es s₁ (onward e (kept e s₁) s) x (rw (onward-length e (kept e s₁) s) l)
+    (by-test (λ t. cellAt (if t then set s (entryCell e) (if t then cellAt s₁ (entryCell e) else pos 0) else s) x ≡ cellAt s₁ x) (entryWrites e)
+    (λ w. set-back s s₁ (entryCell e) x l (λ d. h)) (λ w. h))
 
-    back-keeps : (n : ℕ) (es : List Access) (cells : List ℤ) → InTable table es → maxKeys ≤ length cells → cellAt cells n ≡ cellAt old n
-        → cellAt (back es cells) n ≡ cellAt old n
-    unfolding restored
-    back-keeps n [] cells known room h = h
-    back-keeps n (e ∷ es) cells known room h =
-        ap (λ (l : List ℤ). cellAt l n) (back-first e es cells)
-        ∙ back-keeps n es (first-back e cells) (in-rest table e es known) (rw (first-length e cells) room)
-        (first-keeps n e cells (in-first table e es known) room h)
+-- A cell that an entry writes is as it was when the old values were kept, also one that stands in two entries.
+pub restored-back : (es : List ℕ) (s₁ s : List ℤ) (x : ℕ) → x < length s → uses entryWrites x es ≡ true
+    → cellAt (restored es (savedOf es s₁) s) x ≡ cellAt s₁ x
+unfolding restored savedOf anyOf
+restored-back [] s₁ s x l m = absurd (false≢true m)
+restored-back (e ∷ es) s₁ s x l m =
+    go (entryWrites e && eqb (entryCell e) x) refl m (rw (onward-length e (kept e s₁) s) l)
+    (restored-back es s₁ (onward e (kept e s₁) s) x (rw (onward-length e (kept e s₁) s) l))
+  where
+    here : entryWrites e ≡ true → entryCell e ≡ x → cellAt (onward e (kept e s₁) s) x ≡ cellAt s₁ x
+    here w q = rw w (set-back s s₁ (entryCell e) x l (λ d. absurd (d (sym q))))
 
-    -- At the number of a key of the write set it has its old value.
-    pub back-written : (k : ℕ) (es : List Access) (cells : List ℤ) → InTable table es → maxKeys ≤ length cells → member k (writeSet es) ≡ true
-        → cellAt (back es cells) (cellNumber table k) ≡ cellAt old (cellNumber table k)
-    unfolding restored first-back writeSet member
-    back-written k [] cells known room m = absurd (false≢true m)
-    back-written k (e ∷ es) cells known room m =
-        ap (λ (l : List ℤ). cellAt l (cellNumber table k)) (back-first e es cells)
-        ∙ go (e .writes) refl (eqb k (e .key)) refl (sym (member-pick k (e .key) (writeSet es) (e .writes)) ∙ m)
-        (back-written k es (first-back e cells) (in-rest table e es known) (rw (first-length e cells) room))
-      where
-        go : (b : Bool) → e .writes ≡ b → (q : Bool) → eqb k (e .key) ≡ q → ((e .writes && eqb k (e .key)) || member k (writeSet es)) ≡ true
-            → (member k (writeSet es) ≡ true → cellAt (back es (first-back e cells)) (cellNumber table k) ≡ cellAt old (cellNumber table k))
-            → cellAt (back es (first-back e cells)) (cellNumber table k) ≡ cellAt old (cellNumber table k)
-        go true w true q h ih =
-            let small : cellNumber table (e .key) < length table = cell-lt table (e .key) (in-first table e es known) in
-            let is : k ≡ e .key = eqb-true k (e .key) q in
-            back-keeps (cellNumber table k) es (first-back e cells) (in-rest table e es known) (rw (first-length e cells) room)
-            (rw (w, is) (getD-set-same cells (cellNumber table (e .key)) (cellAt old (cellNumber table (e .key))) (pos 0) (omega arith)))
-        go true w false q h ih = ih (rw (w, q) at h)
-        go false w q e′ h ih = ih (rw w at h)
+    go : (b : Bool) → (entryWrites e && eqb (entryCell e) x) ≡ b → (b || uses entryWrites x es) ≡ true
+        → x < length (onward e (kept e s₁) s)
+        → (uses entryWrites x es ≡ true → cellAt (restored es (savedOf es s₁) (onward e (kept e s₁) s)) x ≡ cellAt s₁ x)
+        → cellAt (restored es (savedOf es s₁) (onward e (kept e s₁) s)) x ≡ cellAt s₁ x
+    go true f m inside rest =
+        let h = both (entryWrites e) (eqb (entryCell e) x) f in
+        restored-same es s₁ (onward e (kept e s₁) s) x inside (here (h .0) (eqb-true (entryCell e) x (h .1)))
+    go false f m inside rest = rest m
+
+-- The cells after the entries of these accesses are restored from what was kept of `old`.
+abbrev pub back : (table : List ℕ) (old : List ℤ) → List Access → List ℤ → List ℤ
+back table old es cells = restored (map (entryWord table) es) (savedOf (map (entryWord table) es) old) cells
 
 -- ---- made entries can be restored
 
@@ -133,18 +111,18 @@ flag-used n true false h = let e : (n * 4 + 1 + 2 * 0) % 4 ≡ 0 → ⊥ = omega
 flag-used n false true h = let e : (n * 4 + 0 + 2 * 1) % 4 ≡ 0 → ⊥ = omega arith in ne-eqb ((n * 4 + 0 + 2 * 1) % 4) 0 e
 flag-used n false false h = absurd (false≢true h)
 
-module _ (table : List ℕ) (few : length table ≤ maxKeys) where
-  entry-used : (e : Access) → Used e → eqb (entryWord table e % 4) 0 ≡ false
-  unfolding entryWord
-  entry-used e u = flag-used (cellNumber table (e .key)) (e .reads) (e .writes) (u .used)
+pub entry-used : (table : List ℕ) (e : Access) → Used e → eqb (entryWord table e % 4) 0 ≡ false
+unfolding entryWord
+entry-used table e u = flag-used (cellNumber table (e .key)) (e .reads) (e .writes) (u .used)
 
+module _ (table : List ℕ) (few : length table ≤ maxKeys) where
   pub entries-allowed : (es : List Access) → Each Used es → InTable table es → entriesAllowed (map (entryWord table) es) ≡ true
   unfolding entriesAllowed
   entries-allowed [] used known = refl
   entries-allowed (e ∷ es) used known =
       let small : cellNumber table (e .key) < length table = cell-lt table (e .key) (in-first table e es known) in
       rw (
-        entry-used e (used .0),
+        entry-used table e (used .0),
         entry-cell table e,
         lt-ltb (cellNumber table (e .key)) maxKeys (omega arith),
         or-true (not (entryWrites (entryWord table e))),

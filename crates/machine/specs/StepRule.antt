@@ -18,6 +18,7 @@ use Rattle.arith.specs.declared.Checked.{Checked}
 use Rattle.arith.specs.declared.Checked.the-variants as checked
 use Rattle.block.specs.Limits.{maxKeys}
 use Rattle.block.specs.Key.{firstContract, isBalance, payeeOf}
+use Rattle.block.specs.DecodeLaws.{CellFits, Lawful}
 use Rattle.block.specs.Record.{argument}
 use Rattle.block.specs.declared.Call.{Call}
 use Rattle.block.specs.declared.Payee.{Payee}
@@ -26,7 +27,7 @@ use Rattle.block.specs.declared.Source.{Source}
 use Rattle.block.specs.declared.Instr.{Instr}
 use Rattle.block.specs.declared.Instr.the-variants.{Stop, Throw, Set, Arg, Sender, Value, Add, Sub, Mul, Div, Get, Put, Bal, Pay, Jeq, Jlt}
 use Rattle.footprint.specs.Access.{Access, reading, writing, changing, sourceValue, cellKey, payAccesses, accesses}
-use Rattle.footprint.specs.AccessLaws.{SourceFits, InstrFits, source-below}
+use Rattle.footprint.specs.AccessLaws.{source-below}
 use Rattle.footprint.specs.Sets.{writeSet}
 use Rattle.footprint.specs.SetLaws.{Each}
 use Rattle.footprint.specs.Table.{cellNumber}
@@ -34,12 +35,11 @@ use Rattle.footprint.specs.Plan.{entryWord}
 use Rattle.footprint.specs.Rule as rule
 use Rattle.footprint.specs.Rule.{State, update, credit, debit, ends, fails, Course, before, over, transfer, execute, Left, settle}
 use Rattle.footprint.specs.LimitLaws.{balanceKey, cell-is-not, limit-balance, limit-sum}
+use Rattle.footprint.specs.RuleLimit.{CallFits}
 use Rattle.machine.specs.Action as action
 use Rattle.machine.specs.Action.{thrown, payAction, instrAction}
 use Rattle.machine.specs.Step.{View, Local, Stepped, damaged, more, done, cellAt, lookup, restorable, savedOf, restored, finish, goOn, loadCell, storeCell, depositCell, transferCells, perform, performAction}
 use Rattle.machine.specs.Made.{Hold}
-use Rattle.machine.specs.CallRanges.{CallRanges}
-use Rattle.machine.specs.CodeLaws.{Placed}
 use Rattle.machine.specs.LookupLaws.{Covered, InTable}
 use Rattle.machine.specs.RestoreLaws.{back}
 use Rattle.machine.specs.HoldLaws.{Now, movedCells, now-store, now-move, hold-back}
@@ -199,7 +199,7 @@ module _ (v : View) (table : List ℕ) (es : List Access) (made : MadeOf v table
 
     -- ---- the instructions of a call
 
-    module _ (c : Call) (ranges : CallRanges c) where
+    module _ (c : Call) (in-range : CallFits c) where
       abbrev Pays : ℤ → Payee → Type 0
       Pays amount payee = Matches p (transfer c p ρ n σ amount payee) (performAction v here n (payAccesses c payee) (payAction ρ amount payee) cells)
 
@@ -215,10 +215,10 @@ module _ (v : View) (table : List ℕ) (es : List Access) (made : MadeOf v table
           a = c .contract .0
 
           small : c .contract .0 < 65536
-          small = ranges .parts .contract
+          small = in-range .ranges .contract
 
           apart : target ≡ c .contract .0 → ⊥
-          apart e = let high : firstContract ≤ c .contract .0 = ranges .contract in omega arith
+          apart e = let high : firstContract ≤ c .contract .0 = in-range .contract in omega arith
 
           go : (t : Bool) → nonNeg amount ≡ t → (u : Bool) → ltZ (σ (balanceKey a)) amount ≡ u → Pays amount (account target)
           go false s u less = rw s (end-match 5 refl)
@@ -241,10 +241,10 @@ module _ (v : View) (table : List ℕ) (es : List Access) (made : MadeOf v table
           go false e covered = end-match 5 refl
 
       -- The cell of GET and PUT is no balance.
-      cell-other : (field : ℕ) (a b : Source) → 0 < field → (field < 2 ^ 16) × (SourceFits a × SourceFits b) → isBalance (cellKey c field a b) ≡ false
-      cell-other field a b own fits =
-          cell-is-not (c .contract .0) field (sourceValue c a) (sourceValue c b) (fits .0) (source-below c a (ranges .parts) (fits .1 .0))
-          (source-below c b (ranges .parts) (fits .1 .1)) (λ e. omega arith)
+      cell-other : (field : ℕ) (a b : Source) → CellFits (2 ^ 16) field a b → isBalance (cellKey c field a b) ≡ false
+      cell-other field a b fits =
+          cell-is-not (c .contract .0) field (sourceValue c a) (sourceValue c b) (fits .below) (source-below c a (in-range .ranges) (fits .first))
+          (source-below c b (in-range .ranges) (fits .second)) (λ e. omega (arith, fits .above))
 
       -- A jump, or the next instruction.
       jump-match : (t : Bool) (to : ℕ) → (p < to) × (to ≤ size)
@@ -253,28 +253,28 @@ module _ (v : View) (table : List ℕ) (es : List Access) (made : MadeOf v table
       jump-match false to placed = next-match ρ σ cells now
 
       -- An instruction: its own step and its own turn.
-      pub instr-match : (i : Instr) → Placed p size i → InstrFits i → Each (Covered es) (accesses c i)
+      pub instr-match : (i : Instr) → Lawful (2 ^ 16) p size i → Each (Covered es) (accesses c i)
           → Matches p (execute c p ρ n σ i) (performAction v here n (accesses c i) (instrAction c (p + 1) ρ i) cells)
       unfolding execute accesses instrAction perform
-      instr-match Stop placed fits covered = stop-match
-      instr-match Throw placed fits covered = end-match 3 refl
-      instr-match (Set x value) placed fits covered = next-match (set ρ x value) σ cells now
-      instr-match (Arg x k) placed fits covered = next-match (set ρ x (pos (argument c k))) σ cells now
-      instr-match (Sender x) placed fits covered = next-match (set ρ x (pos (c .sender .0))) σ cells now
-      instr-match (Value x) placed fits covered = next-match (set ρ x (c .value)) σ cells now
-      instr-match (Add x y z) placed fits covered = checked-match [] x (addOf (getD ρ y (pos 0)) (getD ρ z (pos 0)))
-      instr-match (Sub x y z) placed fits covered = checked-match [] x (subOf (getD ρ y (pos 0)) (getD ρ z (pos 0)))
-      instr-match (Mul x y z) placed fits covered = checked-match [] x (mulOf (getD ρ y (pos 0)) (getD ρ z (pos 0)))
-      instr-match (Div x y z) placed fits covered = checked-match [] x (divOf (getD ρ y (pos 0)) (getD ρ z (pos 0)))
-      instr-match (Get x field a b) placed fits covered =
-          load-match x (cellKey c field a b) (covered .0) (ap (λ (t : Bool). t && not (nonNeg (σ (cellKey c field a b)))) (cell-other field a b placed fits))
-      instr-match (Put x field a b) placed fits covered =
-          store-match (cellKey c field a b) (getD ρ x (pos 0)) (covered .0) (cell-other field a b placed fits)
-      instr-match (Bal x) placed fits covered =
+      instr-match Stop lawful covered = stop-match
+      instr-match Throw lawful covered = end-match 3 refl
+      instr-match (Set x value) lawful covered = next-match (set ρ x value) σ cells now
+      instr-match (Arg x k) lawful covered = next-match (set ρ x (pos (argument c k))) σ cells now
+      instr-match (Sender x) lawful covered = next-match (set ρ x (pos (c .sender .0))) σ cells now
+      instr-match (Value x) lawful covered = next-match (set ρ x (c .value)) σ cells now
+      instr-match (Add x y z) lawful covered = checked-match [] x (addOf (getD ρ y (pos 0)) (getD ρ z (pos 0)))
+      instr-match (Sub x y z) lawful covered = checked-match [] x (subOf (getD ρ y (pos 0)) (getD ρ z (pos 0)))
+      instr-match (Mul x y z) lawful covered = checked-match [] x (mulOf (getD ρ y (pos 0)) (getD ρ z (pos 0)))
+      instr-match (Div x y z) lawful covered = checked-match [] x (divOf (getD ρ y (pos 0)) (getD ρ z (pos 0)))
+      instr-match (Get x field a b) lawful covered =
+          load-match x (cellKey c field a b) (covered .0) (ap (λ (t : Bool). t && not (nonNeg (σ (cellKey c field a b)))) (cell-other field a b (lawful .0)))
+      instr-match (Put x field a b) lawful covered =
+          store-match (cellKey c field a b) (getD ρ x (pos 0)) (covered .0) (cell-other field a b (lawful .0))
+      instr-match (Bal x) lawful covered =
           load-match x (balanceKey (c .contract .0)) (covered .0)
-          (ap (λ (t : Bool). isBalance (balanceKey (c .contract .0)) && not t) (limit-balance σ (now .limit) (c .contract .0) (ranges .parts .contract) .0)
+          (ap (λ (t : Bool). isBalance (balanceKey (c .contract .0)) && not t) (limit-balance σ (now .limit) (c .contract .0) (in-range .ranges .contract) .0)
           ∙ and-false (isBalance (balanceKey (c .contract .0))))
-      instr-match (Pay x target) placed fits covered = pay-match (getD ρ x (pos 0)) (sourceValue c target) covered
-      instr-match (Jeq x y to) placed fits covered =
-          rw (jeq-same (getD ρ x (pos 0)) (getD ρ y (pos 0)) (p + 1) to) (jump-match (eqZ (getD ρ x (pos 0)) (getD ρ y (pos 0))) to placed)
-      instr-match (Jlt x y to) placed fits covered = jump-match (ltZ (getD ρ x (pos 0)) (getD ρ y (pos 0))) to placed
+      instr-match (Pay x target) lawful covered = pay-match (getD ρ x (pos 0)) (sourceValue c target) covered
+      instr-match (Jeq x y to) lawful covered =
+          rw (jeq-same (getD ρ x (pos 0)) (getD ρ y (pos 0)) (p + 1) to) (jump-match (eqZ (getD ρ x (pos 0)) (getD ρ y (pos 0))) to (lawful .1))
+      instr-match (Jlt x y to) lawful covered = jump-match (ltZ (getD ρ x (pos 0)) (getD ρ y (pos 0))) to (lawful .1)

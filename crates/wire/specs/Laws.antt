@@ -1,4 +1,4 @@
--- Laws of reading and writing: a byte more, two widths joined, ranges, what a write leaves where. Each is said once, for every width. Assumes nothing.
+-- Laws of reading and writing: a byte more, two widths joined, ranges, what a write leaves where, what a buffer holds. Each is said once, for every width. Assumes nothing.
 use mathlib.Core.Path.{_≡_, refl, sym, ap, ap₂, _∙_}
 use mathlib.Core.Logic.{_⊎_, inl, inr}
 use mathlib.Core.List.{List, [], _∷_, _++_}
@@ -10,10 +10,10 @@ use borrow.Author.Tests.{lt-ltb, le-ltb}
 use lib.Dec.{lit<}
 use lib.IntN.{ℤ, pos, negsuc}
 use lib.Signed.{mag}
-use lib.ListN.{length, getD, take, drop, set, length-set, drop-of-length-le, List·getD-append}
+use lib.ListN.{length, getD, take, drop, set, length-set, length-append, length-replicate, drop-of-length-le, List·getD-append}
 use lib.Seq.{drop-nil, drop-cons, drop-append-add, set-out, getD-set-same, getD-set-other, sets, sets-eq}
 use Rattle.arith.specs.Exact.{signed, unsigned}
-use Rattle.wire.specs.Bytes.{number, readLe, bytesOf, stored, writeLe}
+use Rattle.wire.specs.Bytes.{number, readLe, bytesOf, stored, writeLe, repeated, padded}
 
 -- ---- reading
 
@@ -214,6 +214,29 @@ read-elsewhere j k s at n i (inl h) =
     read-same j (writeLe k s at n) s i (λ m lo hi. stored-before (bytesOf k n) s at m 0 (omega arith))
 read-elsewhere j k s at n i (inr h) =
     read-same j (writeLe k s at n) s i (λ m lo hi. stored-behind (bytesOf k n) s at m 0 (rw (bytesOf-length k n) (omega arith)))
+
+-- ---- buffers
+
+module _ {A : Type 0} where
+  pub repeated-at : (n i : ℕ) (a : A) → getD (repeated n a) i a ≡ a
+  unfolding repeated
+  repeated-at zero i a = refl
+  repeated-at (suc n) zero a = refl
+  repeated-at (suc n) (suc i) a = repeated-at n i a
+
+  behind-at : (l : List A) (k i : ℕ) (a : A) → getD (l ++ repeated k a) i a ≡ getD l i a
+  behind-at [] k i a = repeated-at k i a
+  behind-at (x ∷ l) k zero a = refl
+  behind-at (x ∷ l) k (suc i) a = behind-at l k i a
+
+  -- What stands behind a list in its buffer is read as what is read past its end.
+  pub padded-at : (n : ℕ) (a : A) (l : List A) (i : ℕ) → getD (padded n a l) i a ≡ getD l i a
+  padded-at n a l i = behind-at l (n - length l) i a
+
+  -- A buffer with room for a list is as long with it.
+  pub padded-length : (n : ℕ) (a : A) (l : List A) → length l ≤ n → length (padded n a l) ≡ n
+  unfolding repeated
+  padded-length n a l h = simp (length-append, length-replicate) (omega arith)
 
 -- ---- values
 

@@ -1,6 +1,6 @@
 -- Laws of the next set bit of a row: it is the least one at or above the position, or 256. Assumes nothing.
 use mathlib.Core.Bool.{Bool, true, false}
-use mathlib.Core.Path.{_≡_, refl, sym, ap, _∙_}
+use mathlib.Core.Path.{_≡_, sym, ap, _∙_}
 use mathlib.Core.List.{List}
 use Prim.Native.Nat.{ℕ, zero, suc, _+_, _-_, _≤_, _<_}
 use native.Mathlib.Nat.{zero-add, add-zero, add-suc, suc-add}
@@ -8,14 +8,9 @@ use native.Mathlib.Numerals.{add-one}
 use native.Mathlib.Decide.{decLt, ℕ-discrete}
 use native.Mathlib.Omega.{arith}
 use borrow.Author.Tests.{lt-ltb, le-ltb}
-use Rattle.arith.specs.Choice.{if_then_else_}
+use Rattle.arith.specs.ChoiceLaws.{if-all}
 use Rattle.wire.specs.Rows.{inRow}
 use Rattle.wire.specs.RowOps.{firstOf, nextBit}
-
--- What holds of both results of a choice, each under its test.
-if-all : {A : Type 0} (P : A → Type 0) (b : Bool) (x y : A) → (b ≡ true → P x) → (b ≡ false → P y) → P (if b then x else y)
-if-all P true x y f g = f refl
-if-all P false x y f g = g refl
 
 module _ (p : ℕ → Bool) where
   pub first-ge : (n i : ℕ) → i ≤ firstOf p n i
@@ -23,21 +18,21 @@ module _ (p : ℕ → Bool) where
   first-ge zero i = omega arith
   first-ge (suc n) i =
       let ih : i + 1 ≤ firstOf p n (i + 1) = first-ge n (i + 1) in
-      if-all (λ (r : ℕ). i ≤ r) (p i) i (firstOf p n (i + 1)) (λ e. omega arith) (λ e. omega arith)
+      if-all (λ (r : ℕ). i ≤ r) (p i) (λ e. omega arith) (λ e. omega arith)
 
   pub first-le : (n i : ℕ) → firstOf p n i ≤ i + n
   unfolding firstOf
   first-le zero i = omega arith
   first-le (suc n) i =
       let ih : firstOf p n (i + 1) ≤ i + 1 + n = first-le n (i + 1) in
-      if-all (λ (r : ℕ). r ≤ i + suc n) (p i) i (firstOf p n (i + 1)) (λ e. omega arith) (λ e. omega arith)
+      if-all (λ (r : ℕ). r ≤ i + suc n) (p i) (λ e. omega arith) (λ e. omega arith)
 
   -- It passes, unless it is the position behind them all.
   pub first-hit : (n i : ℕ) → firstOf p n i < i + n → p (firstOf p n i) ≡ true
   unfolding firstOf
   first-hit zero i = λ h. absurd (omega arith)
   first-hit (suc n) i =
-      if-all (λ (r : ℕ). r < i + suc n → p r ≡ true) (p i) i (firstOf p n (i + 1))
+      if-all (λ (r : ℕ). r < i + suc n → p r ≡ true) (p i)
       (λ e h. e) (λ e h. first-hit n (i + 1) (omega arith))
 
   -- None before it passes.
@@ -45,7 +40,7 @@ module _ (p : ℕ → Bool) where
   unfolding firstOf
   first-least zero i j lo = λ hi. absurd (omega arith)
   first-least (suc n) i j lo =
-      if-all (λ (r : ℕ). j < r → p j ≡ false) (p i) i (firstOf p n (i + 1))
+      if-all (λ (r : ℕ). j < r → p j ≡ false) (p i)
       (λ e hi. absurd (omega arith)) (λ e hi. go e (λ l. first-least n (i + 1) j l hi) (ℕ-discrete i j))
     where
       go : p i ≡ false → (i + 1 ≤ j → p j ≡ false) → Dec (i ≡ j) → p j ≡ false
