@@ -63,6 +63,8 @@ pub struct Function {
     pub contract: Contract,
     /// Its number in the contract.
     pub number: u16,
+    /// The offset at which its code starts.
+    pub start: usize,
     /// Its instructions.
     pub code: Vec<Instruction>,
 }
@@ -115,13 +117,16 @@ pub struct Block {
 }
 
 impl Block {
-    /// The code that a call runs, or `None` if its function is unknown.
-    pub fn code(&self, call: &Call) -> Option<&[Instruction]> {
+    /// The function that a call names, or `None` if it is unknown.
+    pub fn function(&self, call: &Call) -> Option<&Function> {
         let name = (call.contract, call.function);
         let found = self.functions.binary_search_by_key(&name, Function::name);
-        found
-            .ok()
-            .map(|index| self.functions[index].code.as_slice())
+        found.ok().map(|index| &self.functions[index])
+    }
+
+    /// The code that a call runs, or `None` if its function is unknown.
+    pub fn code(&self, call: &Call) -> Option<&[Instruction]> {
+        self.function(call).map(|function| function.code.as_slice())
     }
 }
 
@@ -207,6 +212,7 @@ impl<'a> Reader<'a> {
         let function = Function {
             contract,
             number: u16_at(record.body, 2),
+            start: code_offset(record),
             code: read_code(record)?,
         };
         let rises = functions
@@ -248,22 +254,27 @@ impl<'a> Reader<'a> {
         if self.block.calls.len() == MAX_CALLS {
             return Err(BlockFault::TooMany.at(record.offset));
         }
-        let call = read_call(record).ok_or(BlockFault::Field.at(record.offset))?;
+        let call =
+            read_call(record.body, record.offset).ok_or(BlockFault::Field.at(record.offset))?;
         self.block.calls.push(call);
         Ok(())
     }
 }
 
+/// Where the code of a function's record starts.
+fn code_offset(record: &Record) -> usize {
+    record.offset + HEAD_BYTES + FUNCTION_NAME_BYTES
+}
+
 /// Decodes a function's instructions; 10 at the first that breaks a rule.
 fn read_code(record: &Record) -> Result<Vec<Instruction>, BlockRefusal> {
     let code = &record.body[FUNCTION_NAME_BYTES..];
-    let code_offset = record.offset + HEAD_BYTES + FUNCTION_NAME_BYTES;
     let length = code.len() / INSTRUCTION_BYTES;
     code.chunks_exact(INSTRUCTION_BYTES)
         .enumerate()
         .map(|(index, bytes)| {
             decode(Parts::read(bytes), index, length)
-                .ok_or(BlockFault::Code.at(code_offset + index * INSTRUCTION_BYTES))
+                .ok_or(BlockFault::Code.at(code_offset(record) + index * INSTRUCTION_BYTES))
         })
         .collect()
 }
@@ -277,9 +288,8 @@ fn opens_with(key: &Key, value: i64) -> bool {
     }
 }
 
-/// The call of a record, or `None` if a field is outside its range.
-fn read_call(record: &Record) -> Option<Call> {
-    let body = record.body;
+/// The call of a record's body, or `None` if a field is outside its range.
+pub(crate) fn read_call(body: &[u8], offset: usize) -> Option<Call> {
     let value = i64_at(body, 6);
     if value < 0 {
         return None;
@@ -290,6 +300,6 @@ fn read_call(record: &Record) -> Option<Call> {
         function: u16_at(body, 4),
         value,
         arguments: std::array::from_fn(|index| u32_at(body, 14 + 4 * index)),
-        offset: record.offset,
+        offset,
     })
 }

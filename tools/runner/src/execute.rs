@@ -31,7 +31,7 @@ impl Outcome {
     }
 
     /// Whether the call's cells are restored.
-    fn aborts(self) -> bool {
+    pub(crate) fn aborts(self) -> bool {
         matches!(
             self,
             Outcome::Thrown | Outcome::Arithmetic | Outcome::Payment
@@ -183,7 +183,7 @@ fn execute(
 }
 
 /// The result, or `None` if it is outside 64 signed bits or the divisor is 0.
-fn calculate(operation: Operation, y: i64, z: i64) -> Option<i64> {
+pub(crate) fn calculate(operation: Operation, y: i64, z: i64) -> Option<i64> {
     let (y, z) = (i128::from(y), i128::from(z));
     let exact = match operation {
         Operation::Add => y + z,
@@ -201,7 +201,8 @@ fn floor_quotient(y: i128, z: i128) -> Option<i128> {
     Some(toward_zero - i128::from(rounded_up))
 }
 
-fn holds(test: Test, x: i64, y: i64) -> bool {
+/// Whether the test of a jump holds.
+pub(crate) fn holds(test: Test, x: i64, y: i64) -> bool {
     match test {
         Test::Equal => x == y,
         Test::Less => x < y,

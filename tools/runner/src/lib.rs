@@ -15,6 +15,7 @@ pub mod execute;
 pub mod generate;
 pub mod inspect;
 pub mod key;
+pub mod lent;
 pub mod limits;
 pub mod literal;
 pub mod machine;

@@ -14,7 +14,7 @@ use runner::limits::MAX_WORKERS;
 use runner::literal::modules;
 use runner::machine::open;
 use runner::serial;
-use runner::vectors::{self, Stream};
+use runner::vectors::{self, blocks::Stream};
 
 const USAGE: &str = "usage:
   runner assemble TEXT BLOCK        writes the block of a text
@@ -25,7 +25,10 @@ const USAGE: &str = "usage:
   runner coverage SEED COUNT        what these cases show
   runner generate SEED COUNT DIR [--large]
                                     cases as files NNN.bin, NNN.moves, NNN.out
-  runner vectors SEED DIR           stdin and stdout of a program that lists many blocks
+  runner vectors open SEED DIR      stdin and stdout of a program that lists many blocks
+  runner vectors register SEED DIR  the same for one that runs many blocks
+  runner vectors moves SEED COUNT DIR
+                                    moves on damaged runs as DIR/stdin, DIR/stdout
 ";
 
 type Failure = Box<dyn std::error::Error>;
@@ -64,7 +67,15 @@ fn run(words: &[&str]) -> Result<(), Failure> {
         ["generate", seed, count, directory, "--large"] => {
             write_cases(&large_cases(seed.parse()?, count.parse()?), directory)
         }
-        ["vectors", seed, directory] => write_stream(&vectors::opened(seed.parse()?), directory),
+        ["vectors", "open", seed, directory] => {
+            write_stream(&vectors::blocks::opened(seed.parse()?), directory)
+        }
+        ["vectors", "register", seed, directory] => {
+            write_stream(&vectors::blocks::registered(seed.parse()?), directory)
+        }
+        ["vectors", "moves", seed, count, directory] => {
+            write_vectors(seed.parse()?, count.parse()?, Path::new(directory))
+        }
         _ => Err(USAGE.into()),
     }
 }
@@ -108,12 +119,6 @@ fn write_modules(cases: &[Case], directory: &str) -> Result<(), Failure> {
     Ok(())
 }
 
-fn write_stream(stream: &Stream, directory: &str) -> Result<(), Failure> {
-    fs::write(Path::new(directory).join("stdin"), &stream.input)?;
-    fs::write(Path::new(directory).join("stdout"), &stream.output)?;
-    Ok(())
-}
-
 fn write_cases(cases: &[Case], directory: &str) -> Result<(), Failure> {
     fs::create_dir_all(directory)?;
     for (index, case) in cases.iter().enumerate() {
@@ -122,5 +127,19 @@ fn write_cases(cases: &[Case], directory: &str) -> Result<(), Failure> {
         fs::write(stem.with_extension("moves"), &case.input)?;
         fs::write(stem.with_extension("out"), &case.output)?;
     }
+    Ok(())
+}
+
+fn write_stream(stream: &Stream, directory: &str) -> Result<(), Failure> {
+    fs::write(Path::new(directory).join("stdin"), &stream.input)?;
+    fs::write(Path::new(directory).join("stdout"), &stream.output)?;
+    Ok(())
+}
+
+fn write_vectors(seed: u64, count: usize, directory: &Path) -> Result<(), Failure> {
+    let (cases, _) = vectors::moves::cases(seed, count);
+    fs::create_dir_all(directory)?;
+    fs::write(directory.join("stdin"), vectors::stream::input(&cases))?;
+    fs::write(directory.join("stdout"), vectors::stream::output(&cases))?;
     Ok(())
 }

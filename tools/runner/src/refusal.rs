@@ -29,6 +29,8 @@ pub enum BlockFault {
     AllKeys = 12,
     /// The number of workers is not 1 to 8.
     Workers = 13,
+    /// A lent buffer is shorter than its fixed size.
+    Buffers = 20,
 }
 
 impl BlockFault {
@@ -58,6 +60,9 @@ pub struct BlockRefusal {
 /// Why a move is refused.
 #[derive(Clone, Copy, Debug, PartialEq, Eq)]
 pub enum MoveRefusal {
+    /// A lent buffer is too short, or a value that the move needs is outside
+    /// its range. Only a lent run has such values.
+    Damaged = 20,
     /// There is no such worker.
     NoSuchWorker = 21,
     /// There is no such call.

@@ -59,21 +59,17 @@ pub struct Sets {
 }
 
 impl Sets {
-    /// The sets of a call: those of its entry and of every instruction of its
-    /// function, reached or not. An unknown function has empty sets.
+    /// The sets of a call.
     pub fn of_call(block: &Block, call: &Call) -> Sets {
-        let mut reads = Vec::new();
-        let mut writes = Vec::new();
-        if let Some(code) = block.code(call) {
-            add_entry(call, &mut reads, &mut writes);
-            for instruction in code {
-                add_instruction(call, instruction, &mut reads, &mut writes);
-            }
-        }
+        let uses = uses(block, call);
+        let keys = |kept: fn(&Use) -> bool| {
+            let kept = uses.iter().filter(|used| kept(used));
+            kept.map(|used| used.key).collect()
+        };
         Sets {
-            accesses: reads.iter().chain(&writes).copied().collect(),
-            reads: reads.into_iter().collect(),
-            writes: writes.into_iter().collect(),
+            reads: keys(|used| used.reads),
+            writes: keys(|used| used.writes),
+            accesses: keys(|_| true),
         }
     }
 
@@ -83,32 +79,83 @@ impl Sets {
     }
 }
 
-/// A value above 0 reads the sender's balance and writes the sender's and the
-/// contract's.
-fn add_entry(call: &Call, reads: &mut Vec<Key>, writes: &mut Vec<Key>) {
-    if call.value > 0 {
-        reads.push(call.sender.balance());
-        writes.push(call.sender.balance());
-        writes.push(call.contract.balance());
+/// A use of a cell.
+#[derive(Clone, Copy, Debug, PartialEq, Eq)]
+pub struct Use {
+    /// The cell.
+    pub key: Key,
+    /// Whether it is read.
+    pub reads: bool,
+    /// Whether it is written.
+    pub writes: bool,
+}
+
+impl Use {
+    /// A cell that is read.
+    pub fn read(key: Key) -> Use {
+        Use {
+            key,
+            reads: true,
+            writes: false,
+        }
+    }
+
+    /// A cell that is written.
+    pub fn write(key: Key) -> Use {
+        Use {
+            key,
+            reads: false,
+            writes: true,
+        }
+    }
+
+    /// A cell that is read and written.
+    pub fn change(key: Key) -> Use {
+        Use {
+            key,
+            reads: true,
+            writes: true,
+        }
     }
 }
 
-fn add_instruction(
-    call: &Call,
-    instruction: &Instruction,
-    reads: &mut Vec<Key>,
-    writes: &mut Vec<Key>,
-) {
-    match *instruction {
-        Instruction::Get { cell, .. } => reads.push(cell_key(call, cell)),
-        Instruction::Put { cell, .. } => writes.push(cell_key(call, cell)),
-        Instruction::Balance { .. } => reads.push(call.contract.balance()),
-        Instruction::Pay { target, .. } => {
-            reads.push(call.contract.balance());
-            writes.push(call.contract.balance());
-            writes.extend(Account::named(call.source(target)).map(Account::balance));
+/// The uses of a call: those of its entry and of every instruction of its
+/// function, reached or not. An unknown function has none.
+pub fn uses(block: &Block, call: &Call) -> Vec<Use> {
+    let mut uses = Vec::new();
+    if let Some(code) = block.code(call) {
+        uses.extend(entry_uses(call));
+        for instruction in code {
+            uses.extend(instruction_uses(call, instruction));
         }
-        _ => {}
+    }
+    uses
+}
+
+/// A value above 0 reads the sender's balance and writes the sender's and the
+/// contract's.
+pub fn entry_uses(call: &Call) -> Vec<Use> {
+    if call.value > 0 {
+        let (sender, contract) = (call.sender.balance(), call.contract.balance());
+        vec![Use::change(sender), Use::write(contract)]
+    } else {
+        Vec::new()
+    }
+}
+
+/// The uses of an instruction in a call.
+pub fn instruction_uses(call: &Call, instruction: &Instruction) -> Vec<Use> {
+    match *instruction {
+        Instruction::Get { cell, .. } => vec![Use::read(cell_key(call, cell))],
+        Instruction::Put { cell, .. } => vec![Use::write(cell_key(call, cell))],
+        Instruction::Balance { .. } => vec![Use::read(call.contract.balance())],
+        Instruction::Pay { target, .. } => {
+            let account = Account::named(call.source(target));
+            let paid = account.map(|account| Use::write(account.balance()));
+            let own = Use::change(call.contract.balance());
+            [own].into_iter().chain(paid).collect()
+        }
+        _ => Vec::new(),
     }
 }
 

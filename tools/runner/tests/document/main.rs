@@ -6,12 +6,14 @@ mod errors;
 mod examples;
 mod generator;
 mod instructions;
+mod lent;
 mod moves;
 mod order;
 mod properties;
 mod refusals;
 mod sheet;
 mod tally;
+mod vectors;
 
 use runner::assemble::assemble;
 use runner::console::register;

@@ -1,0 +1,6 @@
+mod LineLaws
+mod ScanLaws
+mod AnswerLaws
+pub mod TextLaws
+mod GoingLaws
+mod RecordLaws

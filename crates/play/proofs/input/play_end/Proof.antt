@@ -1,0 +1,42 @@
+-- `play::input::play_end` meets its contract: an empty rest is no line, and every other is played. Assumes nothing.
+use borrow.Author.Needs.{needs}
+use Rattle.play.proofs.AnswerLaws.{end-empty, end-line}
+use Rattle.play.proofs.input.play_end.Statement.{statement}
+use Rattle.play.proofs.input.play_end.Tie as tie
+
+enum-told : tie.Need-enum-told
+enum-told c = search needs
+
+returns : tie.Need-returns
+returns c = let a = c .before .before .before .before .before .before .before .before .args in end-empty (a .block .now) (a .s .number) (a .s .line) _ _ (c .enum-told .given .1)
+
+play-line-requires : tie.Need-play-line-requires
+play-line-requires c κs = search needs
+
+same-length : tie.Need-same-length
+same-length c = search needs
+
+same-length-2 : tie.Need-same-length-2
+same-length-2 c = search needs
+
+same-length-3 : tie.Need-same-length-3
+same-length-3 c = search needs
+
+same-length-4 : tie.Need-same-length-4
+same-length-4 c = search needs
+
+returns-2 : tie.Need-returns-2
+returns-2 c = let a = c .before .before .before .before .before .before .before .before .before .before .before .before .before .before .before .before .before .before .before .args in end-line (a .block .now) (a .s .number) (a .s .line) _ _ (c .before .before .before .before .before .before .before .before .before .before .before .before .match .keys2) (c .before .before .before .before .before .before .before .play-line .ensures)
+
+pub play-end-spec : {M : Type 1} → statement M
+play-end-spec =
+    tie.close
+    (tie.spec
+    enum-told
+    returns
+    play-line-requires
+    same-length
+    same-length-2
+    same-length-3
+    same-length-4
+    returns-2)

@@ -1,0 +1,60 @@
+-- `play::records::put_cell` meets its contract: the numbers of the line are those of the body. Assumes nothing.
+use borrow.Author.Needs.{needs}
+use Rattle.arith.proofs.Laws.{back}
+use mathlib.Core.Path.{_∙_}
+use Rattle.play.proofs.RecordLaws.{cell-put}
+use Rattle.play.proofs.records.put_cell.Statement.{statement}
+use Rattle.play.proofs.records.put_cell.Tie as tie
+
+get16-requires : tie.Need-get16-requires
+get16-requires c κs = search needs
+
+add-get16 : tie.Need-add-get16
+add-get16 c = search needs
+
+get16-requires-2 : tie.Need-get16-requires-2
+get16-requires-2 c κs = search needs
+
+add-get32 : tie.Need-add-get32
+add-get32 c = search needs
+
+get32-requires : tie.Need-get32-requires
+get32-requires c κs = search needs
+
+add-get32-2 : tie.Need-add-get32-2
+add-get32-2 c = search needs
+
+get32-requires-2 : tie.Need-get32-requires-2
+get32-requires-2 c κs = search needs
+
+add-get-i64 : tie.Need-add-get-i64
+add-get-i64 c = search needs
+
+get-i64-requires : tie.Need-get-i64-requires
+get-i64-requires c κs = search needs
+
+cell-line-requires : tie.Need-cell-line-requires
+cell-line-requires c κs = search needs
+
+same-length : tie.Need-same-length
+same-length c = search needs
+
+returns : tie.Need-returns
+returns c = cell-put (c .before .before .before .before .before .before .before .before .before .before .before .args .sheet .now) (c .before .before .before .before .before .before .before .before .before .before .before .args .body) (c .before .before .before .before .before .before .before .before .get16 .ensures) (c .before .before .before .before .before .before .before .get162 .ensures) (c .before .before .before .before .before .before .get32 .ensures) (c .before .before .before .before .before .get322 .ensures) (back (record { sfits = c .before .before .before .before .get-i64 .ok }) ∙ c .before .before .before .before .get-i64 .ensures) (c .before .before .cell-line .ensures)
+
+pub put-cell-spec : {M : Type 1} → statement M
+put-cell-spec =
+    tie.close
+    (tie.spec
+    get16-requires
+    add-get16
+    get16-requires-2
+    add-get32
+    get32-requires
+    add-get32-2
+    get32-requires-2
+    add-get-i64
+    get-i64-requires
+    cell-line-requires
+    same-length
+    returns)

@@ -1,0 +1,5 @@
+pub mod Named
+pub mod PlayLaws
+pub mod Shown
+pub mod Passed
+pub mod Printed

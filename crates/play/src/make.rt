@@ -1,0 +1,30 @@
+// One move on a lent run and block.
+use machine::Head;
+use moves::Reply;
+use moves::begin::begin;
+use moves::cancel::cancel;
+use moves::step::step;
+use schedule::Move;
+ghost use mathlib.Core.Path.{_≡_};
+ghost use Rattle.machine.specs.Moves.{moveOf};
+ghost use Rattle.moves.specs.Lent.{lent, moved};
+
+// BEGIN, STEP or CANCEL, by the move's name.
+pub fn make(
+    head: Head,
+    block: &[u8],
+    plan: &[u64],
+    keys: &[u64],
+    cells: &mut [i64],
+    status: &mut [u64],
+    olds: &mut [i64],
+    m: Move,
+) -> Reply
+    ensures { λ r. ⌜ moved (r .answer) (lent (r .head) (now (plan .entry)) (now (keys .entry)) (now (cells .exit)) (now (status .exit)) (now (olds .exit))) ≡ moveOf (now (block .entry)) (lent head (now (plan .entry)) (now (keys .entry)) (now (cells .entry)) (now (status .entry)) (now (olds .entry))) m ⌝ }
+{
+    match m {
+        Move::Begin(worker, call) => begin(head, plan, keys, cells, status, olds, worker, call),
+        Move::Step(worker) => step(head, block, plan, keys, cells, status, olds, worker),
+        Move::Cancel(worker) => cancel(head, plan, keys, cells, status, olds, worker),
+    }
+}

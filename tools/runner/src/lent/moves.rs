@@ -1,0 +1,163 @@
+//! BEGIN and CANCEL on a lent run, and what STEP tests as they do.
+
+use super::{
+    Run, Seat, ENTRIES, ENTRY_SCALE, FINISHED, KEY_COUNT, PLAN_WORDS, READS, ROW, ROW_BITS,
+    RUNNING, STATUS_WORDS, WAITING, WRITES,
+};
+use crate::limits::{MAX_CALLS, MAX_CALL_KEYS, MAX_KEYS, MAX_WORKERS};
+use crate::refusal::MoveRefusal;
+
+/// An entry of a call: a cell and how the call uses it.
+#[derive(Clone, Copy, Debug, PartialEq, Eq)]
+pub(super) struct Entry(u64);
+
+impl Entry {
+    pub(super) fn reads(self) -> bool {
+        self.0 & READS != 0
+    }
+
+    pub(super) fn writes(self) -> bool {
+        self.0 & WRITES != 0
+    }
+
+    /// The cell number: 20 if there is none such.
+    pub(super) fn cell(self) -> Result<usize, MoveRefusal> {
+        below(self.0 / ENTRY_SCALE, MAX_KEYS)
+    }
+
+    /// The cell that BEGIN keeps and an abort restores, if the entry is
+    /// written: 20 if it has no flag or no such cell.
+    fn kept(self) -> Result<Option<usize>, MoveRefusal> {
+        if !self.reads() && !self.writes() {
+            return Err(MoveRefusal::Damaged);
+        }
+        self.writes().then(|| self.cell()).transpose()
+    }
+}
+
+/// A number that indexes so many things: 20 if it is outside.
+pub(super) fn below(number: u64, bound: usize) -> Result<usize, MoveRefusal> {
+    let index = usize::try_from(number).ok();
+    index
+        .filter(|index| *index < bound)
+        .ok_or(MoveRefusal::Damaged)
+}
+
+impl Run {
+    /// BEGIN(worker, call): 20 to 25, then the call runs on the worker.
+    pub fn begin(&mut self, worker: usize, call: usize) -> Result<(), MoveRefusal> {
+        self.test_worker(worker)?;
+        if call >= self.calls()? {
+            return Err(MoveRefusal::NoSuchCall);
+        }
+        if self.head.seats[worker].call > self.head.calls {
+            return Err(MoveRefusal::Damaged);
+        }
+        if self.head.seats[worker].call != 0 {
+            return Err(MoveRefusal::WorkerBusy);
+        }
+        if self.tested_state(call)? != WAITING {
+            return Err(MoveRefusal::CallNotWaiting);
+        }
+        if self.earlier_unfinished(call)? {
+            return Err(MoveRefusal::EarlierUnfinished);
+        }
+        let kept = self.kept(call)?;
+        for (place, cell) in kept.into_iter().enumerate() {
+            self.olds[worker * MAX_CALL_KEYS + place] = cell.map_or(0, |cell| self.cells[cell]);
+        }
+        self.status[call * STATUS_WORDS] = RUNNING;
+        self.head.seats[worker] = Seat {
+            call: call as u64 + 1,
+            ..Seat::default()
+        };
+        Ok(())
+    }
+
+    /// CANCEL(worker): 20, 21, 26, then the call's cells are restored, the call
+    /// waits and the worker is free.
+    pub fn cancel(&mut self, worker: usize) -> Result<(), MoveRefusal> {
+        let call = self.held(worker)?;
+        for (cell, old) in self.restoring(worker, call)? {
+            self.cells[cell] = old;
+        }
+        self.status[call * STATUS_WORDS] = WAITING;
+        self.head.seats[worker] = Seat::default();
+        Ok(())
+    }
+
+    /// The sizes of the buffers and the number of workers, then 21.
+    fn test_worker(&self, worker: usize) -> Result<(), MoveRefusal> {
+        let workers = self.head.workers;
+        if !self.sizes().suffice() || !(1..=MAX_WORKERS as u64).contains(&workers) {
+            return Err(MoveRefusal::Damaged);
+        }
+        if worker as u64 >= workers {
+            return Err(MoveRefusal::NoSuchWorker);
+        }
+        Ok(())
+    }
+
+    /// The number of calls.
+    fn calls(&self) -> Result<usize, MoveRefusal> {
+        below(self.head.calls, MAX_CALLS + 1)
+    }
+
+    /// The call that a worker holds: 20, 21, 26, and 20 if it is none of the run.
+    pub(super) fn held(&self, worker: usize) -> Result<usize, MoveRefusal> {
+        self.test_worker(worker)?;
+        match self.head.seats[worker].call {
+            0 => Err(MoveRefusal::WorkerIdle),
+            held => below(held - 1, self.calls()?),
+        }
+    }
+
+    /// The state of a call.
+    fn tested_state(&self, call: usize) -> Result<u64, MoveRefusal> {
+        let state = self.state(call);
+        if state > FINISHED {
+            return Err(MoveRefusal::Damaged);
+        }
+        Ok(state)
+    }
+
+    /// Whether an earlier conflicting call is waiting or running. All their
+    /// states are looked at first. Bits at the call and above it are not.
+    fn earlier_unfinished(&self, call: usize) -> Result<bool, MoveRefusal> {
+        let in_row = |earlier: &usize| {
+            let word = self.plan_word(call, ROW + earlier / ROW_BITS);
+            word >> (earlier % ROW_BITS) & 1 == 1
+        };
+        let states: Vec<u64> = (0..call)
+            .filter(in_row)
+            .map(|earlier| self.tested_state(earlier))
+            .collect::<Result<_, _>>()?;
+        Ok(states.iter().any(|state| *state != FINISHED))
+    }
+
+    /// The entries of a call: 20 for a number of keys above 24.
+    pub(super) fn entries(&self, call: usize) -> Result<Vec<Entry>, MoveRefusal> {
+        let count = below(self.plan_word(call, KEY_COUNT), MAX_CALL_KEYS + 1)?;
+        let words = &self.plan[call * PLAN_WORDS + ENTRIES..][..count];
+        Ok(words.iter().copied().map(Entry).collect())
+    }
+
+    /// For each entry the cell that is kept, if the call writes it.
+    fn kept(&self, call: usize) -> Result<Vec<Option<usize>>, MoveRefusal> {
+        self.entries(call)?.into_iter().map(Entry::kept).collect()
+    }
+
+    /// The cells that an abort or CANCEL restores, with their old values, which
+    /// are not tested.
+    pub(super) fn restoring(
+        &self,
+        worker: usize,
+        call: usize,
+    ) -> Result<Vec<(usize, i64)>, MoveRefusal> {
+        let olds = &self.olds[worker * MAX_CALL_KEYS..][..MAX_CALL_KEYS];
+        let kept = self.kept(call)?.into_iter().zip(olds);
+        Ok(kept
+            .filter_map(|(cell, old)| cell.map(|cell| (cell, *old)))
+            .collect())
+    }
+}

@@ -1,0 +1,249 @@
+//! STEP on a lent run.
+
+use super::moves::below;
+use super::{key_words, Run, Seat, CODE_LENGTH, CODE_START, FINISHED, KEY_WORDS, STATUS_WORDS};
+use crate::block::{read_call, Call};
+use crate::code::{decode, Instruction, Parts, Source};
+use crate::execute::{calculate, holds, Outcome};
+use crate::key::{Account, Key};
+use crate::limits::{
+    CALL_BYTES, HEAD_BYTES, INSTRUCTION_BYTES, MAX_BALANCE_SUM, MAX_INSTRUCTIONS, REGISTERS,
+};
+use crate::refusal::MoveRefusal;
+use crate::sets::{cell_key, Use};
+
+/// What a step does to the call. Nothing is changed before it is known.
+enum Turn {
+    /// The call goes on at a place.
+    Goes { place: u64 },
+    /// The call ends.
+    Ends(Outcome),
+}
+
+/// The values that a step stores, by cell number.
+type Stores = Vec<(usize, i64)>;
+
+/// The held call that takes a step.
+struct Stepping<'a> {
+    run: &'a Run,
+    number: usize,
+    call: Call,
+    registers: [i64; REGISTERS],
+    stores: Stores,
+}
+
+impl Run {
+    /// STEP(worker): 20, 21, 26, then one step of the worker's call.
+    pub fn step(&mut self, block: &[u8], worker: usize) -> Result<(), MoveRefusal> {
+        let number = self.held(worker)?;
+        let Seat {
+            place,
+            count,
+            registers,
+            ..
+        } = self.head.seats[worker];
+        let code = self.plan_word(number, CODE_LENGTH);
+        let longest = MAX_INSTRUCTIONS as u64;
+        if code > longest + 1 || place > code || count > longest {
+            return Err(MoveRefusal::Damaged);
+        }
+        let mut stepping = Stepping {
+            run: self,
+            number,
+            call: call_record(block, self.head.first, number)?,
+            registers,
+            stores: Stores::new(),
+        };
+        let (turn, count) = if place == 0 {
+            (stepping.enter(code)?, count)
+        } else if place == code {
+            (Turn::Ends(Outcome::Done), count)
+        } else {
+            (stepping.run(block, place)?, count + 1)
+        };
+        let Stepping {
+            registers,
+            mut stores,
+            ..
+        } = stepping;
+        if let Turn::Ends(outcome) = turn {
+            if outcome.aborts() {
+                stores = self.restoring(worker, number)?;
+            }
+        }
+        for (cell, value) in stores {
+            self.cells[cell] = value;
+        }
+        self.settle(worker, number, turn, count, registers);
+        Ok(())
+    }
+
+    /// The seat, and of a finished call the receipt.
+    fn settle(
+        &mut self,
+        worker: usize,
+        number: usize,
+        turn: Turn,
+        count: u64,
+        registers: [i64; REGISTERS],
+    ) {
+        let seat = &mut self.head.seats[worker];
+        match turn {
+            Turn::Goes { place } => {
+                seat.place = place;
+                seat.count = count;
+                seat.registers = registers;
+            }
+            Turn::Ends(outcome) => {
+                *seat = Seat::default();
+                let status = &mut self.status[number * STATUS_WORDS..];
+                status[0] = FINISHED;
+                status[1] = outcome.number().into();
+                status[2] = count;
+            }
+        }
+    }
+
+    /// The cell that a call uses: the first of its entries with that key. 20 if
+    /// an entry before it has no such cell, if no entry has the key, or if the
+    /// entry lacks a flag.
+    fn used_cell(&self, number: usize, used: Use) -> Result<usize, MoveRefusal> {
+        for entry in self.entries(number)? {
+            let cell = entry.cell()?;
+            if self.keys[cell * KEY_WORDS..][..KEY_WORDS] == key_words(&used.key) {
+                let flagged = (!used.reads || entry.reads()) && (!used.writes || entry.writes());
+                return flagged.then_some(cell).ok_or(MoveRefusal::Damaged);
+            }
+        }
+        Err(MoveRefusal::Damaged)
+    }
+
+    /// The balance in a cell: 20 below zero.
+    fn balance(&self, cell: usize) -> Result<i64, MoveRefusal> {
+        let balance = self.cells[cell];
+        if balance < 0 {
+            return Err(MoveRefusal::Damaged);
+        }
+        Ok(balance)
+    }
+}
+
+impl Stepping<'_> {
+    /// The entry: an unknown function, or the value moves, if the sender has it.
+    fn enter(&mut self, code: u64) -> Result<Turn, MoveRefusal> {
+        if code == 0 {
+            return Ok(Turn::Ends(Outcome::UnknownFunction));
+        }
+        let (sender, contract) = (self.call.sender.balance(), self.call.contract.balance());
+        let value = self.call.value;
+        if value > 0 && !self.transfer(sender, contract, value)? {
+            return Ok(Turn::Ends(Outcome::LowBalance));
+        }
+        Ok(Turn::Goes { place: 1 })
+    }
+
+    /// Runs the instruction at a place behind the entry and before the end.
+    fn run(&mut self, block: &[u8], place: u64) -> Result<Turn, MoveRefusal> {
+        let index = place as usize - 1;
+        match self.instruction(block, index)? {
+            Instruction::Stop => return Ok(Turn::Ends(Outcome::Done)),
+            Instruction::Throw => return Ok(Turn::Ends(Outcome::Thrown)),
+            Instruction::Set { x, value } => self.registers[x] = value.into(),
+            Instruction::Argument { x, index } => {
+                self.registers[x] = self.call.arguments[index].into();
+            }
+            Instruction::Sender { x } => self.registers[x] = self.call.sender.address().into(),
+            Instruction::Value { x } => self.registers[x] = self.call.value,
+            Instruction::Arithmetic { operation, x, y, z } => {
+                match calculate(operation, self.registers[y], self.registers[z]) {
+                    Some(result) => self.registers[x] = result,
+                    None => return Ok(Turn::Ends(Outcome::Arithmetic)),
+                }
+            }
+            Instruction::Get { x, cell } => {
+                let cell = self.cell(Use::read(cell_key(&self.call, cell)))?;
+                self.registers[x] = self.run.cells[cell];
+            }
+            Instruction::Put { x, cell } => {
+                let cell = self.cell(Use::write(cell_key(&self.call, cell)))?;
+                self.stores.push((cell, self.registers[x]));
+            }
+            Instruction::Balance { x } => {
+                let cell = self.cell(Use::read(self.call.contract.balance()))?;
+                self.registers[x] = self.run.balance(cell)?;
+            }
+            Instruction::Pay { x, target } => {
+                if !self.pay(self.registers[x], target)? {
+                    return Ok(Turn::Ends(Outcome::Payment));
+                }
+            }
+            Instruction::Jump { test, x, y, to } => {
+                if holds(test, self.registers[x], self.registers[y]) {
+                    return Ok(Turn::Goes {
+                        place: to as u64 + 1,
+                    });
+                }
+            }
+        }
+        Ok(Turn::Goes { place: place + 1 })
+    }
+
+    /// The instruction of an index in the call's code, which lies in the lent
+    /// block as a whole.
+    fn instruction(&self, block: &[u8], index: usize) -> Result<Instruction, MoveRefusal> {
+        let length = self.run.plan_word(self.number, CODE_LENGTH) as usize - 1;
+        let start = self.run.plan_word(self.number, CODE_START);
+        let code = stretch(block, start.into(), length * INSTRUCTION_BYTES)?;
+        let parts = Parts::read(&code[index * INSTRUCTION_BYTES..]);
+        decode(parts, index, length).ok_or(MoveRefusal::Damaged)
+    }
+
+    fn cell(&self, used: Use) -> Result<usize, MoveRefusal> {
+        self.run.used_cell(self.number, used)
+    }
+
+    /// Pays from the contract's balance, unless the payment is bad.
+    fn pay(&mut self, amount: i64, target: Source) -> Result<bool, MoveRefusal> {
+        match Account::named(self.call.source(target)) {
+            Some(account) if amount >= 0 => {
+                self.transfer(self.call.contract.balance(), account.balance(), amount)
+            }
+            _ => Ok(false),
+        }
+    }
+
+    /// Moves an amount between two balances, or answers that the first is too
+    /// low. The second is looked at only if it is not.
+    fn transfer(&mut self, from: Key, to: Key, amount: i64) -> Result<bool, MoveRefusal> {
+        let from = self.cell(Use::change(from))?;
+        let left = self.run.balance(from)?;
+        if left < amount {
+            return Ok(false);
+        }
+        let to = self.cell(Use::write(to))?;
+        let sum = i128::from(self.run.balance(to)?) + i128::from(amount);
+        if sum > MAX_BALANCE_SUM {
+            return Err(MoveRefusal::Damaged);
+        }
+        self.stores.push((from, left - amount));
+        self.stores.push((to, sum as i64));
+        Ok(true)
+    }
+}
+
+/// The record of a call in the lent block: 20 if it is not all there or a field
+/// is outside its range. Its length and kind are not looked at.
+fn call_record(block: &[u8], first: u64, number: usize) -> Result<Call, MoveRefusal> {
+    let record = HEAD_BYTES + CALL_BYTES;
+    let start = u128::from(first) + (number * record) as u128;
+    let body = &stretch(block, start, record)?[HEAD_BYTES..];
+    read_call(body, start as usize).ok_or(MoveRefusal::Damaged)
+}
+
+/// A stretch of the lent block: 20 if it passes the block's end.
+fn stretch(block: &[u8], start: u128, length: usize) -> Result<&[u8], MoveRefusal> {
+    let start = u64::try_from(start).map_err(|_| MoveRefusal::Damaged)?;
+    let start = below(start, block.len() + 1)?;
+    let rest = &block[start..];
+    rest.get(..length).ok_or(MoveRefusal::Damaged)
+}

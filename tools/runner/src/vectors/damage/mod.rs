@@ -1,0 +1,163 @@
+//! Damages to a lent run, aimed at what one move uses, with values at and just
+//! outside the ranges.
+
+mod aim;
+mod used;
+
+pub use aim::Aim;
+
+use super::{Operation, Player, CHANGED_BYTES};
+use crate::machine::Move;
+use crate::rng::Rng;
+
+/// What is damaged.
+#[derive(Clone, Copy, Debug, PartialEq, Eq, PartialOrd, Ord)]
+#[allow(missing_docs)]
+pub enum Target {
+    Workers,
+    Calls,
+    Cells,
+    First,
+    HeldCall,
+    Place,
+    Count,
+    Register,
+    State,
+    EarlierState,
+    Row,
+    KeyCount,
+    Entry,
+    Key,
+    Value,
+    Old,
+    CodeStart,
+    CodeLength,
+    BlockLength,
+    Record,
+    Instruction,
+    Size,
+}
+
+/// What BEGIN may use, and the old values, which it does not.
+pub const OF_BEGIN: [Target; 12] = [
+    Target::Workers,
+    Target::Calls,
+    Target::HeldCall,
+    Target::State,
+    Target::EarlierState,
+    Target::EarlierState,
+    Target::Row,
+    Target::KeyCount,
+    Target::Entry,
+    Target::Entry,
+    Target::Old,
+    Target::Size,
+];
+
+/// What STEP may use, and the call's state and the number of cells, which it
+/// does not.
+pub const OF_STEP: [Target; 31] = [
+    Target::Workers,
+    Target::Calls,
+    Target::Cells,
+    Target::First,
+    Target::First,
+    Target::HeldCall,
+    Target::Place,
+    Target::Place,
+    Target::Count,
+    Target::Register,
+    Target::Register,
+    Target::State,
+    Target::KeyCount,
+    Target::KeyCount,
+    Target::Entry,
+    Target::Entry,
+    Target::Entry,
+    Target::Key,
+    Target::Key,
+    Target::Value,
+    Target::Value,
+    Target::Value,
+    Target::CodeStart,
+    Target::CodeStart,
+    Target::CodeLength,
+    Target::BlockLength,
+    Target::Record,
+    Target::Record,
+    Target::Instruction,
+    Target::Instruction,
+    Target::Size,
+];
+
+/// What CANCEL may use, and the old values, which it does not test.
+pub const OF_CANCEL: [Target; 8] = [
+    Target::Workers,
+    Target::Calls,
+    Target::HeldCall,
+    Target::KeyCount,
+    Target::Entry,
+    Target::Entry,
+    Target::Old,
+    Target::Size,
+];
+
+/// What a step that uses a cell finds it by.
+const OF_USED: [Target; 6] = [
+    Target::Entry,
+    Target::Entry,
+    Target::Key,
+    Target::Value,
+    Target::Value,
+    Target::Value,
+];
+
+/// A target of a move; of a step that uses a cell mostly that cell.
+pub fn target(rng: &mut Rng, chosen: Move, uses_cell: bool) -> Target {
+    match chosen {
+        Move::Begin { .. } => rng.pick(&OF_BEGIN),
+        Move::Step { .. } if uses_cell && rng.chance(65) => rng.pick(&OF_USED),
+        Move::Step { .. } => rng.pick(&OF_STEP),
+        Move::Cancel { .. } => rng.pick(&OF_CANCEL),
+    }
+}
+
+/// The operation that takes a damage back.
+pub fn repair(player: &Player, damage: Operation) -> Operation {
+    match damage {
+        Operation::Move(_) => damage,
+        Operation::Word { buffer, index, .. } => Operation::Word {
+            buffer,
+            index,
+            value: player.word(buffer, index),
+        },
+        Operation::Head { field, .. } => Operation::Head {
+            field,
+            value: player.head(field),
+        },
+        Operation::Seat { worker, field, .. } => Operation::Seat {
+            worker,
+            field,
+            value: player.seat(worker, field),
+        },
+        Operation::Cut { .. } => Operation::Cut {
+            length: player.lent_block,
+        },
+        Operation::Bytes { at, .. } => Operation::Bytes {
+            at,
+            bytes: bytes_at(player, at),
+        },
+        Operation::Lend { .. } => Operation::Lend {
+            sizes: player.sizes,
+        },
+    }
+}
+
+/// The bytes of the block from an offset on, zero behind its end.
+fn bytes_at(player: &Player, at: usize) -> [u8; CHANGED_BYTES] {
+    let mut bytes = [0; CHANGED_BYTES];
+    for (byte, from) in bytes.iter_mut().zip(&player.block[at..]) {
+        *byte = *from;
+    }
+    bytes
+}

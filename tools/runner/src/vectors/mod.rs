@@ -1,0 +1,268 @@
+//! Vectors for lent runs: cases of a block, its opening, and moves with damages
+//! between them; the stream that carries them, and the lines they answer.
+
+pub mod blocks;
+pub mod damage;
+pub mod moves;
+pub mod stream;
+
+use crate::lent::{open, Run, Sizes};
+use crate::machine::Move;
+use crate::refusal::{BlockRefusal, MoveRefusal};
+
+/// How much longer than its fixed size a lent buffer may be.
+pub const SPARE: usize = 8;
+
+/// How many bytes a change of the block writes.
+pub const CHANGED_BYTES: usize = 16;
+
+/// A buffer of the run, by its number in the stream.
+#[derive(Clone, Copy, Debug, PartialEq, Eq)]
+#[allow(missing_docs)]
+pub enum Buffer {
+    Plan = 0,
+    Keys = 1,
+    Cells = 2,
+    Status = 3,
+    Olds = 4,
+}
+
+/// A number of the head, by its number in the stream.
+#[derive(Clone, Copy, Debug, PartialEq, Eq)]
+#[allow(missing_docs)]
+pub enum HeadField {
+    Workers = 0,
+    Calls = 1,
+    Cells = 2,
+    First = 3,
+}
+
+/// A number of a seat; in the stream 0, 1, 2 and from 3 on the registers.
+#[derive(Clone, Copy, Debug, PartialEq, Eq)]
+#[allow(missing_docs)]
+pub enum SeatField {
+    Call,
+    Place,
+    Count,
+    Register(usize),
+}
+
+impl SeatField {
+    /// The field's number in the stream.
+    pub fn number(self) -> u64 {
+        match self {
+            SeatField::Call => 0,
+            SeatField::Place => 1,
+            SeatField::Count => 2,
+            SeatField::Register(register) => 3 + register as u64,
+        }
+    }
+}
+
+/// An operation behind the opening. A signed value is written as its 64 bits.
+#[derive(Clone, Copy, Debug, PartialEq, Eq)]
+#[allow(missing_docs)]
+pub enum Operation {
+    /// A move.
+    Move(Move),
+    /// A word of a buffer takes a value.
+    Word {
+        buffer: Buffer,
+        index: usize,
+        value: u64,
+    },
+    /// A number of the head takes a value.
+    Head { field: HeadField, value: u64 },
+    /// A number of a seat takes a value.
+    Seat {
+        worker: usize,
+        field: SeatField,
+        value: u64,
+    },
+    /// The block is lent up to a length from now on.
+    Cut { length: usize },
+    /// Bytes of the block are written.
+    Bytes {
+        at: usize,
+        bytes: [u8; CHANGED_BYTES],
+    },
+    /// The buffers are lent up to these lengths from now on, at most those of
+    /// the opening.
+    Lend { sizes: Sizes },
+}
+
+/// A case: a block opened for some workers in buffers of some lengths, and what
+/// is done behind that.
+#[derive(Clone, Debug, PartialEq, Eq)]
+pub struct Case {
+    /// The block.
+    pub block: Vec<u8>,
+    /// The lengths at the opening.
+    pub sizes: Sizes,
+    /// The number of workers.
+    pub workers: usize,
+    /// What follows.
+    pub operations: Vec<Operation>,
+}
+
+/// What an operation answers.
+#[derive(Clone, Copy, Debug, PartialEq, Eq)]
+pub enum Answer {
+    /// Of the opening.
+    Opened(Result<(), BlockRefusal>),
+    /// Of a move.
+    Moved(Result<(), MoveRefusal>),
+}
+
+/// A case as it is played.
+#[derive(Clone, Debug)]
+pub struct Player {
+    /// The whole block; only its front may be lent.
+    pub block: Vec<u8>,
+    /// How much of the block is lent.
+    pub lent_block: usize,
+    /// The run with all its buffers; only their fronts may be lent.
+    pub run: Run,
+    /// How much of the buffers is lent.
+    pub sizes: Sizes,
+}
+
+impl Player {
+    /// Opens the block of a case.
+    pub fn open(block: &[u8], workers: usize, sizes: Sizes) -> (Result<(), BlockRefusal>, Player) {
+        let (answer, run) = open(block, workers, sizes);
+        let player = Player {
+            block: block.to_vec(),
+            lent_block: block.len(),
+            run,
+            sizes,
+        };
+        (answer, player)
+    }
+
+    /// Does an operation; the answer is that of a move.
+    pub fn play(&mut self, operation: Operation) -> Option<Result<(), MoveRefusal>> {
+        match operation {
+            Operation::Move(chosen) => return Some(self.make(chosen)),
+            Operation::Word {
+                buffer,
+                index,
+                value,
+            } => self.set_word(buffer, index, value),
+            Operation::Head { field, value } => self.set_head(field, value),
+            Operation::Seat {
+                worker,
+                field,
+                value,
+            } => self.set_seat(worker, field, value),
+            Operation::Cut { length } => self.lent_block = length,
+            Operation::Bytes { at, bytes } => {
+                let kept = self.block.len().saturating_sub(at).min(CHANGED_BYTES);
+                self.block[at..at + kept].copy_from_slice(&bytes[..kept]);
+            }
+            Operation::Lend { sizes } => self.sizes = sizes,
+        }
+        None
+    }
+
+    /// Makes a move on what is lent.
+    fn make(&mut self, chosen: Move) -> Result<(), MoveRefusal> {
+        let mut lent = self.lent();
+        let answer = lent.apply(&self.block[..self.lent_block], chosen);
+        self.run.head = lent.head;
+        self.run.plan[..lent.plan.len()].copy_from_slice(&lent.plan);
+        self.run.keys[..lent.keys.len()].copy_from_slice(&lent.keys);
+        self.run.cells[..lent.cells.len()].copy_from_slice(&lent.cells);
+        self.run.status[..lent.status.len()].copy_from_slice(&lent.status);
+        self.run.olds[..lent.olds.len()].copy_from_slice(&lent.olds);
+        answer
+    }
+
+    /// The run as it is lent.
+    pub fn lent(&self) -> Run {
+        let (run, sizes) = (&self.run, &self.sizes);
+        Run {
+            head: run.head,
+            plan: run.plan[..sizes.plan].to_vec(),
+            keys: run.keys[..sizes.keys].to_vec(),
+            cells: run.cells[..sizes.cells].to_vec(),
+            status: run.status[..sizes.status].to_vec(),
+            olds: run.olds[..sizes.olds].to_vec(),
+        }
+    }
+
+    /// The word of a buffer.
+    pub fn word(&self, buffer: Buffer, index: usize) -> u64 {
+        match buffer {
+            Buffer::Plan => self.run.plan[index],
+            Buffer::Keys => self.run.keys[index],
+            Buffer::Cells => self.run.cells[index] as u64,
+            Buffer::Status => self.run.status[index],
+            Buffer::Olds => self.run.olds[index] as u64,
+        }
+    }
+
+    fn set_word(&mut self, buffer: Buffer, index: usize, value: u64) {
+        match buffer {
+            Buffer::Plan => self.run.plan[index] = value,
+            Buffer::Keys => self.run.keys[index] = value,
+            Buffer::Cells => self.run.cells[index] = value as i64,
+            Buffer::Status => self.run.status[index] = value,
+            Buffer::Olds => self.run.olds[index] = value as i64,
+        }
+    }
+
+    /// The number of the head.
+    pub fn head(&self, field: HeadField) -> u64 {
+        let head = &self.run.head;
+        match field {
+            HeadField::Workers => head.workers,
+            HeadField::Calls => head.calls,
+            HeadField::Cells => head.cells,
+            HeadField::First => head.first,
+        }
+    }
+
+    fn set_head(&mut self, field: HeadField, value: u64) {
+        let head = &mut self.run.head;
+        match field {
+            HeadField::Workers => head.workers = value,
+            HeadField::Calls => head.calls = value,
+            HeadField::Cells => head.cells = value,
+            HeadField::First => head.first = value,
+        }
+    }
+
+    /// The number of a seat.
+    pub fn seat(&self, worker: usize, field: SeatField) -> u64 {
+        let seat = &self.run.head.seats[worker];
+        match field {
+            SeatField::Call => seat.call,
+            SeatField::Place => seat.place,
+            SeatField::Count => seat.count,
+            SeatField::Register(register) => seat.registers[register] as u64,
+        }
+    }
+
+    fn set_seat(&mut self, worker: usize, field: SeatField, value: u64) {
+        let seat = &mut self.run.head.seats[worker];
+        match field {
+            SeatField::Call => seat.call = value,
+            SeatField::Place => seat.place = value,
+            SeatField::Count => seat.count = value,
+            SeatField::Register(register) => seat.registers[register] = value as i64,
+        }
+    }
+}
+
+/// The answers of a case in order, each with the run as it is lent then.
+pub fn answers(case: &Case) -> Vec<(Answer, Run)> {
+    let (opened, mut player) = Player::open(&case.block, case.workers, case.sizes);
+    let mut answers = vec![(Answer::Opened(opened), player.lent())];
+    for operation in &case.operations {
+        if let Some(moved) = player.play(*operation) {
+            answers.push((Answer::Moved(moved), player.lent()));
+        }
+    }
+    answers
+}

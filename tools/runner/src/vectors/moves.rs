@@ -1,0 +1,318 @@
+//! Random cases of moves on lent runs. The operations are tried as they are
+//! drawn, so that most damages meet a move that would pass without them.
+
+use super::damage::{repair, target, Aim, Target};
+use super::{Case, Operation, Player, SPARE};
+use crate::generate::draft::{Draft, Shape, CALCULATING, MIXED, PAYING, TOUCHING};
+use crate::generate::{edges, programs};
+use crate::lent::{Sizes, WAITING};
+use crate::limits::{MAX_CALLS, MAX_CALL_KEYS, MAX_WORKERS};
+use crate::machine::Move;
+use crate::refusal::MoveRefusal;
+use crate::rng::Rng;
+
+/// How often a move or a damage is looked for.
+const ATTEMPTS: usize = 12;
+
+/// Worker and call numbers that no run has.
+const NONE_SUCH: [usize; 4] = [8, 9, 99_999, usize::MAX];
+
+/// A damage that was made alone, and what the move behind it answered.
+#[derive(Clone, Copy, Debug, PartialEq, Eq)]
+pub struct Shown {
+    /// What was damaged.
+    pub target: Target,
+    /// The move that it was aimed at.
+    pub chosen: Move,
+    /// Its answer.
+    pub answer: Result<(), MoveRefusal>,
+}
+
+/// The cases of a seed, and what their damages show.
+pub fn cases(seed: u64, count: usize) -> (Vec<Case>, Vec<Shown>) {
+    let mut rng = Rng::new(seed);
+    let mut shown = Vec::new();
+    let cases = (0..count)
+        .map(|index| case(&mut rng, index, &mut shown))
+        .collect();
+    (cases, shown)
+}
+
+fn case(rng: &mut Rng, index: usize, shown: &mut Vec<Shown>) -> Case {
+    let block = block(rng, index);
+    let (sizes, workers) = (sizes(rng), workers(rng));
+    let (opened, player) = Player::open(&block, workers, sizes);
+    let mut writer = Writer {
+        player,
+        operations: Vec::new(),
+        shown,
+    };
+    if opened.is_ok() {
+        for _ in 0..rng.between(8, 20) {
+            writer.turn(rng);
+        }
+    } else {
+        for _ in 0..3 {
+            let chosen = writer.any_move(rng);
+            let _ = writer.make(chosen);
+        }
+    }
+    Case {
+        block,
+        sizes,
+        workers,
+        operations: writer.operations,
+    }
+}
+
+/// Mostly blocks that are accepted.
+fn block(rng: &mut Rng, index: usize) -> Vec<u8> {
+    let random = |rng: &mut Rng, shape: Shape| Draft::random(rng, shape).bytes();
+    match index % 12 {
+        0 | 6 => random(rng, MIXED),
+        1 | 7 => random(rng, TOUCHING),
+        2 | 5 | 8 | 10 => random(rng, PAYING),
+        3 => programs::block(rng.below(MAX_CALLS)),
+        4 => Draft::with_keys(rng, MAX_CALL_KEYS).bytes(),
+        9 => random(rng, CALCULATING),
+        _ if rng.chance(40) => edges::block(rng.below(1_000)),
+        _ => random(rng, MIXED),
+    }
+}
+
+/// Mostly the fixed sizes; sometimes longer, seldom one too short.
+fn sizes(rng: &mut Rng) -> Sizes {
+    let mut sizes = Sizes::FIXED;
+    let [plan, keys, cells, status, olds] = match rng.weighted(&[70, 24, 6]) {
+        0 => return sizes,
+        1 => std::array::from_fn(|_| rng.below(SPARE + 1)),
+        _ => {
+            let short = rng.below(5);
+            return one_short(sizes, short);
+        }
+    };
+    sizes.plan += plan;
+    sizes.keys += keys;
+    sizes.cells += cells;
+    sizes.status += status;
+    sizes.olds += olds;
+    sizes
+}
+
+fn one_short(mut sizes: Sizes, short: usize) -> Sizes {
+    match short {
+        0 => sizes.plan -= 1,
+        1 => sizes.keys -= 1,
+        2 => sizes.cells -= 1,
+        3 => sizes.status -= 1,
+        _ => sizes.olds -= 1,
+    }
+    sizes
+}
+
+/// Mostly two to eight workers.
+fn workers(rng: &mut Rng) -> usize {
+    match rng.weighted(&[80, 10, 6, 2, 2]) {
+        0 => rng.between(2, MAX_WORKERS),
+        1 => MAX_WORKERS,
+        2 => 1,
+        3 => 0,
+        _ => MAX_WORKERS + 1,
+    }
+}
+
+struct Writer<'a> {
+    player: Player,
+    operations: Vec<Operation>,
+    shown: &'a mut Vec<Shown>,
+}
+
+impl Writer<'_> {
+    /// Some moves that pass, a move that may not, or a damage with the move that
+    /// it is aimed at.
+    fn turn(&mut self, rng: &mut Rng) {
+        match rng.weighted(&[3, 2, 6]) {
+            0 => {
+                for _ in 0..rng.between(1, 3) {
+                    self.advance(rng);
+                }
+            }
+            1 => {
+                let chosen = self.any_move(rng);
+                let _ = self.make(chosen);
+            }
+            _ => self.damaged_move(rng),
+        }
+    }
+
+    fn play(&mut self, operation: Operation) -> Option<Result<(), MoveRefusal>> {
+        self.operations.push(operation);
+        self.player.play(operation)
+    }
+
+    fn make(&mut self, chosen: Move) -> Result<(), MoveRefusal> {
+        let answer = self.play(Operation::Move(chosen));
+        answer.expect("a move has an answer")
+    }
+
+    /// Makes a move that passes, if one is found.
+    fn advance(&mut self, rng: &mut Rng) {
+        if let Some(chosen) = self.passing_move(rng) {
+            let _ = self.make(chosen);
+        }
+    }
+
+    /// Damages one or two things that a passing move uses, makes the move, and
+    /// mostly takes the damages back and makes it again.
+    fn damaged_move(&mut self, rng: &mut Rng) {
+        let Some(chosen) = self.passing_move(rng) else {
+            return;
+        };
+        let mut targets = Vec::new();
+        let mut repairs = Vec::new();
+        if let Some(damages) = self.paired(rng, chosen).filter(|_| rng.chance(30)) {
+            for damage in damages {
+                repairs.push(repair(&self.player, damage));
+                self.play(damage);
+            }
+        } else {
+            for _ in 0..rng.pick(&[1, 1, 1, 2]) {
+                if let Some((target, damage)) = self.damage(rng, chosen) {
+                    targets.push(target);
+                    repairs.push(repair(&self.player, damage));
+                    self.play(damage);
+                }
+            }
+        }
+        let answer = self.make(chosen);
+        if let [target] = targets[..] {
+            self.shown.push(Shown {
+                target,
+                chosen,
+                answer,
+            });
+        }
+        if rng.chance(30) {
+            let other = self.any_move(rng);
+            let _ = self.make(other);
+        }
+        if rng.chance(90) {
+            for back in repairs.into_iter().rev() {
+                self.play(back);
+            }
+            let _ = self.make(chosen);
+        }
+    }
+
+    /// Two damages that show something only together.
+    fn paired(&self, rng: &mut Rng, chosen: Move) -> Option<[Operation; 2]> {
+        let aim = self.aim(chosen)?;
+        match chosen {
+            Move::Step { .. } => aim.code_at_end(rng).or_else(|| aim.overfull()),
+            Move::Begin { .. } | Move::Cancel { .. } => aim.overfull(),
+        }
+    }
+
+    /// A damage aimed at a move that changes something.
+    fn damage(&self, rng: &mut Rng, chosen: Move) -> Option<(Target, Operation)> {
+        let aim = self.aim(chosen)?;
+        let uses_cell = !aim.used_entries().is_empty();
+        (0..ATTEMPTS).find_map(|_| {
+            let target = target(rng, chosen, uses_cell);
+            let damage = aim.draw(rng, target)?;
+            let changes = repair(&self.player, damage) != damage;
+            changes.then_some((target, damage))
+        })
+    }
+
+    /// What a move is about, if it is about a worker and a call of the buffers.
+    fn aim(&self, chosen: Move) -> Option<Aim<'_>> {
+        let (worker, call) = match chosen {
+            Move::Begin { worker, call } => (worker, call),
+            Move::Step { worker } | Move::Cancel { worker } => {
+                let held = self.player.run.head.seats.get(worker)?.call;
+                (worker, usize::try_from(held.checked_sub(1)?).ok()?)
+            }
+        };
+        if call >= MAX_CALLS {
+            return None;
+        }
+        Some(Aim {
+            player: &self.player,
+            worker,
+            call,
+        })
+    }
+
+    /// A random move that passes: a step more often than a begin, seldom a
+    /// cancel.
+    fn passing_move(&self, rng: &mut Rng) -> Option<Move> {
+        let head = &self.player.run.head;
+        let workers = head.workers.clamp(1, MAX_WORKERS as u64) as usize;
+        let busy: Vec<usize> = (0..workers)
+            .filter(|worker| head.seats[*worker].call != 0)
+            .collect();
+        for _ in 0..ATTEMPTS {
+            let worker = if !busy.is_empty() && rng.chance(60) {
+                rng.pick(&busy)
+            } else {
+                rng.below(workers)
+            };
+            let chosen = if head.seats[worker].call == 0 {
+                match self.waiting_call(rng) {
+                    Some(call) => Move::Begin { worker, call },
+                    None => continue,
+                }
+            } else if rng.chance(20) {
+                Move::Cancel { worker }
+            } else {
+                Move::Step { worker }
+            };
+            let answer = self.player.clone().play(Operation::Move(chosen));
+            if answer == Some(Ok(())) {
+                return Some(chosen);
+            }
+        }
+        None
+    }
+
+    fn waiting_call(&self, rng: &mut Rng) -> Option<usize> {
+        let calls = self.player.run.head.calls.min(MAX_CALLS as u64) as usize;
+        let waiting: Vec<usize> = (0..calls)
+            .filter(|call| self.player.run.state(*call) == WAITING)
+            .collect();
+        (!waiting.is_empty()).then(|| rng.pick(&waiting))
+    }
+
+    /// Any move, also of workers and calls that there are not.
+    fn any_move(&self, rng: &mut Rng) -> Move {
+        let head = &self.player.run.head;
+        let worker = match rng.below(8) {
+            0 => rng.pick(&NONE_SUCH),
+            1 => head.workers.min(MAX_WORKERS as u64) as usize,
+            _ => rng.below(head.workers.clamp(1, MAX_WORKERS as u64) as usize),
+        };
+        let calls = head.calls.min(MAX_CALLS as u64) as usize;
+        match rng.below(8) {
+            6.. => self.eager_begin(rng).unwrap_or(Move::Step { worker }),
+            0 => Move::Step { worker },
+            1 => Move::Cancel { worker },
+            2 => Move::Begin {
+                worker,
+                call: rng.pick(&[calls, calls + 1, MAX_CALLS, usize::MAX]),
+            },
+            _ => Move::Begin {
+                worker,
+                call: rng.below(calls + 1),
+            },
+        }
+    }
+    /// An idle worker begins a waiting call, perhaps too early.
+    fn eager_begin(&self, rng: &mut Rng) -> Option<Move> {
+        let head = &self.player.run.head;
+        let workers = head.workers.min(MAX_WORKERS as u64) as usize;
+        let worker = (0..workers).find(|worker| head.seats[*worker].call == 0)?;
+        let call = self.waiting_call(rng)?;
+        Some(Move::Begin { worker, call })
+    }
+}

@@ -1,0 +1,131 @@
+//! What the vectors of moves on damaged runs show.
+
+use std::collections::BTreeMap;
+
+use runner::lent::Run;
+use runner::machine::Move;
+use runner::vectors::damage::{Target, OF_BEGIN, OF_CANCEL, OF_STEP};
+use runner::vectors::moves::cases;
+use runner::vectors::stream::{hash, input, output};
+use runner::vectors::{answers, Answer, Player};
+
+/// As many cases as the stored file has.
+const COUNT: usize = 400;
+/// The seed of the stored file.
+const SEED: u64 = 1;
+/// Most bytes of the stored file.
+const MOST_BYTES: usize = 1_000_000;
+/// The answers of moves, and how often each stands in the file at least.
+const ANSWERS: [(u16, usize); 8] = [
+    (0, 2_000),
+    (20, 600),
+    (21, 100),
+    (22, 100),
+    (23, 100),
+    (24, 100),
+    (25, 100),
+    (26, 100),
+];
+/// How often each damage is answered 20, and not, at least.
+const LEAST: usize = 2;
+/// Damages that STEP, or any move, never answers with 20 if they stand alone.
+const HARMLESS: [Target; 5] = [
+    Target::Cells,
+    Target::State,
+    Target::Row,
+    Target::Old,
+    Target::Register,
+];
+
+#[test]
+fn all_answers_are_well_covered() {
+    let (cases, _) = cases(SEED, COUNT);
+    let mut counts: BTreeMap<u16, usize> = BTreeMap::new();
+    for (answer, _) in cases.iter().flat_map(answers) {
+        if let Answer::Moved(moved) = answer {
+            let number = moved.err().map_or(0, |refusal| refusal.number());
+            *counts.entry(number).or_default() += 1;
+        }
+    }
+    for (number, least) in ANSWERS {
+        assert!(counts[&number] >= least, "{number}: {counts:?}");
+    }
+    assert!(input(&cases).len() < MOST_BYTES);
+}
+
+#[test]
+fn every_target_is_met_by_every_move_that_uses_it() {
+    let (_, shown) = cases(SEED, COUNT);
+    let name = |chosen: Move| match chosen {
+        Move::Begin { .. } => "begin",
+        Move::Step { .. } => "step",
+        Move::Cancel { .. } => "cancel",
+    };
+    let mut damaged: BTreeMap<(&str, Target), usize> = BTreeMap::new();
+    let mut passed = damaged.clone();
+    for one in shown {
+        let number = one.answer.err().map(|refusal| refusal.number());
+        let counts = match number {
+            Some(20) => &mut damaged,
+            _ => &mut passed,
+        };
+        *counts.entry((name(one.chosen), one.target)).or_default() += 1;
+    }
+    let lists = [
+        ("begin", OF_BEGIN.as_slice()),
+        ("step", &OF_STEP),
+        ("cancel", &OF_CANCEL),
+    ];
+    for (name, targets) in lists {
+        for target in targets {
+            let counts = damaged.get(&(name, *target)).copied().unwrap_or(0);
+            let harmless = HARMLESS.contains(target) && (name, *target) != ("begin", Target::State);
+            assert!(harmless || counts >= LEAST, "{name} {target:?} {counts}");
+            let counts = passed.get(&(name, *target)).copied().unwrap_or(0);
+            let size = *target == Target::Size;
+            assert!(size || counts >= LEAST, "{name} {target:?} {counts}");
+        }
+    }
+}
+
+#[test]
+fn a_refused_move_changes_no_word() {
+    let (cases, _) = cases(SEED + 1, COUNT);
+    for case in &cases {
+        let mut before: Option<u64> = None;
+        let mut player = Player::open(&case.block, case.workers, case.sizes).1;
+        for operation in &case.operations {
+            before = before.or(Some(hash(&player.lent())));
+            match player.play(*operation) {
+                Some(Err(_)) => assert_eq!(before, Some(hash(&player.lent())), "{operation:?}"),
+                _ => before = None,
+            }
+        }
+    }
+}
+
+#[test]
+fn the_streams_follow_from_the_seed() {
+    let (first, _) = cases(SEED, 50);
+    let (again, _) = cases(SEED, 50);
+    assert_eq!(input(&first), input(&again));
+    assert_eq!(output(&first), output(&again));
+    assert_ne!(input(&first), input(&cases(SEED + 1, 50).0));
+    assert_eq!(input(&first).len() % 32, 0);
+}
+
+#[test]
+fn the_hash_sees_every_word() {
+    let sizes = runner::lent::Sizes::FIXED;
+    let zero = Run::zero(sizes);
+    let mut run = zero.clone();
+    run.head.seats[7].registers[7] = -1;
+    assert_ne!(hash(&run), hash(&zero));
+    let mut run = zero.clone();
+    run.olds[191] = 1;
+    assert_ne!(hash(&run), hash(&zero));
+    assert_eq!(
+        run.words().count(),
+        4 + 8 * 11 + 8192 + 2048 + 1024 + 1024 + 192
+    );
+}
