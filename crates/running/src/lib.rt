@@ -82,7 +82,16 @@ fn play_some(
 {
     let taken = read_some(chunk, left);
     let p = play_chunk(
-        s, block, plan, keys, cells, status, olds, chunk, taken, answers,
+        s,
+        block,
+        plan,
+        keys,
+        cells,
+        status,
+        olds,
+        chunk,
+        taken,
+        answers,
     );
     host::print(answers, p.length);
     let session = p.session;
@@ -110,7 +119,16 @@ fn play_input(
     let mut left = input;
     while 0 < left {
         let piece = play_some(
-            s, block, plan, keys, cells, status, olds, left, chunk, answers,
+            s,
+            block,
+            plan,
+            keys,
+            cells,
+            status,
+            olds,
+            left,
+            chunk,
+            answers,
         );
         s = piece.session;
         if piece.taken == 0 {
@@ -122,14 +140,7 @@ fn play_input(
 }
 
 // Prints the sheet's cells and receipts, or its refusal.
-fn close(
-    head: Head,
-    plan: &[u64],
-    keys: &[u64],
-    cells: &[i64],
-    status: &[u64],
-    olds: &[i64],
-) {
+fn close(head: Head, plan: &[u64], keys: &[u64], cells: &[i64], status: &[u64], olds: &[i64]) {
     let mut bytes = [0u8; SHEET];
     let mut text = [0u8; TEXT];
     match sheet(head, plan, keys, cells, status, olds, &mut bytes) {

@@ -31,7 +31,7 @@ fn read_next(buffer: &mut [u8], length: u64) -> usize {
 // Runs the next block with its moves in this buffer; answers whether there was one.
 fn run_in(file: &mut [u8], moves: &mut [u8]) -> bool {
     let length = next_length();
-    if file.len() as u64 < length {
+    if (file.len() as u64) < length {
         return false;
     }
     let n = read_next(file, length);

@@ -20,6 +20,9 @@ const DOUBLE: usize = 15;
 /// How many large blocks are run, how many blocks in every schedule, how many
 /// steps such a block takes at most, and how many of its schedules are taken.
 const LARGE_RUNS: usize = 3;
+const ROUND_BLOCKS: usize = 60;
+/// The numbers of workers of a round: each block is run on so many.
+const WORKERS: [usize; 4] = [1, 2, 5, 8];
 const SCHEDULE_BLOCKS: usize = 3;
 const MAX_SCHEDULE_STEPS: usize = 10;
 const MOST_SCHEDULES: usize = 100;
@@ -48,8 +51,9 @@ pub fn opened(seed: u64) -> Stream {
 }
 
 /// Cases of REGISTER: each block, then its moves. Small blocks of every theme
-/// with complete, incomplete, malformed and refused moves, large ones, and every
-/// schedule of a few blocks on two workers.
+/// with complete, incomplete, malformed and refused moves, large ones, a round in
+/// which each block is run on different numbers of workers, and every schedule
+/// of a few blocks on two workers.
 pub fn registered(seed: u64) -> Stream {
     let mut stream = Stream {
         input: Vec::new(),
@@ -62,6 +66,16 @@ pub fn registered(seed: u64) -> Stream {
         put(&mut stream.input, &case.input);
         stream.output.extend_from_slice(&case.output);
     }
+    let mut rng = Rng::new(seed);
+    for block in good_blocks(seed) {
+        for workers in WORKERS {
+            let moves = random_schedule(&mut rng, &block, workers);
+            put(&mut stream.input, &block);
+            put(&mut stream.input, moves.as_bytes());
+            let text = register(&block, moves.as_bytes());
+            stream.output.extend_from_slice(text.as_bytes());
+        }
+    }
     for block in schedule_blocks(seed) {
         for moves in schedules(&block) {
             put(&mut stream.input, &block);
@@ -71,6 +85,41 @@ pub fn registered(seed: u64) -> Stream {
         }
     }
     stream
+}
+
+/// Good blocks with calls.
+fn good_blocks(seed: u64) -> Vec<Vec<u8>> {
+    small_cases(seed, SMALL)
+        .into_iter()
+        .map(|case| case.block)
+        .filter(|block| open(block, MAX_WORKERS).is_ok_and(|opened| !opened.block.calls.is_empty()))
+        .take(ROUND_BLOCKS)
+        .collect()
+}
+
+/// A run to the end on so many workers, each accepted move chosen at random;
+/// one in twenty cancels a call. No move is refused, so nothing but the sheet
+/// is printed.
+fn random_schedule(rng: &mut Rng, block: &[u8], workers: usize) -> String {
+    let opened = open(block, MAX_WORKERS).expect("the block is accepted");
+    let calls = opened.block.calls.len();
+    let mut machine = Machine::new(&opened);
+    let mut moves = String::new();
+    while machine.receipts().is_none() {
+        let worker = rng.below(workers);
+        let next = match rng.below(20) {
+            0 => Move::Cancel { worker },
+            1..=9 => Move::Begin {
+                worker,
+                call: rng.below(calls),
+            },
+            _ => Move::Step { worker },
+        };
+        if machine.apply(next).is_ok() {
+            moves += &line(next);
+        }
+    }
+    moves
 }
 
 /// Good blocks of two or three short calls.
@@ -195,6 +244,18 @@ mod tests {
         }
         assert!(text.lines().filter(|line| line.starts_with('n')).count() > 100);
         assert!(blocks(1).iter().any(|block| block.len() == 65_536));
+    }
+
+    #[test]
+    fn every_number_of_workers_prints_one_sheet() {
+        let mut rng = Rng::new(1);
+        for block in good_blocks(1) {
+            let texts = WORKERS.map(|workers| {
+                let moves = random_schedule(&mut rng, &block, workers);
+                register(&block, moves.as_bytes())
+            });
+            assert!(texts.iter().all(|text| *text == texts[0]));
+        }
     }
 
     #[test]

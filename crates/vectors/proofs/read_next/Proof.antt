@@ -1,0 +1,45 @@
+-- `vectors::read_next` keeps to its buffer: the part that is lent is no longer than the whole. Assumes nothing.
+use mathlib.Core.Path.{sym}
+use native.Mathlib.Omega.{arith}
+use lib.Seq.{length-take-le}
+use borrow.Author.Needs.{needs}
+use Rattle.vectors.proofs.read_next.Statement.{statement}
+use Rattle.vectors.proofs.read_next.Tie as tie
+use Rattle.vectors.proofs.read_next.Reads as reads
+use Rattle.vectors.proofs.read_next.Lts as lts
+use Rattle.io.proofs.read_full.Reads as read-full-reads
+
+-- src/main.rt:26:44
+slice-relend-prefix-read-full : tie.Need-slice-relend-prefix-read-full
+slice-relend-prefix-read-full c = search needs
+
+-- src/main.rt:26:44
+slice-aggregate-read-full : tie.Need-slice-aggregate-read-full
+slice-aggregate-read-full c = sym (length-take-le _ _ (omega arith))
+
+-- src/main.rt:26:9
+read-full-requires : tie.Need-read-full-requires
+read-full-requires c κs = search needs
+
+-- src/main.rt:26:9
+same-length : tie.Need-same-length
+same-length c = search needs
+
+-- src/main.rt:26:9
+returns : tie.Need-returns
+returns c = search needs
+
+-- src/main.rt:24:1
+returns-2 : tie.Need-returns-2
+returns-2 c = search needs
+
+pub read-next-spec : {M : Type 1} → statement M
+read-next-spec =
+    tie.close
+    (tie.spec
+    slice-relend-prefix-read-full
+    slice-aggregate-read-full
+    read-full-requires
+    same-length
+    returns
+    returns-2)
