@@ -1,5 +1,6 @@
 // What the programs exchange with their host: the file block.bin and standard output.
 use libc::STDOUT_FILENO;
+ghost use Rattle.io.specs.Counts.{Counts};
 
 // The buffers of a run, and of a text of at most 256 rows of 1,024 bytes and the line before them.
 const PLAN: usize = 8192;
@@ -15,7 +16,9 @@ const OLDS: usize = 192;
 const TEXT: usize = 262400;
 
 // The bytes of block.bin in the current folder, as many as the buffer takes; a missing file has none. Answers how many.
-pub fn read_block_file(file: &mut [u8]) -> usize {
+pub fn read_block_file(file: &mut [u8]) -> usize
+    ensures { λ r. ⌜ Counts r (now (file .exit)) ⌝ }
+{
     let fd = os::open_read(b"block.bin");
     if fd < 0 {
         return 0;

@@ -5,6 +5,7 @@ mod entries;
 mod held;
 mod layout;
 mod lookup;
+pub mod numbers;
 mod perform;
 pub mod step;
 

@@ -11,6 +11,7 @@ use crate::make::make;
 use console::Line;
 use machine::Answer;
 use machine::Head;
+use moves::numbers::answer_number;
 use text::refused_line;
 ghost use mathlib.Core.Path.{_≡_};
 ghost use Prim.Native.Nat.{_+_, _*_, _<_, _≤_, min};
@@ -47,24 +48,6 @@ fn scan(line: Line, chunk: &[u8], from: usize, end: usize) -> Scanned
         at += 1;
     }
     Scanned { line: so_far, at }
-}
-
-// The number of an answer.
-fn answer_number(answer: Answer) -> u64
-    ensures { λ r. ⌜ r ≡ answerNumber answer ⌝ }
-{
-    match answer {
-        Answer::Accepted => 0,
-        Answer::Damaged => 20,
-        Answer::NoWorker => 21,
-        Answer::NoCall => 22,
-        Answer::WorkerBusy => 23,
-        Answer::NotWaiting => 24,
-        Answer::EarlierUnfinished => 25,
-        Answer::WorkerIdle => 26,
-        Answer::CallUnfinished => 27,
-        Answer::SheetTooLong => 28,
-    }
 }
 
 // The text of an answered move from a position on; an accepted move has none.

@@ -24,7 +24,7 @@ pub struct Lent {
     pub olds: usize,
 }
 
-pub fn nothing_lent() -> Lent {
+pub(crate) fn nothing_lent() -> Lent {
     let seat = Seat {
         call: 0,
         place: 0,
@@ -50,25 +50,25 @@ pub fn nothing_lent() -> Lent {
 }
 
 // The parts of a record, from 1 to 3.
-pub fn part_1(record: &[u8]) -> u64 {
+pub(crate) fn part_1(record: &[u8]) -> u64 {
     wire::get64(record, 8)
 }
 
-pub fn part_2(record: &[u8]) -> u64 {
+pub(crate) fn part_2(record: &[u8]) -> u64 {
     wire::get64(record, 16)
 }
 
-pub fn part_3(record: &[u8]) -> u64 {
+pub(crate) fn part_3(record: &[u8]) -> u64 {
     wire::get64(record, 24)
 }
 
-pub fn with_head(mut lent: Lent, head: Head) -> Lent {
+pub(crate) fn with_head(mut lent: Lent, head: Head) -> Lent {
     lent.head = head;
     lent
 }
 
 // Sixteen bytes of the block.
-pub fn put_bytes(record: &[u8], block: &mut [u8]) {
+pub(crate) fn put_bytes(record: &[u8], block: &mut [u8]) {
     let at = part_1(record) as usize;
     if block.len() <= at {
         return;
@@ -81,7 +81,7 @@ pub fn put_bytes(record: &[u8], block: &mut [u8]) {
 }
 
 // A word of a buffer, by the buffer's number: plan, keys, cells, status, olds.
-pub fn put_word(
+pub(crate) fn put_word(
     record: &[u8],
     plan: &mut [u64],
     keys: &mut [u64],
@@ -102,7 +102,7 @@ pub fn put_word(
 }
 
 // The lengths that are lent from now on: the block's, those of plan, keys and cells, or those of status and olds.
-pub fn lend(mut lent: Lent, record: &[u8]) -> Lent {
+pub(crate) fn lend(mut lent: Lent, record: &[u8]) -> Lent {
     let kind = wire::get64(record, 0);
     let first = part_1(record) as usize;
     let second = part_2(record) as usize;
@@ -166,7 +166,7 @@ fn with_damaged_seat(mut head: Head, w: usize, field: u64, v: u64) -> Head {
 }
 
 // A number of the head, or of a seat.
-pub fn damage(lent: Lent, record: &[u8]) -> Lent {
+pub(crate) fn damage(lent: Lent, record: &[u8]) -> Lent {
     let head = lent.head;
     let kind = wire::get64(record, 0);
     if kind == HEAD {

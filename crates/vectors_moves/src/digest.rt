@@ -68,7 +68,7 @@ fn head_words(head: Head) -> u64 {
 }
 
 // The head's workers, calls, cells, first, and by seat call, place, count and registers; then plan, keys, cells, status and olds.
-pub fn digest(
+pub(crate) fn digest(
     head: Head,
     plan: &[u64],
     keys: &[u64],

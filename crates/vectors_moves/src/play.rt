@@ -1,5 +1,4 @@
 // Openings and moves on the lent parts of the buffers.
-use crate::answer::answer_number;
 use crate::answer::number;
 use crate::answer::text;
 use crate::answer::verdict;
@@ -10,6 +9,7 @@ use crate::change::with_head;
 use crate::digest::digest;
 use machine::Head;
 use moves::Reply;
+use moves::numbers::answer_number;
 
 // Kinds of records; the fourth is CANCEL.
 const OPEN: u64 = 4;
@@ -137,7 +137,7 @@ fn act_on_two(
 }
 
 // The same on the part of the block and of all buffers that are lent. Nothing is done where one is longer than its buffer.
-pub fn play(
+pub(crate) fn play(
     lent: Lent,
     record: &[u8],
     block: &[u8],
