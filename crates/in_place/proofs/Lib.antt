@@ -1,0 +1,3 @@
+mod HeadLent
+mod LentMeets
+mod Passed
