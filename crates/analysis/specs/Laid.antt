@@ -1,10 +1,10 @@
 -- The block that a file holds, with the sets of its calls, and the layout that stands for it. Assumes nothing.
 use mathlib.Core.Path.{_≡_}
-use mathlib.Core.List.{List, [], _∷_, map}
-use mathlib.Core.Option.{Option, none, some}
+use mathlib.Core.List.{List, [], map}
+use mathlib.Core.Option.{Option, none}
 use Prim.Native.Nat.{ℕ}
 use lib.ListN.{getD}
-use Rattle.block.specs.Record.{Function, Cell, Block}
+use Rattle.block.specs.Record.{Function, Block}
 use Rattle.block.specs.Reader.{Read, accepted, refused, readBlock, emptyBlock}
 use Rattle.footprint.specs.Access.{Access}
 use Rattle.footprint.specs.Sets.{functionOf, setsOf}

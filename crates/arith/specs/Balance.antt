@@ -1,7 +1,7 @@
 -- The balance limit, over the list of all balances. Assumes nothing.
-use mathlib.Core.Bool.{Bool, true, false, _&&_}
+use mathlib.Core.Bool.{Bool, true, _&&_}
 use mathlib.Core.List.{List, [], _∷_}
-use Prim.Native.Nat.{ℕ, _-_, _^_}
+use Prim.Native.Nat.{_-_, _^_}
 use lib.IntN.{ℤ, pos, _+ℤ_}
 use lib.Signed.{leZ, nonNeg}
 

@@ -1,6 +1,6 @@
 -- The divisions of document 01, computed: "-7 by 2: -4; 7 by -2: -4; -2^63 by -1: outcome 4; by 0: 4". Assumes nothing.
 use mathlib.Core.Path.{_≡_, refl}
-use Prim.Native.Nat.{ℕ, _-_, _^_}
+use Prim.Native.Nat.{_-_, _^_}
 use lib.IntN.{pos, negsuc}
 use Rattle.arith.specs.Exact.{checked, addOf, subOf, mulOf, floorBy, divOf, signed, unsigned}
 use Rattle.arith.specs.declared.Checked.the-variants.{Value, Overflow, ZeroDivisor}

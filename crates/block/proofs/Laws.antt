@@ -1,19 +1,17 @@
 -- What the proofs of this crate cite: parts of lists, and signs. Assumes nothing.
-use mathlib.Core.Path.{_≡_, refl, sym, _∙_, ap}
-use mathlib.Core.Bool.{Bool, true, false}
+use mathlib.Core.Path.{_≡_, refl, sym, _∙_}
+use mathlib.Core.Bool.{true, false}
 use mathlib.Core.List.{List}
-use Prim.Native.Nat.{ℕ, suc, _+_, _*_, _-_, _/_, _^_, _<_, _≤_}
+use Prim.Native.Nat.{ℕ, _*_, _-_, _/_, _<_, _≤_}
 use native.Mathlib.Omega.{arith}
-use native.Mathlib.Nat.{sub-zero}
 use lib.IntN.{ℤ, pos, negsuc}
 use lib.ListN.{length, take, drop, getD, length-drop, drop-of-length-le}
-use lib.Dec.{leb, ltb}
-use lib.Seq.{take-all, drop-length, drop-drop, length-take-le}
+use lib.Seq.{take-all, drop-length, length-take-le}
 use lib.Signed.{ltZ, nonNeg}
-use borrow.Author.Tests.{ltb-true, ltb-false, leb-true, leb-false, le-leb, lt-leb}
+use borrow.Author.Tests.{ltb-true}
 use Rattle.wire.specs.Bytes.{readLe}
 use Rattle.wire.specs.Laws.{read-one}
-use Rattle.block.specs.Instruction.{decodeParts, decode, isValid, firstInvalid}
+use Rattle.block.specs.Instruction.{decodeParts, decode}
 
 -- The part from a position to the end is all that stands there.
 pub to-the-end : (s : List ℕ) (at : ℕ) → take (length s - at) (drop at s) ≡ drop at s

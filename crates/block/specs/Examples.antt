@@ -4,10 +4,10 @@ use mathlib.Core.List.{List, [], _∷_, map}
 use Prim.Native.Nat.{ℕ, _*_, _^_}
 use lib.IntN.{pos}
 use lib.ListN.{length}
-use Rattle.block.specs.Record.{Block, functionId}
+use Rattle.block.specs.Record.{functionId}
 use Rattle.block.specs.Reader.{Read, accepted, refused, readBlock}
 use Rattle.block.specs.Refusal.{numberOf, offsetOf}
-use Rattle.block.specs.Assemble.{text, joined, instr, SET, JEQ, function, cell, call, end}
+use Rattle.block.specs.Assemble.{text, joined, instr, SET, JEQ, function, call, end}
 use Rattle.block.specs.Worked.{P}
 use Rattle.block.specs.Computing.{computing}
 

@@ -1,6 +1,6 @@
 -- The parts of a key are those it was made from. Assumes nothing.
 use mathlib.Core.Path.{_≡_}
-use Prim.Native.Nat.{ℕ, _+_, _*_, _/_, _%_, _^_, _<_}
+use Prim.Native.Nat.{ℕ, _^_, _<_}
 use native.Mathlib.Omega.{arith}
 use Rattle.block.specs.Key.{keyOf, addressIn, fieldIn, aIn, bIn}
 

@@ -1,6 +1,6 @@
 -- The reader: a file's bytes to the block it holds, or the first refusal of 1 to 10. The rest of the file is carried along with
 -- its position. Assumes nothing.
-use mathlib.Core.Bool.{Bool, true, false, _&&_, _||_, not}
+use mathlib.Core.Bool.{Bool, true, _||_, not}
 use mathlib.Core.List.{List, [], _∷_, _++_, map}
 use Prim.Native.Nat.{ℕ, zero, suc, _+_, _-_, _*_, _/_}
 use lib.IntN.{ℤ}
@@ -14,7 +14,6 @@ use Rattle.block.specs.Limits.{maxBytes, maxFunctions, maxCells, maxCall
 use Rattle.block.specs.Key.{firstContract, isBalance}
 use Rattle.block.specs.Instruction.{instrBytes, firstInvalid}
 use Rattle.block.specs.Record.{Function, Cell, Block, functionId, headBytes, functionKind, cellKind, callKind, endKind, lengthAllowed, cellOf, cellAllowed, callOf}
-use Rattle.block.specs.declared.Call.{Call}
 use Rattle.block.specs.declared.CallBody.{CallBody}
 use Rattle.block.specs.declared.CallBody.the-variants.{InRange, OutOfRange}
 use Rattle.block.specs.declared.Refusal.{Refusal}

@@ -1,8 +1,8 @@
 -- "Block file": what the bodies of its records hold, and the block they make. Assumes nothing.
-use mathlib.Core.Bool.{Bool, true, false, _&&_, _||_, not}
-use mathlib.Core.List.{List, [], _∷_}
-use Prim.Native.Nat.{ℕ, zero, suc, _+_, _-_, _*_, _/_, _%_}
-use lib.IntN.{ℤ, pos, negsuc}
+use mathlib.Core.Bool.{Bool, _&&_, not}
+use mathlib.Core.List.{List}
+use Prim.Native.Nat.{ℕ, _+_, _-_, _*_, _%_}
+use lib.IntN.{ℤ, pos}
 use lib.Signed.{ltZ, nonNeg}
 use lib.Dec.{eqb, leb, ltb}
 use lib.ListN.{take, drop}

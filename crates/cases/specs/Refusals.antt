@@ -2,7 +2,7 @@
 use mathlib.Core.Path.{_≡_, refl}
 use mathlib.Core.List.{List, [], _∷_, _++_}
 use Prim.Native.Nat.{ℕ, zero, suc, _-_, _^_}
-use lib.IntN.{ℤ, pos, negsuc}
+use lib.IntN.{pos, negsuc}
 use Rattle.wire.specs.Bytes.{repeated}
 use Rattle.block.specs.Limits.{maxWorkers}
 use Rattle.block.specs.Refusal.{verdictNumber, verdictOffset}
@@ -10,7 +10,7 @@ use Rattle.machine.specs.Run.{Sizes}
 use Rattle.machine.specs.Opening.{Opened, openingOf}
 use Rattle.machine.specs.Run.{fixedSizes}
 use Rattle.console.specs.Computing as console
-use Rattle.block.specs.Assemble.{joined, times, instr, SET, THROW, JEQ, GET, recordOf, function, cell, call, callWith, end}
+use Rattle.block.specs.Assemble.{joined, times, instr, SET, THROW, JEQ, recordOf, function, cell, call, callWith, end}
 use Rattle.footprint.specs.Examples.{gets, keysBlock}
 
 -- The number and offset that answer an opening.

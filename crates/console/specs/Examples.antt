@@ -1,6 +1,6 @@
 -- REGISTER on block P, and the forms of a move line, computed. Assumes nothing.
 use mathlib.Core.Path.{_≡_, refl}
-use mathlib.Core.List.{List, [], _∷_, _++_}
+use mathlib.Core.List.{List, []}
 use Prim.Native.Nat.{ℕ}
 use Rattle.block.specs.Assemble.{text, joined}
 use Rattle.block.specs.Worked.{P}

@@ -1,10 +1,10 @@
 -- The program REGISTER as one function from the bytes of block.bin and of standard input to the bytes of standard output. Assumes nothing.
-use mathlib.Core.Bool.{Bool, true, false}
+use mathlib.Core.Bool.{true, false}
 use mathlib.Core.List.{List, [], _∷_, _++_}
 use mathlib.Core.Option.{Option, none, some}
 use Prim.Native.Nat.{ℕ, zero, suc, _+_, _-_, _*_, _^_}
 use lib.Dec.{eqb, ltb}
-use lib.ListN.{length, take}
+use lib.ListN.{take}
 use Rattle.arith.specs.Choice.{if_then_else_}
 use Rattle.wire.specs.Bytes.{repeated}
 use Rattle.block.specs.Limits.{maxCalls, maxKeys, maxWorkers}
@@ -16,7 +16,6 @@ use Rattle.machine.specs.Opening.{Opened, openingOf}
 use Rattle.machine.specs.Moves.{Moved, moveOf}
 use Rattle.block.specs.declared.Verdict.{Verdict}
 use Rattle.block.specs.declared.Verdict.the-variants as verdict
-use Rattle.machine.specs.declared.Answer.{Answer}
 use Rattle.sheet.specs.Sheet.{Closed, sheetOf}
 use Rattle.sheet.specs.declared.Closing.{Closing}
 use Rattle.sheet.specs.declared.Closing.the-variants.{Written, Refused}

@@ -1,11 +1,8 @@
 -- The sets and rows of block P, and of other small blocks, computed. Assumes nothing.
 use mathlib.Core.Path.{_≡_, refl}
-use mathlib.Core.Bool.{Bool, true, false}
 use mathlib.Core.List.{List, [], _∷_, _++_, map}
 use Prim.Native.Nat.{ℕ, zero, suc, _+_, _*_, _^_}
 use lib.IntN.{pos}
-use lib.ListN.{length}
-use Rattle.block.specs.Record.{Block}
 use Rattle.block.specs.Reader.{Read, accepted, refused, readBlock}
 use Rattle.block.specs.Refusal.{numberOf, offsetOf}
 use Rattle.block.specs.Assemble.{joined, GET, PUT, PAY, BAL, function, call, end}

@@ -1,7 +1,7 @@
 -- The published transaction rule: document 003, figure 1, over the instruction set of document 01. States are functions from keys to
 -- values; nothing here mentions a run, a step or a worker. Assumes nothing.
-use mathlib.Core.Bool.{Bool, true, false}
-use mathlib.Core.List.{List, [], _∷_, _++_, map}
+use mathlib.Core.Bool.{Bool}
+use mathlib.Core.List.{List, [], _∷_, map}
 use mathlib.Core.Option.{Option, none, some}
 use Prim.Native.Nat.{ℕ, zero, suc, _+_}
 use lib.IntN.{ℤ, pos, _+ℤ_, _-ℤ_}
@@ -15,7 +15,7 @@ use Rattle.arith.specs.declared.Checked.{Checked}
 use Rattle.arith.specs.declared.Checked.the-variants as checked
 use Rattle.block.specs.Key.{keyOf, accountBalance, contractBalance}
 use Rattle.block.specs.Instruction.{instrBytes, decode}
-use Rattle.block.specs.Record.{Function, Cell, Block, argument, codeAt}
+use Rattle.block.specs.Record.{Function, argument, codeAt}
 use Rattle.block.specs.declared.Call.{Call}
 use Rattle.block.specs.declared.Payee.{Payee}
 use Rattle.block.specs.declared.Payee.the-variants.{To, NoAccount}

@@ -1,12 +1,11 @@
 -- "The tally of demand 3 is fed the block, the number of workers and the list of moves, nothing else." Assumes nothing.
-use mathlib.Core.Bool.{Bool, true, false}
-use mathlib.Core.List.{List, [], _∷_, map}
+use mathlib.Core.Bool.{Bool}
+use mathlib.Core.List.{List, [], map}
 use Prim.Native.Nat.{ℕ}
 use lib.ListN.{length, getD}
 use Rattle.schedule.specs.Tally as tally
 use Rattle.schedule.specs.Tally.{Tally}
 use Rattle.schedule.specs.declared.Move.{Move}
-use Rattle.block.specs.Record.{Block}
 use Rattle.block.specs.Reader.{Read, accepted, refused, readBlock}
 use Rattle.footprint.specs.Access.{Access}
 use Rattle.footprint.specs.Sets.{setsOf}

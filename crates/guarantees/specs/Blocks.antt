@@ -1,7 +1,7 @@
 -- The blocks and moves of document 01's examples, besides block P. Assumes nothing.
 use mathlib.Core.List.{List, [], _∷_}
 use Prim.Native.Nat.{ℕ, _-_, _^_}
-use lib.IntN.{ℤ, pos, negsuc, negℤ}
+use lib.IntN.{ℤ, pos, negℤ}
 use Rattle.block.specs.Assemble.{text, joined, THROW, SET, MUL, DIV, PUT, function, cell, call, end}
 
 -- Divisions: -7 by 2 into field 1, 7 by -2 into field 2, -2^63 by -1, and 1 by 0. -2^63 is -2^31 times 2^16 times 2^16.

@@ -7,7 +7,6 @@ use lib.IntN.{ℤ}
 use lib.Dec.{ltb}
 use lib.ListN.{length, getD}
 use Rattle.wire.specs.Rows.{inRow}
-use Rattle.block.specs.Record.{Block}
 use Rattle.block.specs.declared.Call.{Call}
 use Rattle.block.specs.declared.Verdict.the-variants as verdict
 use Rattle.footprint.specs.Sets.{readSet, writeSet}

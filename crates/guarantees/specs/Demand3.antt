@@ -1,9 +1,8 @@
 -- Demand 3, sentence by sentence. Assumes nothing.
 use mathlib.Core.Path.{_≡_}
-use mathlib.Core.Bool.{Bool, true, false}
+use mathlib.Core.Bool.{true, false}
 use mathlib.Core.List.{List}
 use Prim.Native.Nat.{ℕ, _<_, _≤_}
-use lib.IntN.{ℤ}
 use lib.ListN.{length, getD}
 use Rattle.schedule.specs.Tally.{running, finished, holds, isFinished}
 use Rattle.schedule.specs.Confluence.{Forward}

@@ -1,16 +1,14 @@
 -- The joint check: document 01's starred examples, shown of the definitions that the contracts cite, by computation. Assumes nothing.
 use mathlib.Core.Path.{_≡_, refl}
 use mathlib.Core.Bool.{Bool, true, false}
-use mathlib.Core.List.{List, [], _∷_}
+use mathlib.Core.List.{List}
 use Prim.Native.Nat.{ℕ}
 use lib.IntN.{pos}
 use Rattle.wire.specs.Rows.{inRow}
-use Rattle.block.specs.Limits.{maxWorkers}
 use Rattle.machine.specs.Answer.{answerNumber}
-use Rattle.machine.specs.Run.{Run, rowIn}
+use Rattle.machine.specs.Run.{rowIn}
 use Rattle.machine.specs.Opening.{opened}
 use Rattle.machine.specs.Moves.{beginOf, stepOf}
-use Rattle.machine.specs.Run.{fixedSizes}
 use Rattle.console.specs.Register.{registerOf}
 use Rattle.console.specs.Computing as console
 use Rattle.block.specs.Assemble.{text, joined}

@@ -1,7 +1,6 @@
 -- Block P by four accounts that agree on it: its serial run, the published rule, a schedule on three workers with refused and cancelled
 -- moves, and the tally of that schedule. Assumes nothing.
 use mathlib.Core.Path.{_≡_, refl}
-use mathlib.Core.Bool.{Bool, true, false}
 use mathlib.Core.List.{List, [], _∷_, _++_, map}
 use Prim.Native.Nat.{ℕ, _+_, _*_, _^_}
 use lib.IntN.{ℤ, pos}

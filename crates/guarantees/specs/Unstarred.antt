@@ -1,9 +1,9 @@
 -- Document 01's unstarred examples and the rows of its 'Plausible errors', computed from the definitions. Assumes nothing.
 use mathlib.Core.Path.{_≡_, refl}
-use mathlib.Core.Bool.{Bool, true, false}
-use mathlib.Core.List.{List, [], _∷_, _++_}
-use Prim.Native.Nat.{ℕ, zero, suc}
-use lib.IntN.{ℤ, pos, negsuc}
+use mathlib.Core.Bool.{true, false}
+use mathlib.Core.List.{List, [], _∷_}
+use Prim.Native.Nat.{ℕ}
+use lib.IntN.{pos, negsuc}
 use Rattle.arith.specs.Exact.{divOf}
 use Rattle.arith.specs.declared.Checked.the-variants.{Value, Overflow, ZeroDivisor}
 use Rattle.block.specs.Limits.{maxWorkers}
@@ -14,7 +14,7 @@ use Rattle.sheet.specs.Sheet.{sheetBytes}
 use Rattle.machine.specs.Run.{fixedSizes}
 use Rattle.console.specs.Register.{registerOf}
 use Rattle.console.specs.Computing as console
-use Rattle.block.specs.Assemble.{text, joined, SET, GET, PUT, THROW, function, cell, call, end}
+use Rattle.block.specs.Assemble.{text, joined, SET, PUT, THROW, function, cell, call, end}
 use Rattle.block.specs.Worked.{P}
 use Rattle.machine.specs.Opening.{opened}
 use Rattle.guarantees.specs.Joint.{waits}

@@ -1,16 +1,14 @@
 -- The calls of a run as the theorem on schedules takes them: states are the lists of cells, read by cell number. Assumes nothing.
 use mathlib.Core.Path.{_≡_}
-use mathlib.Core.Bool.{Bool, true, false, _&&_, _||_, not}
+use mathlib.Core.Bool.{Bool, false, _&&_, _||_}
 use mathlib.Core.List.{List, [], _∷_}
 use Prim.Native.Nat.{ℕ, _+_, _*_, _%_, _≤_, _<_}
 use lib.IntN.{ℤ}
 use lib.Dec.{eqb}
 use lib.ListN.{length, drop}
-use Rattle.schedule.specs.Calls.{Calls, Course, more, done, Point}
+use Rattle.schedule.specs.Calls.{Calls, more, done, Point}
 use Rattle.block.specs.Limits.{maxCallKeys, maxKeys, maxCode}
 use Rattle.block.specs.Record.{headBytes, callBytes, callOf}
-use Rattle.block.specs.declared.Account.{Account}
-use Rattle.block.specs.declared.Contract.{Contract}
 use Rattle.block.specs.declared.Call.{Call}
 use Rattle.block.specs.declared.CallBody.{CallBody}
 use Rattle.block.specs.declared.CallBody.the-variants.{InRange, OutOfRange}

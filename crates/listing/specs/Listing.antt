@@ -11,7 +11,7 @@ use Rattle.block.specs.declared.Verdict.the-variants as verdict
 use Rattle.text.specs.Lines.{blockRefusedText, countsText, rowText}
 use Rattle.text.specs.Written.{Written}
 use Rattle.analysis.specs.Laid.{blockOf}
-use Rattle.machine.specs.Run.{Run, Sizes, rowIn}
+use Rattle.machine.specs.Run.{Sizes, rowIn}
 use Rattle.machine.specs.Opening.{Opened, openingOf}
 
 -- `w CALL` with its earlier conflicting calls, of the `left` calls from j on.

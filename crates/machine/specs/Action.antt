@@ -1,7 +1,7 @@
 -- One place of a call: what it does, as a function of the call and the registers alone. The cells it names are those of
 -- `entryAccesses` and `accesses`, in their order. Assumes nothing.
-use mathlib.Core.Bool.{Bool, true, false}
-use mathlib.Core.List.{List, [], _∷_}
+use mathlib.Core.Bool.{Bool}
+use mathlib.Core.List.{List}
 use Prim.Native.Nat.{ℕ, _+_}
 use lib.IntN.{ℤ, pos}
 use lib.Signed.{ltZ, nonNeg}
@@ -18,7 +18,6 @@ use Rattle.block.specs.declared.Payee.the-variants.{To, NoAccount}
 use Rattle.block.specs.declared.Instr.{Instr}
 use Rattle.block.specs.declared.Instr.the-variants.{Stop, Throw, Set, Arg, Sender, Value, Add, Sub, Mul, Div, Get, Put, Bal, Pay, Jeq, Jlt}
 use Rattle.footprint.specs.Access.{targetOf}
-use Rattle.machine.specs.Run.{zeroRegisters}
 use Rattle.machine.specs.declared.Action.{Action}
 use Rattle.machine.specs.declared.Next.{Next}
 use Rattle.machine.specs.declared.Next.the-variants.{Go, End, Load, Store, Transfer}

@@ -4,7 +4,6 @@ use Prim.Native.Nat.{ℕ, _-_}
 use lib.IntN.{ℤ}
 use lib.ListN.{length, set, take}
 use Rattle.machine.specs.Run.{Run, seatOf, withSeat}
-use Rattle.machine.specs.declared.Seat.{Seat}
 use Rattle.machine.specs.declared.Head.{Head}
 
 abbrev pub withHead : Run → Head → Run

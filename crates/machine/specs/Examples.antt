@@ -1,13 +1,11 @@
 -- The answers 20 to 26 of the three moves, computed on block P's run and on damaged ones. Assumes nothing.
 use mathlib.Core.Path.{_≡_, refl}
-use mathlib.Core.Bool.{Bool, true, false}
 use mathlib.Core.List.{List, [], _∷_, _++_, map}
-use Prim.Native.Nat.{ℕ, _+_, _-_, _*_, _^_}
-use lib.IntN.{ℤ, pos, negsuc}
-use lib.ListN.{take, drop, set}
-use Rattle.schedule.specs.declared.Move.{Move}
+use Prim.Native.Nat.{ℕ, _+_, _-_, _^_}
+use lib.IntN.{pos, negsuc}
+use lib.ListN.{take, set}
 use Rattle.schedule.specs.declared.Move.the-variants.{Begin, Step, Cancel}
-use Rattle.block.specs.Assemble.{text, joined, THROW, SET, PUT, function, cell, call, end}
+use Rattle.block.specs.Assemble.{text, joined, THROW, PUT, function, cell, call, end}
 use Rattle.block.specs.Worked.{P}
 use Rattle.machine.specs.Answer.{answerNumber}
 use Rattle.machine.specs.Run.{Run}

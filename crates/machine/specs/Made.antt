@@ -1,15 +1,14 @@
 -- A call of a block in a run that an opening has made: its view, its begin, and its steps to the end. Assumes nothing.
 use mathlib.Core.Path.{_≡_}
-use mathlib.Core.Bool.{Bool, true, false}
-use mathlib.Core.List.{List, [], _∷_, map}
+use mathlib.Core.Bool.{true}
+use mathlib.Core.List.{List, map}
 use Prim.Native.Nat.{ℕ, zero, suc, _≤_}
-use lib.IntN.{ℤ, pos}
+use lib.IntN.{ℤ}
 use lib.ListN.{length, getD}
 use Rattle.wire.specs.Bytes.{padded}
 use Rattle.block.specs.Limits.{maxKeys}
 use Rattle.block.specs.Record.{Function}
 use Rattle.block.specs.declared.Call.{Call}
-use Rattle.footprint.specs.Access.{Access}
 use Rattle.footprint.specs.Sets.{functionOf, setsOf}
 use Rattle.footprint.specs.Conflict.{member}
 use Rattle.footprint.specs.Table.{cellNumber}

@@ -9,7 +9,7 @@ use mathlib.Core.List.{List, [], _∷_}
 use Prim.Native.Nat.{ℕ, zero, suc, _+_, _-_, _*_}
 use lib.IntN.{ℤ}
 use lib.Dec.{eqb, leb, ltb}
-use lib.ListN.{length, getD, take, drop, set}
+use lib.ListN.{length, take, drop}
 use Rattle.arith.specs.Choice.{if_then_else_}
 use Rattle.wire.specs.Bytes.{stored}
 use Rattle.wire.specs.Rows.{inRow}
@@ -23,8 +23,6 @@ use Rattle.schedule.specs.declared.Move.the-variants.{Begin, Step, Cancel}
 use Rattle.machine.specs.Answer.{answerNumber}
 use Rattle.machine.specs.Run.{Run, sizesOf, largeEnough, seatOf, withSeat, idleSeat, zeroRegisters, planWord, entriesOf, rowIn, stateOf, isState, withState, withReceipt, waiting, running, finished}
 use Rattle.machine.specs.Step.{View, Local, Stepped, damaged, more, done, restorable, savedOf, restored, stepCall}
-use Rattle.machine.specs.declared.Seat.{Seat}
-use Rattle.machine.specs.declared.Head.{Head}
 use Rattle.machine.specs.declared.Answer.{Answer}
 use Rattle.machine.specs.declared.Answer.the-variants.{Accepted, Damaged, NoWorker, NoCall, WorkerBusy, NotWaiting, EarlierUnfinished, WorkerIdle}
 

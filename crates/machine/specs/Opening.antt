@@ -1,5 +1,5 @@
 -- The opening: what the head and every lent buffer hold afterwards, accepted or refused. Assumes nothing.
-use mathlib.Core.Bool.{Bool, true, false, _||_, not}
+use mathlib.Core.Bool.{_||_, not}
 use mathlib.Core.List.{List}
 use Prim.Native.Nat.{ℕ}
 use lib.IntN.{pos}
@@ -11,7 +11,7 @@ use Rattle.block.specs.declared.Refusal.{Refusal}
 use Rattle.block.specs.declared.Refusal.the-variants.{Workers, Buffers}
 use Rattle.block.specs.declared.Verdict.{Verdict}
 use Rattle.block.specs.declared.Verdict.the-variants as verdict
-use Rattle.footprint.specs.Plan.{Room, Prepared, preparedOf}
+use Rattle.footprint.specs.Plan.{Prepared, preparedOf}
 use Rattle.machine.specs.Run.{Run, Sizes, fixedSizes, largeEnough, idleSeat}
 use Rattle.machine.specs.declared.Head.{Head}
 

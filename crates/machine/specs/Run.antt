@@ -1,11 +1,10 @@
 -- The run that a caller lends: a head and five buffers, and where each thing stands in them. Assumes nothing.
-use mathlib.Core.Bool.{Bool, true, false, _&&_, _||_, not}
+use mathlib.Core.Bool.{Bool, _&&_}
 use mathlib.Core.List.{List, [], _∷_}
-use Prim.Native.Nat.{ℕ, _+_, _*_, _/_, _%_, _^_}
+use Prim.Native.Nat.{ℕ, _+_, _*_, _/_, _%_}
 use lib.IntN.{ℤ, pos}
-use lib.Dec.{eqb, leb, ltb}
+use lib.Dec.{eqb, leb}
 use lib.ListN.{length, getD, take, drop, set}
-use Rattle.wire.specs.Bytes.{repeated}
 use Rattle.block.specs.Limits.{maxCalls, maxCallKeys, maxKeys, maxWorkers}
 use Rattle.footprint.specs.Plan.{planWords, highWord, lowWord}
 use Rattle.machine.specs.declared.Seat.{Seat}

@@ -1,6 +1,6 @@
 -- "Serial run: calls 0, 1, .. each begun and stepped to its end." Assumes nothing.
 use mathlib.Core.Bool.{Bool, true, false}
-use mathlib.Core.List.{List, [], _∷_, _++_}
+use mathlib.Core.List.{List, [], _∷_}
 use Prim.Native.Nat.{ℕ, zero, suc, _+_, min}
 use lib.Dec.{eqb}
 use Rattle.arith.specs.Choice.{if_then_else_}

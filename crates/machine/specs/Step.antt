@@ -1,6 +1,6 @@
 -- "A call, step by step": one step of one call. It depends on the view of the call, its local state and the cells, and on nothing
 -- else. Assumes nothing.
-use mathlib.Core.Bool.{Bool, true, false, _&&_, _||_, not}
+use mathlib.Core.Bool.{Bool, true, _&&_, _||_, not}
 use mathlib.Core.List.{List, [], _∷_}
 use Prim.Native.Nat.{ℕ, _+_, _-_, _*_, _%_}
 use lib.IntN.{ℤ, pos, _+ℤ_, _-ℤ_}
@@ -9,7 +9,7 @@ use lib.Dec.{eqb, leb, ltb}
 use lib.ListN.{length, getD, drop, set}
 use Rattle.arith.specs.Choice.{if_then_else_}
 use Rattle.arith.specs.Balance.{largest}
-use Rattle.block.specs.Limits.{maxCallKeys, maxKeys, maxCode}
+use Rattle.block.specs.Limits.{maxCallKeys, maxKeys}
 use Rattle.block.specs.Key.{isBalance}
 use Rattle.block.specs.Instruction.{instrBytes, decode}
 use Rattle.block.specs.declared.Call.{Call}

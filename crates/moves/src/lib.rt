@@ -5,7 +5,6 @@ mod entries;
 mod held;
 mod layout;
 mod lookup;
-pub mod numbers;
 mod perform;
 pub mod step;
 

@@ -11,7 +11,7 @@ use crate::make::make;
 use console::Line;
 use machine::Answer;
 use machine::Head;
-use moves::numbers::answer_number;
+use machine::numbers::answer_number;
 use text::refused_line;
 ghost use mathlib.Core.Path.{_≡_};
 ghost use Prim.Native.Nat.{_+_, _*_, _<_, _≤_, min};

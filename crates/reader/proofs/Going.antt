@@ -4,7 +4,6 @@ use mathlib.Core.Path.{_≡_, refl, sym, _∙_, ap, subst}
 use mathlib.Core.List.{List, [], _∷_, _++_, map, append-assoc}
 use Prim.Native.Nat.{ℕ, zero, suc, _+_, _-_, _<_, _≤_}
 use native.Mathlib.Omega.{arith}
-use lib.IntN.{ℤ, pos}
 use lib.ListN.{length, drop, set, replicate, length-append, length-map}
 use lib.Seq.{set-append-seam}
 use borrow.Author.Tests.{lt-ltb, le-ltb}
@@ -14,10 +13,10 @@ use Rattle.block.specs.Record.{Function, Block, functionId}
 use Rattle.block.specs.Reader.{Read, Reading, accepted, refused, due, ended, emptyBlock, balances, readRecord, readFrom, readBlock}
 use Rattle.block.specs.ReaderLaws.{Reached, Right, right-record, reached-start}
 use Rattle.reader.specs.Layout.{table, layoutOf}
-use Rattle.reader.specs.Standing.{floorOf, Holds, Moved, Added, Answers, Turned, left, started}
+use Rattle.reader.specs.Standing.{floorOf, Holds, Moved, Turned, left, started}
 use Rattle.block.specs.declared.Refusal.the-variants.{InputTooLong}
 use Rattle.block.specs.declared.Verdict.{Verdict}
-use Rattle.block.specs.declared.Verdict.the-variants.{Accepted, Refused}
+use Rattle.block.specs.declared.Verdict.the-variants.{Accepted}
 use Rattle.reader.specs.declared.Progress.{Progress}
 use Rattle.reader.specs.declared.Turn.the-variants.{More, Function as AddFunction, End}
 

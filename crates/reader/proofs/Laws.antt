@@ -2,18 +2,14 @@
 use mathlib.Core.Path.{_≡_, refl, sym, _∙_, ap}
 use mathlib.Core.Bool.{Bool, true, false}
 use mathlib.Core.List.{List}
-use Prim.Native.Nat.{ℕ, suc, _+_, _*_, _-_, _/_, _^_, _<_, _≤_}
+use Prim.Native.Nat.{ℕ, suc, _+_, _*_, _-_, _^_, _<_, _≤_}
 use native.Mathlib.Omega.{arith}
 use native.Mathlib.Nat.{sub-zero}
-use lib.IntN.{ℤ, pos, negsuc}
-use lib.ListN.{length, take, drop, getD, length-drop, drop-of-length-le}
+use lib.ListN.{drop}
 use lib.Dec.{leb, ltb}
-use lib.Seq.{take-all, drop-length, drop-drop, length-take-le}
-use lib.Signed.{ltZ, nonNeg}
+use lib.Seq.{drop-drop}
 use borrow.Author.Tests.{ltb-true, ltb-false, leb-true, leb-false, le-leb, lt-leb}
-use Rattle.wire.specs.Bytes.{readLe}
-use Rattle.wire.specs.Laws.{read-one}
-use Rattle.block.specs.Instruction.{decodeParts, decode, isValid, firstInvalid}
+use Rattle.block.specs.Instruction.{decode, isValid, firstInvalid}
 
 -- A code is looked through from its first instruction on.
 invalid-here : (left index size : ℕ) (s : List ℕ) → isValid (decode index size s) ≡ false → firstInvalid (suc left) index size s ≡ index

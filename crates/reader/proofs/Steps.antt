@@ -1,18 +1,18 @@
 -- What a record makes of the reader's numbers: each way through a record's function is the definition's, and leaves numbers that
 -- stand for the definition's block. Assumes nothing.
 use mathlib.Core.Path.{_≡_, refl, sym, _∙_, ap}
-use mathlib.Core.Bool.{Bool, true, false, not, true≢false}
+use mathlib.Core.Bool.{Bool, true, false, true≢false}
 use mathlib.Core.List.{List, [], _∷_, _++_, map, map-append}
-use Prim.Native.Nat.{ℕ, zero, suc, _+_, _*_, _-_, _/_, _%_, _^_, _<_, _≤_}
+use Prim.Native.Nat.{ℕ, _+_, _*_, _-_, _/_, _^_, _<_, _≤_}
 use native.Mathlib.Omega.{arith}
 use native.Mathlib.Decide.{decLe}
 use lib.Dec.{eqb, leb, ltb}
-use lib.IntN.{ℤ, pos, negsuc, _+ℤ_, +ℤ-assoc, +ℤ-idl, +ℤ-idr}
+use lib.IntN.{ℤ, pos, _+ℤ_, +ℤ-assoc, +ℤ-idl, +ℤ-idr}
 use lib.ListN.{length, drop, length-append}
-use lib.Signed.{ltZ, leZ}
-use borrow.Author.Tests.{lt-ltb, le-ltb, le-leb, lt-leb, eq-eqb, ne-eqb, ltb-true, ltb-false, eqb-true}
+use lib.Signed.{ltZ}
+use borrow.Author.Tests.{lt-ltb, le-ltb, le-leb, lt-leb, eq-eqb, ltb-true, ltb-false, eqb-true}
 use Rattle.arith.specs.Choice.{if_then_else_}
-use Rattle.arith.specs.Balance.{total, largest}
+use Rattle.arith.specs.Balance.{total}
 use Rattle.arith.specs.Exact.{signed}
 use Rattle.arith.specs.Laws.{signed-low, signed-high}
 use Rattle.wire.specs.Bytes.{number, readLe}
@@ -21,9 +21,8 @@ use Rattle.block.specs.KeyLaws.{field-of}
 use Rattle.block.specs.Instruction.{firstInvalid}
 use Rattle.block.specs.Record.{Function, Cell, Block, functionId, cellOf, cellAllowed, callOf}
 use Rattle.block.specs.Reader.{rises, balances, readFunction, readCell, withCall, readCall}
-use Rattle.reader.specs.Standing.{floorOf, valueAllowed, Steady, Holds, Moved, Added, Turned, afterFunction, afterCell, afterCall}
+use Rattle.reader.specs.Standing.{floorOf, valueAllowed, Holds, Turned, afterFunction, afterCell, afterCall}
 use Rattle.block.specs.declared.Call.{Call}
-use Rattle.block.specs.declared.CallBody.{CallBody}
 use Rattle.block.specs.declared.CallBody.the-variants.{InRange, OutOfRange}
 use Rattle.block.specs.declared.Refusal.the-variants.{BeyondLimit, Field, Code, NotRising, Balances}
 use Rattle.block.specs.declared.Verdict.the-variants.{Refused}

@@ -7,8 +7,6 @@ use Rattle.block.specs.Limits.{maxFunctions}
 use Rattle.block.specs.Record.{Function, functionId}
 use Rattle.block.specs.Reader.{Read, accepted, refused}
 use Rattle.reader.specs.declared.Layout.{Layout}
-use Rattle.block.specs.declared.Refusal.{Refusal}
-use Rattle.block.specs.declared.Verdict.{Verdict}
 use Rattle.block.specs.declared.Verdict.the-variants.{Accepted, Refused}
 
 -- A number of each function, in a table that has room for all and is zero behind them.

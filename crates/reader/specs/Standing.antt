@@ -4,13 +4,13 @@ use mathlib.Core.Bool.{Bool, not}
 use mathlib.Core.List.{List, [], _∷_, _++_, map}
 use Prim.Native.Nat.{ℕ, _+_, _*_, _^_, _<_, _≤_}
 use lib.Dec.{eqb}
-use lib.IntN.{ℤ, pos}
+use lib.IntN.{pos}
 use lib.ListN.{length}
 use lib.Signed.{ltZ}
 use Rattle.arith.specs.Choice.{if_then_else_}
 use Rattle.arith.specs.Balance.{total}
 use Rattle.arith.specs.Exact.{signed}
-use Rattle.block.specs.Record.{Function, Block, functionId, headBytes, functionKind, cellKind, callKind}
+use Rattle.block.specs.Record.{Block, functionId, headBytes, functionKind, cellKind, callKind}
 use Rattle.block.specs.Reader.{Read, Reading, accepted, refused, due, ended, balances}
 use Rattle.reader.specs.Layout.{layoutOf}
 use Rattle.reader.specs.declared.Layout.{Layout}

@@ -1,8 +1,8 @@
 -- "Closing sheet": its bytes, and the refusals 20, 27 and 28. Assumes nothing.
-use mathlib.Core.Bool.{Bool, true, false, _&&_, _||_, not}
-use mathlib.Core.List.{List, [], _∷_, _++_}
+use mathlib.Core.Bool.{Bool, true, _&&_, _||_, not}
+use mathlib.Core.List.{List, [], _++_}
 use Prim.Native.Nat.{ℕ, zero, suc, _+_, _*_, _/_, _%_, _^_}
-use lib.IntN.{ℤ, pos}
+use lib.IntN.{ℤ}
 use lib.Signed.{nonNeg}
 use lib.Dec.{eqb, leb, ltb}
 use lib.ListN.{length, getD}
@@ -10,7 +10,7 @@ use Rattle.arith.specs.Choice.{if_then_else_}
 use Rattle.arith.specs.Exact.{unsigned}
 use Rattle.wire.specs.Bytes.{bytesOf, stored}
 use Rattle.block.specs.Limits.{maxCalls, maxCode, maxKeys}
-use Rattle.block.specs.Record.{cellKind, cellBytes, receiptKind, endKind}
+use Rattle.block.specs.Record.{cellKind, receiptKind, endKind}
 use Rattle.machine.specs.Answer.{answerNumber}
 use Rattle.machine.specs.Run.{Run, sizesOf, largeEnough, statusWord, stateOf, isState, finished}
 use Rattle.machine.specs.Action.{notPaid}

@@ -8,8 +8,8 @@ use crate::change::part_2;
 use crate::change::with_head;
 use crate::digest::digest;
 use machine::Head;
+use machine::numbers::answer_number;
 use moves::Reply;
-use moves::numbers::answer_number;
 
 // Kinds of records; the fourth is CANCEL.
 const OPEN: u64 = 4;

@@ -1,7 +1,7 @@
 -- Little-endian numbers in lists of bytes: one definition of reading and one of writing, for every width. Assumes nothing.
 use mathlib.Core.List.{List, [], _∷_, _++_}
 use Prim.Native.Nat.{ℕ, zero, suc, _+_, _-_, _*_, _/_, _%_}
-use lib.ListN.{length, take, drop, set, replicate}
+use lib.ListN.{length, drop, set, replicate}
 
 -- The number in the first k bytes, lowest byte first; a byte past the end counts as 0.
 unfoldable pub number : ℕ → List ℕ → ℕ

@@ -1,7 +1,7 @@
 -- `reader::read_block` meets its contract: its numbers and tables stand for the block read so far, and each turn is one of the definition. Assumes nothing.
 use borrow.Author.Needs.{needs}
 use native.Mathlib.Omega.{arith}
-use mathlib.Core.Path.{refl, ap, _∙_}
+use mathlib.Core.Path.{ap, _∙_}
 use Prim.Native.Nat.{_-_, _<_}
 use lib.ListN.{length, set, length-drop}
 use Rattle.wire.specs.Bytes.{repeated}

@@ -1,8 +1,7 @@
 -- `text::put_digits` meets its contract: the last digit stands behind those of the tenth part. Assumes nothing.
-use mathlib.Core.Path.{_≡_, refl, sym, subst, _∙_}
-use Prim.Native.Nat.{ℕ, _+_, _-_, _/_, _<_, _≤_}
+use mathlib.Core.Path.{subst}
+use Prim.Native.Nat.{ℕ, _+_, _-_, _/_, _<_}
 use native.Mathlib.Omega.{arith}
-use lib.ListN.{length-set}
 use borrow.Author.Needs.{needs}
 use Rattle.text.proofs.Laws.{digits-length, fewer, put-none, put-one, put-more}
 use borrow.Fn.Kinds.{In}

@@ -1,6 +1,5 @@
 -- `analysis::rows::add_entry` meets its contract: the flags say whether the second buffer is marked too. Assumes nothing.
 use borrow.Author.Needs.{needs}
-use mathlib.Core.Path.{refl}
 use borrow.Author.Tests.{le-leb, lt-leb}
 use Rattle.analysis.proofs.rows.add_entry.Statement.{statement}
 use Rattle.analysis.proofs.rows.add_entry.Tie as tie

@@ -1,6 +1,5 @@
 -- `digest::seats` ends behind the eighth seat. Nothing has to hold from turn to turn. Assumes nothing.
 use Prim.Native.Nat.{_-_}
-use lib.ListN.{length}
 use borrow.Author.Needs.{needs}
 use Rattle.vectors_moves.proofs.digest.seats.Statement.{statement}
 use Rattle.vectors_moves.proofs.digest.seats.Tie as tie

@@ -1,8 +1,8 @@
--- `moves::numbers::answer_number` meets its contract: each arm is a clause of the definition. Assumes nothing.
+-- `machine::numbers::answer_number` meets its contract: each arm is a clause of the definition. Assumes nothing.
 use borrow.Author.Needs.{needs}
 use Rattle.machine.specs.Answer.{answerNumber}
-use Rattle.moves.proofs.numbers.answer_number.Statement.{statement}
-use Rattle.moves.proofs.numbers.answer_number.Tie as tie
+use Rattle.machine.proofs.numbers.answer_number.Statement.{statement}
+use Rattle.machine.proofs.numbers.answer_number.Tie as tie
 
 enum-told : tie.Need-enum-told
 enum-told c = search needs

@@ -1,7 +1,7 @@
 // Document 01's numbers of answers.
-use machine::Answer;
+use crate::Answer;
 ghost use mathlib.Core.Path.{_≡_};
 ghost use Rattle.machine.specs.Answer.{answerNumber};
 
 // The number of an answer, 0 if the move is accepted.
 pub fn answer_number(answer: Answer) -> u64
