@@ -61,7 +61,7 @@ module _ (s : Sizes) (file : List ℕ) (workers : ℕ) (bytes : Bytes file) (aft
   -- ---- the table
 
   -- The keys in the opened run's buffer are the table of its block, which rises.
-  table-is : tableIn r₀ ≡ after .table
+  pub table-is : tableIn (openedIn s file workers) ≡ after .table
   table-is = ap₂ keysIn (ap (λ (h : Head). h .cells) (after .opened .head)) (after .opened .keys) ∙ keys-padded (s .keys) (after .table)
 
   rising : Rising (tableIn r₀)

@@ -12,7 +12,8 @@ use Rattle.machine.specs.Run.{Run, Sizes, seatOf, stateOf, statusWord}
 use Rattle.machine.specs.Opening.{openingOf}
 use Rattle.machine.specs.Step.{cellAt}
 use Rattle.machine.specs.Moves.{localOf, moveOf, answersOf}
-use Rattle.machine.specs.declared.Answer.the-variants.{Accepted}
+use Rattle.machine.specs.declared.Answer.the-variants.{Accepted, CallUnfinished}
+use Rattle.sheet.specs.Sheet.{sheetBytes, unwritten, written, sheetOf}
 use Rattle.guarantees.specs.BlockTally.{fileSets, stepsIn, tallyAfter, tallyAnswers}
 use Rattle.guarantees.specs.Agreement.{stateNumber, seatNumber, openedIn, behind, stepsSince, mayWrite, serially, finishedAlone, seriallyAfter, SameSheet}
 
@@ -43,6 +44,8 @@ pub record Closes (s : Sizes) (file : List ℕ) (workers : ℕ) (ms : List Move)
   pub cells : behind s file workers ms .cells ≡ serially s file workers .cells
   pub receipts : (c : ℕ) → c < length (fileSets file) → SameReceipt (behind s file workers ms) (serially s file workers) c
   pub sheet : SameSheet (behind s file workers ms) (serially s file workers)
+  -- It is written, or, where the output is too short, refused by 28: "20 .. (none after an opening and moves alone ..)".
+  pub written : (output : List ℕ) → sheetOf (behind s file workers ms) output ≡ written output (sheetBytes (serially s file workers))
 
 -- What holds "after every list of begin, step and cancel moves from that opening, refused ones included, in whatever order".
 pub record Demand3 (s : Sizes) (file : List ℕ) (workers : ℕ) (ms : List Move) : Type 0 where
@@ -73,6 +76,9 @@ pub record Demand3 (s : Sizes) (file : List ℕ) (workers : ℕ) (ms : List Move
       → Forwards s file workers ms
   -- ".. and no call takes over 66 steps from its last begin."
   pub bound : (c : ℕ) → c < length (fileSets file) → stepsSince file workers ms c ≤ 66
+  -- "27 sheet wanted with a call unfinished"
+  pub unfinished : (c : ℕ) → c < length (fileSets file) → isFinished (tallyAfter file workers ms .phase c) ≡ false
+      → (output : List ℕ) → sheetOf (behind s file workers ms) output ≡ unwritten output CallUnfinished
   -- "When all are finished, cells, receipts and the closing sheet that document 01 describes equal the serial ones byte for byte."
   pub close : ((c : ℕ) → c < length (fileSets file) → tallyAfter file workers ms .phase c ≡ finished) → Closes s file workers ms
 

@@ -21,7 +21,9 @@ use Rattle.machine.specs.Step.{cellAt}
 use Rattle.machine.specs.Moves.{moveOf}
 use Rattle.machine.specs.Serial.{serialRunOf}
 use Rattle.guarantees.specs.BlockTally.{fileSets, stepsIn, tallyAfter}
-use Rattle.guarantees.specs.Agreement.{stateNumber, seatNumber, behind, stepsSince, mayWrite, serially, finishedAlone, seriallyAfter}
+use Rattle.guarantees.specs.Agreement.{stateNumber, seatNumber, behind, stepsSince, mayWrite, serially, finishedAlone, seriallyAfter, SameSheet}
+use Rattle.guarantees.specs.Demand2.{Demand2}
+use Rattle.guarantees.specs.Demand2Proof.{demand-2}
 use Rattle.guarantees.specs.Demand3.{SameReceipt, Stands, Forwards, Closes, Demand3, Demand3Holds}
 use Rattle.guarantees.specs.RunMatches as matching
 use Rattle.guarantees.specs.AfterOpening.{AfterOpening, after-opening}
@@ -33,11 +35,12 @@ use Rattle.guarantees.specs.WriteSets.{calls-are, may-write}
 use Rattle.guarantees.specs.BySizes.{steps-by-sizes}
 use Rattle.guarantees.specs.MoveLists.{whole-move}
 use Rattle.guarantees.specs.SheetLaws.{same-sheet}
+use Rattle.guarantees.specs.SheetWritten.{unfinished-refused, serial-written}
 use Rattle.guarantees.specs.StandLaws.{accepted-number, state-of-phase, same-receipt, same-cells, seat-holds, local-is}
 use Rattle.guarantees.specs.BehindMoves.{StepsBySizes, theTally, theMachine, confluent, agreed, finished-closed, behind-matches, no-twenty, steps-in, tally-is, answers-are, since-is}
 
 module _ (s : Sizes) (file : List ℕ) (workers : ℕ) (bytes : Bytes file) (after : AfterOpening s file workers)
-    (sized : StepsBySizes s file workers) (ms : List Move) where
+    (sized : StepsBySizes s file workers) (rule : Demand2 s file workers) (ms : List Move) where
   abbrev n : ℕ
   n = callCount file
 
@@ -212,17 +215,21 @@ module _ (s : Sizes) (file : List ℕ) (workers : ℕ) (bytes : Bytes file) (aft
         ∙ ran-is Y laws s₀ good (λ i. true) (λ i j a b p d. refl)
         n (omega arith) .cells)))
 
+    close-sheet : SameSheet r (serially s file workers)
+    close-sheet =
+        same-sheet r (serially s file workers) (stands .sizes ∙ sym (stands-serially .sizes))
+        (stands .callCount ∙ sym (stands-serially .callCount)) (stands .cellCount ∙ sym (stands-serially .cellCount))
+        (stands .keys ∙ sym (stands-serially .keys)) close-cells
+        (λ c l. let z : r .head .calls ≡ n = stands .callCount in
+        let l′ : c < n = omega arith in receipts c l′ (all c l′))
+
     closes : Closes s file workers ms
     closes =
         record {
           cells = close-cells;
           receipts = λ c l. receipts c (known c l) (all c (known c l));
-          sheet =
-              same-sheet r (serially s file workers) (stands .sizes ∙ sym (stands-serially .sizes))
-              (stands .callCount ∙ sym (stands-serially .callCount)) (stands .cellCount ∙ sym (stands-serially .cellCount))
-              (stands .keys ∙ sym (stands-serially .keys)) close-cells
-              (λ c l. let z : r .head .calls ≡ n = stands .callCount in
-              let l′ : c < n = omega arith in receipts c l′ (all c l′));
+          sheet = close-sheet;
+          written = λ output. close-sheet output ∙ serial-written s file workers bytes after rule output;
         }
 
   demand : Demand3 s file workers ms
@@ -238,10 +245,12 @@ module _ (s : Sizes) (file : List ℕ) (workers : ℕ) (bytes : Bytes file) (aft
         running-calls = λ c k l e. running-call c k (known c l) (phased c (running k) e);
         progress = λ c l u. progress c (known c l) (sym (ap isFinished (phase-is c)) ∙ u);
         bound = λ c l. omega (arith, since-is s file workers bytes after sized ms c, conf .bounded c);
+        unfinished = λ c l. unfinished-refused s file workers after M r stands (tallyAfter file workers ms .phase) states c (known c l);
         close = λ all. closes (λ c l. phased c finished (all c (listed c l)));
       }
 
 -- After every list of moves from an accepted opening, in buffers of any sizes.
 pub demand-3 : Demand3Holds
 demand-3 s file workers bytes accepted ms =
-    demand s file workers bytes (after-opening s file workers bytes accepted) (steps-by-sizes s file workers bytes accepted) ms
+    demand s file workers bytes (after-opening s file workers bytes accepted) (steps-by-sizes s file workers bytes accepted)
+    (demand-2 s file workers bytes accepted) ms

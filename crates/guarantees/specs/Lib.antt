@@ -17,6 +17,7 @@ pub mod NextCells
 pub mod NextDay
 pub mod RuleSteps
 pub mod SerialRule
+pub mod ReceiptLaws
 pub mod EntryLaws
 pub mod RunMatches
 pub mod OpenedRuns
@@ -45,7 +46,10 @@ pub mod MoveLists
 pub mod SheetLaws
 pub mod BehindMoves
 pub mod StandLaws
+pub mod SheetWritten
 pub mod Demand3Proof
+pub mod RegisterByTally
+pub mod RegisterByTallyProof
 pub mod Blocks
 pub mod Joint
 pub mod Unstarred

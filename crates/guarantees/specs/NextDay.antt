@@ -50,7 +50,8 @@ valueIn table values k = cellAt values (cellNumber table k)
 -- ---- the sheet's records of cells
 
 -- The words of a table's key.
-words-at : (t ws : List ℕ) (i : ℕ) → i < length t → (keyHigh (keyWords t ++ ws) i ≡ highWord (getD t i 0)) × (keyLow (keyWords t ++ ws) i ≡ lowWord (getD t i 0))
+pub words-at : (t ws : List ℕ) (i : ℕ) → i < length t
+    → (keyHigh (keyWords t ++ ws) i ≡ highWord (getD t i 0)) × (keyLow (keyWords t ++ ws) i ≡ lowWord (getD t i 0))
 unfolding keyWords
 words-at [] ws i h = absurd (omega arith)
 words-at (k ∷ ks) ws zero h = (refl, refl)

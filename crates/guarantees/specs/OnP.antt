@@ -1,5 +1,5 @@
 -- Block P by four accounts that agree on it: its serial run, the published rule, a schedule on three workers with refused and cancelled
--- moves, and the tally of that schedule. Assumes nothing.
+-- moves, and the tally of that schedule; and what REGISTER prints of it by the tally. Assumes nothing.
 use mathlib.Core.Path.{_≡_, refl}
 use mathlib.Core.List.{List, [], _∷_, _++_, map}
 use Prim.Native.Nat.{ℕ, _+_, _*_, _^_}
@@ -20,10 +20,11 @@ use Rattle.console.specs.Text.{sheetText}
 use Rattle.console.specs.Computing as console
 use Rattle.block.specs.Assemble.{text, joined}
 use Rattle.block.specs.Worked.{P}
-use Rattle.console.specs.Examples.{printedP}
+use Rattle.console.specs.Examples.{movesP, printedP}
 use Rattle.machine.specs.Opening.{opened}
 use Rattle.footprint.specs.Rule.{Left, transactions, update, assignChecked, transfer, execute, executeAt, runBody, withInstr, bodyOf, settle, runFunction, transactionBy}
 use Rattle.guarantees.specs.BlockTally.{setsIn, tallyAnswers, stepsIn}
+use Rattle.guarantees.specs.RegisterByTally.{linesFrom, linesOf, movesOf, linesText, finishedBelow, registerByTally}
 
 -- The text of the sheet of a run whose calls are all finished.
 abbrev sheetLines : Run → List ℕ
@@ -66,11 +67,14 @@ pub record OnP : Type 0 where
   pub answered : answersOf P (opened P) schedule ≡ scheduleAnswers
   pub steps : map (stepsIn P maxWorkers) (0 ∷ 1 ∷ 2 ∷ []) ≡ 4 ∷ 4 ∷ 4 ∷ []
   pub tallied : tallyAnswers P maxWorkers schedule ≡ scheduleAnswers
+  -- REGISTER by the tally: on document 01's input, and on a refused move, a line in no such form and a last line without a line feed.
+  pub printed : registerByTally P (linesOf movesP) ≡ printedP
+  pub unfinished : registerByTally P (linesOf (text "b 0 1\nx\ns 3")) ≡ text "r 1 25\nr 2 0\nr 3 26\nr 0 27\n"
   -- Calls 0 and 1 alone, in block order: the first four cells of the table.
   pub alone : take 4 (serialRunOf (λ c. ltb c 2) P (opened P) .cells) ≡ pos 1 ∷ pos 0 ∷ pos 1 ∷ pos 1 ∷ []
 
 pub onP : OnP
-unfolding console.computing tally.put tally.blocked tally.refusal tally.answer tally.next tally.place tally.step tally.cancel tally.accept tally.move tally.afterFrom tally.answersFrom tally.after tally.answers text joined P printedP schedule scheduleAnswers ruleOn receipts valuesAfter setsIn transactions update assignChecked transfer execute executeAt runBody withInstr bodyOf settle runFunction transactionBy
+unfolding console.computing tally.put tally.blocked tally.refusal tally.answer tally.next tally.place tally.step tally.cancel tally.accept tally.move tally.afterFrom tally.answersFrom tally.after tally.answers text joined P movesP printedP schedule scheduleAnswers ruleOn receipts valuesAfter setsIn transactions update assignChecked transfer execute executeAt runBody withInstr bodyOf settle runFunction transactionBy linesFrom movesOf linesText finishedBelow registerByTally
 onP =
     record {
       serial = refl;
@@ -80,5 +84,7 @@ onP =
       answered = refl;
       steps = refl;
       tallied = refl;
+      printed = refl;
+      unfinished = refl;
       alone = refl;
     }

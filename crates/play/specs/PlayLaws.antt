@@ -29,7 +29,7 @@ withLine s l = record { number = s .number; line = l; run = s .run; output = s .
 
 -- What a session writes stands behind what was written before.
 module _ (block text : List ℕ) where
-  move-behind : (s : Session) (m : Option Move) → playMove block (behind text s) m ≡ behind text (playMove block s m)
+  pub move-behind : (s : Session) (m : Option Move) → playMove block (behind text s) m ≡ behind text (playMove block s m)
   unfolding playMove
   move-behind s none = rw (append-assoc text)
   move-behind s (some m) = rw (append-assoc text)
