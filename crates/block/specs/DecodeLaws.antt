@@ -1,13 +1,15 @@
 -- What an instruction keeps to that bytes decode to: its jump leads forward within the code, the field of its cell is no balance's, and
--- the numbers that a key is made of fit. Assumes nothing.
+-- the value that it sets and the numbers that a key is made of fit. Assumes nothing.
 use mathlib.Core.Path.{_≡_, refl}
 use mathlib.Core.Bool.{Bool, true, false, _&&_, _||_, not}
 use mathlib.Core.List.{List}
 use Prim.Native.Nat.{ℕ, _+_, _/_, _%_, _^_, _≤_, _<_}
 use native.Mathlib.Omega.{arith}
-use borrow.Author.Tests.{ltb-true, leb-true, eqb-false, not-true}
+use borrow.Author.Tests.{ltb-true, ltb-false, leb-true, eqb-false, not-true}
 use lib.Dec.{eqb, leb, ltb}
+use lib.IntN.{ℤ}
 use lib.ListN.{drop}
+use lib.Signed.{mag}
 use Rattle.arith.specs.Choice.{if_then_else_}
 use Rattle.arith.specs.ChoiceLaws.{if-all, both}
 use Rattle.arith.specs.Exact.{signed}
@@ -36,11 +38,11 @@ pub record CellFits (bound field : ℕ) (a b : Source) : Type 0 where
   pub first : SourceFits bound a
   pub second : SourceFits bound b
 
--- The numbers in an instruction of which a cell's key is made.
+-- The value that SET assigns, and the numbers in an instruction of which a cell's key is made.
 abbrev pub InstrFits : ℕ → Instr → Type 0
 InstrFits bound Stop = Unit {0}
 InstrFits bound Throw = Unit {0}
-InstrFits bound (Set x value) = Unit {0}
+InstrFits bound (Set x value) = mag value < 2 ^ 31
 InstrFits bound (Arg x k) = Unit {0}
 InstrFits bound (Sender x) = Unit {0}
 InstrFits bound (Value x) = Unit {0}
@@ -96,6 +98,12 @@ source-fits bound n w h =
     if-all (SourceFits bound) (eqb n 5) (λ e. tt) λ e.
     if-all (SourceFits bound) (eqb n 6) (λ e. h) (λ e. tt)
 
+-- "w read as signed"
+set-small : (w : ℕ) → mag (signed 32 w) < 2 ^ 31
+unfolding signed
+set-small w =
+    if-all (λ (z : ℤ). mag z < 2 ^ 31) (ltb w (2 ^ 31)) (ltb-true w (2 ^ 31)) (λ e. let h : 2 ^ 31 ≤ w = ltb-false w (2 ^ 31) e in omega arith)
+
 -- The rule of GET and PUT asks for a field above 0.
 field-above : (named rest : Bool) (field : ℕ) → (named && not (eqb field 0) && rest) ≡ true → 0 < field
 field-above named rest field e =
@@ -146,7 +154,7 @@ module _ (bound index size : ℕ) where
       if-all D (ltb op 2)
       (λ e. when-allowed (eqb x 0 && eqb y 0 && eqb z 0 && eqb w 0) (if eqb op 0 then Stop else Throw) λ t.
       if-all I (eqb op 0) (λ e. (tt, tt)) (λ e. (tt, tt))) λ e.
-      if-all D (eqb op 2) (λ e. when-allowed (isRegister x && eqb y 0 && eqb z 0) (Set x (signed 32 w)) (λ t. (tt, tt))) λ e.
+      if-all D (eqb op 2) (λ e. when-allowed (isRegister x && eqb y 0 && eqb z 0) (Set x (signed 32 w)) (λ t. (set-small w, tt))) λ e.
       if-all D (eqb op 3) (λ e. when-allowed (isRegister x && isArgument y && eqb z 0 && eqb w 0) (Arg x y) (λ t. (tt, tt))) λ e.
       if-all D (ltb op 6)
       (λ e. when-allowed (isRegister x && eqb y 0 && eqb z 0 && eqb w 0) (if eqb op 4 then Sender x else Value x) λ t.

@@ -12,6 +12,7 @@ pub mod AccessLaws
 pub mod SetsExact
 pub mod RunLaws
 pub mod RuleLimit
+pub mod FitLaws
 pub mod AlikeLaws
 pub mod SafeSets
 pub mod Exchange

@@ -1,21 +1,24 @@
--- The balance limit is kept by every call, whatever its outcome. Assumes nothing.
+-- What lasts where an amount moves between balances and where another cell takes a value is kept by every call, whatever its outcome: so the
+-- balance limit. Assumes nothing.
 use mathlib.Core.Path.{_≡_, refl, subst}
 use mathlib.Core.Bool.{Bool, true, false, _&&_}
 use mathlib.Core.List.{List}
-use Prim.Native.Nat.{ℕ, zero, suc, _+_, _*_, _<_, _≤_}
+use Prim.Native.Nat.{ℕ, zero, suc, _+_, _*_, _^_, _<_, _≤_}
 use native.Mathlib.Omega.{arith}
 use borrow.Author.Tests.{ltb-true, leb-true}
-use lib.Dec.{ltb, leb}
+use lib.Dec.{ltb, leb, lit<}
 use lib.ListN.{drop}
-use lib.Signed.{nonNeg}
+use lib.IntN.{ℤ, pos}
+use lib.Signed.{mag, ltZ, nonNeg}
 use Rattle.arith.specs.Choice.{if_then_else_}
 use Rattle.arith.specs.Exact.{signed}
+use Rattle.arith.specs.Laws.{signed-range}
 use Rattle.wire.specs.Bytes.{number, readLe}
 use Rattle.wire.specs.Laws.{number-lt}
-use Rattle.block.specs.Key.{firstContract, payeeOf}
+use Rattle.block.specs.Key.{firstContract, payeeOf, isBalance}
 use Rattle.block.specs.Instruction.{instrBytes, decode}
 use Rattle.block.specs.DecodeLaws.{Decodes}
-use Rattle.block.specs.Record.{Function, callOf}
+use Rattle.block.specs.Record.{Function, argument, callOf}
 use Rattle.block.specs.declared.Call.{Call}
 use Rattle.block.specs.declared.CallBody.the-variants.{InRange, OutOfRange}
 use Rattle.block.specs.declared.Payee.the-variants.{To, NoAccount}
@@ -25,11 +28,11 @@ use Rattle.block.specs.declared.Instr.{Instr}
 use Rattle.block.specs.declared.Instr.the-variants.{Stop, Throw, Set, Arg, Sender, Value, Add, Sub, Mul, Div, Get, Put, Bal, Pay, Jeq, Jlt}
 use Rattle.footprint.specs.Access.{sourceValue}
 use Rattle.footprint.specs.Sets.{functionOf}
-use Rattle.footprint.specs.AccessLaws.{Bytes, drop-bytes, take-bytes, InRanges, source-below, InstrSound, decode-fits}
-use Rattle.footprint.specs.LimitLaws.{limit-move, limit-other, cell-is-not}
+use Rattle.footprint.specs.AccessLaws.{Bytes, drop-bytes, take-bytes, InRanges, argument-below, source-below, InstrSound, decode-fits}
+use Rattle.footprint.specs.LimitLaws.{balanceKey, limit-move, limit-other, cell-is-not}
 use Rattle.footprint.specs.SetsExact.{instructionsOf}
-use Rattle.footprint.specs.RunLaws.{Every, every-map, Keeps, PayKeeps, transaction-keeps}
-use Rattle.footprint.specs.Rule.{State, withInstr, bodyOf, stateWithinLimit, transaction}
+use Rattle.footprint.specs.RunLaws.{Every, every-map, anyValue, Keeps, PayKeeps, transaction-keeps}
+use Rattle.footprint.specs.Rule.{State, update, credit, debit, withInstr, bodyOf, stateWithinLimit, transaction}
 
 -- ---- the ranges of a call
 
@@ -39,6 +42,7 @@ pub record CallFits (c : Call) : Type 0 where
   pub account : c .sender .0 < firstContract
   pub contract : firstContract ≤ c .contract .0
   pub value : nonNeg (c .value) ≡ true
+  pub small : mag (c .value) < 2 ^ 63
 
 -- A call that the reader lets pass has them.
 pub call-fits : (s : List ℕ) → Bytes s → (c : Call) → callOf s ≡ InRange c → CallFits c
@@ -88,6 +92,7 @@ call-fits s h c e = go account contract value refl refl refl e
           account = ltb-true (number 2 s) firstContract ea;
           contract = leb-true firstContract (readLe 2 s 2) eb;
           value = ev;
+          small = signed-range 64 (readLe 8 s 6) (lit< tt) (number-lt 8 (drop 6 s) (drop-bytes 6 s h));
         })
     go true true false ea eb ev f = other f
     go true false v ea eb ev f = other f
@@ -106,47 +111,57 @@ body-sound (suc left) index size s h =
     go (Valid i) f ih = (f, ih)
     go Invalid f ih = ih
 
+-- ---- what a call keeps
+
+-- A property of states that lasts where an amount moves between two balances and where another cell takes a value; and one of values, which
+-- every value of 64 bits has, and every value of such a state. A call keeps the first.
+module _ (R : ℤ → Type 0) (K : State → Type 0) (fit : (z : ℤ) → mag z < 2 ^ 63 → R z) (read : (σ : State) → K σ → (k : ℕ) → R (σ k))
+    (move : (σ : State) → K σ → (a b : ℕ) → a < 65536 → b < 65536 → (m : ℤ) → nonNeg m ≡ true → ltZ (σ (balanceKey a)) m ≡ false
+    → K (credit (debit σ (balanceKey a) m) (balanceKey b) m))
+    (other : (σ : State) → K σ → (k : ℕ) (v : ℤ) → isBalance k ≡ false → R v → K (update σ k v)) (c : Call) (fits : CallFits c) where
+  pay-keeps : (n : ℕ) → PayKeeps c K (payeeOf n)
+  unfolding payeeOf
+  pay-keeps n = go (ltb n firstContract) refl
+    where
+      go : (b : Bool) → ltb n firstContract ≡ b → PayKeeps c K (if b then To (record { 0 = n }) else NoAccount)
+      go true e = λ σ m s l holds. move σ holds (c .contract .0) n (fits .ranges .contract) (omega (arith, ltb-true n firstContract e)) m s l
+      go false e = tt
+
+  instr-keeps : (i : Instr) → InstrSound i → Keeps c R K i
+  instr-keeps Stop f = tt
+  instr-keeps Throw f = tt
+  instr-keeps (Set x v) f = fit v (omega arith)
+  instr-keeps (Arg x k) f = fit (pos (argument c k)) (omega (arith, argument-below c k (fits .ranges)))
+  instr-keeps (Sender x) f = fit (pos (c .sender .0)) (omega (arith, fits .ranges .sender))
+  instr-keeps (Value x) f = fit (c .value) (fits .small)
+  instr-keeps (Add x y z) f = tt
+  instr-keeps (Sub x y z) f = tt
+  instr-keeps (Mul x y z) f = tt
+  instr-keeps (Div x y z) f = tt
+  instr-keeps (Get x field a b) f = λ σ holds. read σ holds _
+  instr-keeps (Put x field a b) f =
+      λ σ v has holds. other σ holds _ v
+      (cell-is-not (c .contract .0) field (sourceValue c a) (sourceValue c b) (f .below) (source-below c a (fits .ranges) (f .first))
+      (source-below c b (fits .ranges) (f .second)) (λ e. omega (arith, f .above))) has
+  instr-keeps (Bal x) f = λ σ holds. read σ holds _
+  instr-keeps (Pay x target) f = pay-keeps (sourceValue c target)
+  instr-keeps (Jeq x y to) f = tt
+  instr-keeps (Jlt x y to) f = tt
+
+  pub call-keeps : (block : List ℕ) → Bytes block → (functions : List Function) (σ : State) → K σ → K (transaction block functions c σ .state)
+  call-keeps block h functions σ holds =
+      transaction-keeps c R fit K block σ holds (functionOf functions c)
+      (λ g e. move σ holds (c .sender .0) (c .contract .0) (fits .ranges .sender) (fits .ranges .contract) (c .value) (fits .value))
+      (λ g e. every-map InstrSound (Keeps c R K) instr-keeps (instructionsOf block g)
+      (body-sound (g .size) 0 (g .size) _
+      (take-bytes (instrBytes * g .size) (drop (g .start) block) (drop-bytes (g .start) block h))))
+
 -- ---- the limit
 
 abbrev pub Within : State → Type 0
 Within σ = stateWithinLimit σ ≡ true
 
-module _ (c : Call) (fits : CallFits c) where
-  pay-within : (n : ℕ) → PayKeeps c Within (payeeOf n)
-  unfolding payeeOf
-  pay-within n = go (ltb n firstContract) refl
-    where
-      go : (b : Bool) → ltb n firstContract ≡ b → PayKeeps c Within (if b then To (record { 0 = n }) else NoAccount)
-      go true e = λ σ m s l within. limit-move σ within (c .contract .0) n (fits .ranges .contract) (omega (arith, ltb-true n firstContract e)) m s l
-      go false e = tt
-
-  instr-within : (i : Instr) → InstrSound i → Keeps c Within i
-  instr-within Stop f = tt
-  instr-within Throw f = tt
-  instr-within (Set x v) f = tt
-  instr-within (Arg x k) f = tt
-  instr-within (Sender x) f = tt
-  instr-within (Value x) f = tt
-  instr-within (Add x y z) f = tt
-  instr-within (Sub x y z) f = tt
-  instr-within (Mul x y z) f = tt
-  instr-within (Div x y z) f = tt
-  instr-within (Get x field a b) f = tt
-  instr-within (Put x field a b) f =
-      λ σ v within. limit-other σ within _ v
-      (cell-is-not (c .contract .0) field (sourceValue c a) (sourceValue c b) (f .below) (source-below c a (fits .ranges) (f .first))
-      (source-below c b (fits .ranges) (f .second)) (λ e. omega (arith, f .above)))
-  instr-within (Bal x) f = tt
-  instr-within (Pay x target) f = pay-within (sourceValue c target)
-  instr-within (Jeq x y to) f = tt
-  instr-within (Jlt x y to) f = tt
-
-  -- A state within the limit is followed by one within the limit.
-  pub limit-kept : (block : List ℕ) → Bytes block → (functions : List Function) (σ : State) → stateWithinLimit σ ≡ true
-      → stateWithinLimit (transaction block functions c σ .state) ≡ true
-  limit-kept block h functions σ within =
-      transaction-keeps c Within block σ within (functionOf functions c)
-      (λ g e. limit-move σ within (c .sender .0) (c .contract .0) (fits .ranges .sender) (fits .ranges .contract) (c .value) (fits .value))
-      (λ g e. every-map InstrSound (Keeps c Within) instr-within (instructionsOf block g)
-      (body-sound (g .size) 0 (g .size) _
-      (take-bytes (instrBytes * g .size) (drop (g .start) block) (drop-bytes (g .start) block h))))
+-- A state within the limit is followed by one within the limit.
+pub limit-kept : (c : Call) → CallFits c → (block : List ℕ) → Bytes block → (functions : List Function) (σ : State) → stateWithinLimit σ ≡ true
+    → stateWithinLimit (transaction block functions c σ .state) ≡ true
+limit-kept = call-keeps anyValue Within (λ z h. tt) (λ σ within k. tt) limit-move (λ σ within k v e any. limit-other σ within k v e)

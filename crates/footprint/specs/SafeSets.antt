@@ -24,7 +24,7 @@ use Rattle.footprint.specs.Sets.{functionOf, setsOf, readSet, writeSet}
 use Rattle.footprint.specs.Conflict.{member}
 use Rattle.footprint.specs.SetsExact.{readBy, paidTo, writtenBy, someOf, instructionsOf, isRead, isWritten, reads-exact, writes-exact}
 use Rattle.footprint.specs.LimitLaws.{update-same, update-other, limit-balance}
-use Rattle.footprint.specs.RunLaws.{Every, every-map, none-passes, Keeps, PayKeeps, transaction-keeps}
+use Rattle.footprint.specs.RunLaws.{Every, every-map, none-passes, anyValue, Keeps, PayKeeps, transaction-keeps}
 use Rattle.footprint.specs.RuleLimit.{CallFits}
 use Rattle.footprint.specs.AlikeLaws.{Alike, LeftAlike, ReadsIn, transaction-alike}
 use Rattle.footprint.specs.Rule.{State, Left, update, credit, debit, stateWithinLimit, transaction}
@@ -75,7 +75,7 @@ module _ (c : Call) (k : ℕ) (v : ℤ) where
   pay-frame (To account) e f = λ σ m s l h. move-other σ (contractBalance (c .contract)) (accountBalance account) m k e f ∙ h
   pay-frame NoAccount e f = tt
 
-  instr-frame : (i : Instr) → writtenBy c k i ≡ false → Keeps c (Stays k v) i
+  instr-frame : (i : Instr) → writtenBy c k i ≡ false → Keeps c anyValue (Stays k v) i
   unfolding writtenBy
   instr-frame Stop e = tt
   instr-frame Throw e = tt
@@ -87,9 +87,9 @@ module _ (c : Call) (k : ℕ) (v : ℤ) where
   instr-frame (Sub x y z) e = tt
   instr-frame (Mul x y z) e = tt
   instr-frame (Div x y z) e = tt
-  instr-frame (Get x field a b) e = tt
-  instr-frame (Put x field a b) e = λ σ w h. update-other σ (cellKey c field a b) w k (eqb-false k (cellKey c field a b) e) ∙ h
-  instr-frame (Bal x) e = tt
+  instr-frame (Get x field a b) e = λ σ h. tt
+  instr-frame (Put x field a b) e = λ σ w any h. update-other σ (cellKey c field a b) w k (eqb-false k (cellKey c field a b) e) ∙ h
+  instr-frame (Bal x) e = λ σ h. tt
   instr-frame (Pay x target) e =
       let both = neither (eqb k (contractBalance (c .contract))) (paidTo k (targetOf c target)) e in
       pay-frame (targetOf c target) (both .0) (both .1)
@@ -107,7 +107,7 @@ entry-frame σ j l m s k e = go (ltZ (pos 0) m) refl e
 module _ (block : List ℕ) (c : Call) (fits : CallFits c) where
   function-frame : (σ : State) (k : ℕ) (f : Option Function) → isWritten block c k f ≡ false → (g : Function) → f ≡ some g
       → (credit (debit σ (accountBalance (c .sender)) (c .value)) (contractBalance (c .contract)) (c .value) k ≡ σ k)
-      × Every (Keeps c (Stays k (σ k))) (instructionsOf block g)
+      × Every (Keeps c anyValue (Stays k (σ k))) (instructionsOf block g)
   unfolding isWritten
   function-frame σ k f e g s =
       let both =
@@ -115,7 +115,7 @@ module _ (block : List ℕ) (c : Call) (fits : CallFits c) where
       (someOf (writtenBy c k) (instructionsOf block g)) (rw s at e)
       in (
         entry-frame σ (accountBalance (c .sender)) (contractBalance (c .contract)) (c .value) (fits .value) k (both .0),
-        every-map (λ i. writtenBy c k i ≡ false) (Keeps c (Stays k (σ k))) (instr-frame c k (σ k)) (instructionsOf block g)
+        every-map (λ i. writtenBy c k i ≡ false) (Keeps c anyValue (Stays k (σ k))) (instr-frame c k (σ k)) (instructionsOf block g)
             (none-passes (writtenBy c k) (instructionsOf block g) (both .1)),
       )
 
@@ -194,7 +194,7 @@ safe-sets block functions c fits =
     record {
       frame = λ σ k e.
           let known = function-frame block c fits σ k f (sym (writes-exact block functions c k) ∙ e) in
-          transaction-keeps c (Stays k (σ k)) block σ refl f (λ g s l. known g s .0) (λ g s. known g s .1);
+          transaction-keeps c anyValue (λ z h. tt) (Stays k (σ k)) block σ refl f (λ g s l. known g s .0) (λ g s. known g s .1);
       same = λ σ τ wσ wτ alike.
           let known = function-same block c fits σ τ wσ wτ f (λ k e. alike k (reads-exact block functions c k ∙ e)) in
           transaction-alike (λ k. σ k ≡ τ k) c block σ τ (λ k e. e) f (λ g s. known g s .0) (λ g s. known g s .1);

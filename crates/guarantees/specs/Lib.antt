@@ -50,6 +50,7 @@ pub mod SheetWritten
 pub mod Demand3Proof
 pub mod RegisterByTally
 pub mod RegisterByTallyProof
+pub mod ClosedOpens
 pub mod Blocks
 pub mod Joint
 pub mod Unstarred
