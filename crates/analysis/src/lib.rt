@@ -12,7 +12,7 @@ use block::limits::MAX_CALLS;
 use block::limits::MAX_KEYS;
 use collect::call_keys;
 use collect::opening_keys;
-use plan::PLAN_WORDS;
+use footprint::layout::PLAN_WORDS;
 use plan::opening_values;
 use plan::plan_calls;
 use reader::Layout;
@@ -68,7 +68,7 @@ fn refused(why: Refusal) -> Prepared
 }
 
 // Whether buffers of these lengths hold the plan, the keys and the values of every block that keeps the limits.
-pub fn room_enough(plan: usize, keys: usize, cells: usize) -> bool
+fn room_enough(plan: usize, keys: usize, cells: usize) -> bool
     ensures { λ r. ⌜ r ≡ roomEnough (roomOf plan keys cells) ⌝ }
 {
     if plan < MAX_CALLS * PLAN_WORDS {

@@ -2,7 +2,6 @@
 use crate::Sets;
 use crate::collect::call_code;
 use crate::collect::call_sets;
-use crate::rows::FLAGS;
 use crate::rows::add_call;
 use crate::rows::row_for;
 use crate::table::cell_number;
@@ -13,6 +12,10 @@ use block::part::short;
 use block::record::CELL_BYTES;
 use block::record::HEAD_BYTES;
 use block::record::high_of;
+use footprint::layout::FIRST_ENTRY;
+use footprint::layout::FLAGS;
+use footprint::layout::PLAN_WORDS;
+use footprint::layout::ROW;
 use reader::Layout;
 ghost use mathlib.Core.Path.{_≡_};
 ghost use mathlib.Core.List.{List, [], _∷_, map};
@@ -29,13 +32,6 @@ ghost use Rattle.analysis.specs.KeyTable.{keysIn, cellPlace, Sorted};
 ghost use Rattle.analysis.specs.Laid.{Laid, TableOf, blockOf, allSets, setsAt, functionAt};
 ghost use Rattle.analysis.specs.Masks.{touches, writes, maskWords, maskRowWords, addCallWords, entryWords, AllListed};
 ghost use Rattle.analysis.specs.Planned.{Fitting, wordsOfCall, callWords};
-
-// A call has 32 words of the plan: the start of its code, the code's length plus 1, the number of its entries, the entries, its row, and 0.
-pub(crate) const PLAN_WORDS: usize = 32;
-
-const ENTRIES_AT: usize = 3;
-
-const ROW_AT: usize = 27;
 
 // "2, opening cell: key 12, value 8": where the value stands in the body.
 const VALUE_AT: usize = 12;
@@ -88,8 +84,8 @@ fn put_call(
     plan[at] = start;
     plan[at + 1] = size;
     plan[at + 2] = count;
-    put_entries(plan, at + ENTRIES_AT, words);
-    let behind = at + ROW_AT;
+    put_entries(plan, at + FIRST_ENTRY, words);
+    let behind = at + ROW;
     plan[behind] = row[0];
     plan[behind + 1] = row[1];
     plan[behind + 2] = row[2];

@@ -1,5 +1,7 @@
 // A call's row of earlier conflicting calls, from masks kept per cell: which calls so far touch it, and which write it.
 use block::limits::MAX_CALL_KEYS;
+use footprint::layout::FLAGS;
+use footprint::layout::WRITES;
 ghost use mathlib.Core.Path.{_≡_};
 ghost use Prim.Native.Nat.{_+_, _*_, _≤_, _<_};
 ghost use lib.ListN.{length, take};
@@ -10,11 +12,6 @@ ghost use Rattle.analysis.specs.Masks.{cellOf, touches, writes, rowWords
 const ROW_WORDS: usize = 4;
 
 const WORD_BITS: usize = 64;
-
-// An entry word is a cell number times FLAGS, plus its flags; those from WRITES on have the one for a cell that is written.
-pub(crate) const FLAGS: u64 = 4;
-
-const WRITES: u64 = 2;
 
 // A cell's row in one of the buffers.
 fn row_at(masks: &[u64], cell: usize) -> [u64; 4]

@@ -25,7 +25,9 @@ pub const CALL_KIND: usize = 3;
 
 pub const END_KIND: usize = 4;
 
-// The length of an instruction, of what stands before a function's code, of the longest function, of a cell and of a call.
+pub const RECEIPT_KIND: usize = 5;
+
+// The length of an instruction, of what stands before a function's code, of the longest function, of a cell, of a call and of a receipt.
 pub const INSTR_BYTES: usize = 8;
 
 pub const FUNCTION_BYTES: usize = 4;
@@ -36,10 +38,12 @@ pub const CELL_BYTES: usize = 20;
 
 pub const CALL_BYTES: usize = 30;
 
-// The place values of the parts of a key's first word.
-const ADDRESS_BASE: u64 = 281474976710656;
+pub const RECEIPT_BYTES: usize = 4;
 
-const FIELD_BASE: u64 = 4294967296;
+// The place values of address and field in a key's first word, above a.
+pub const ADDRESS_BASE: u64 = 281474976710656;
+
+pub const FIELD_BASE: u64 = 4294967296;
 
 // "contract addresses 32768 to 65535"
 pub const FIRST_CONTRACT: u16 = 32768;

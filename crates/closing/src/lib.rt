@@ -6,14 +6,14 @@ use block::limits::MAX_CALLS;
 use block::limits::MAX_KEYS;
 use block::record::CELL_BYTES;
 use block::record::HEAD_BYTES;
+use block::record::RECEIPT_BYTES;
 use machine::Answer;
 use machine::Head;
-use records::RECEIPT_BYTES;
+use machine::layout::large_enough;
 use records::put_sheet;
 use sheet::Closing;
 use tests::all_finished;
 use tests::balances_allowed;
-use tests::large_enough;
 use tests::receipts_allowed;
 use tests::states_allowed;
 ghost use mathlib.Core.Path.{_≡_};
@@ -85,7 +85,14 @@ pub fn sheet(
 {
     let calls = head.calls;
     let count = head.cells;
-    if !large_enough(plan, keys, cells, status, olds) {
+    let large = large_enough(
+        plan.len(),
+        keys.len(),
+        cells.len(),
+        status.len(),
+        olds.len(),
+    );
+    if !large {
         return Closing::Refused(Answer::Damaged);
     }
     if MAX_CALLS < calls {

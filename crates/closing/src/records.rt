@@ -1,12 +1,16 @@
 // The records of a closing sheet, each stored at its place of the output.
-use crate::tests::COUNT;
-use crate::tests::KEY_WORDS;
-use crate::tests::OUTCOME;
 use crate::tests::status_word;
+use block::record::ADDRESS_BASE;
 use block::record::CELL_BYTES;
 use block::record::CELL_KIND;
 use block::record::END_KIND;
+use block::record::FIELD_BASE;
 use block::record::HEAD_BYTES;
+use block::record::RECEIPT_BYTES;
+use block::record::RECEIPT_KIND;
+use footprint::layout::KEY_WORDS;
+use machine::layout::COUNT;
+use machine::layout::OUTCOME;
 ghost use mathlib.Core.Path.{_≡_};
 ghost use mathlib.Core.List.{_++_};
 ghost use Prim.Native.Nat.{_+_, _*_, _≤_, _<_, _^_};
@@ -16,16 +20,6 @@ ghost use Rattle.block.specs.Limits.{maxCalls, maxKeys};
 ghost use Rattle.block.specs.Record.{cellKind};
 ghost use Rattle.sheet.specs.Sheet.{recordOf, keyBytes, cellRecords, receiptRecords};
 ghost use Rattle.closing.specs.Length.{cellRecord, receiptRecord, sheetParts};
-
-// The kind of a receipt, and the length of its body: "outcome 2, count 2".
-const RECEIPT_KIND: usize = 5;
-
-pub(crate) const RECEIPT_BYTES: usize = 4;
-
-// The place values of address and field in a key's first word.
-const ADDRESS_BASE: u64 = 281474976710656;
-
-const FIELD_BASE: u64 = 4294967296;
 
 // The head of a record: "length (2 bytes, of the body), kind (2)".
 fn put_head(output: &mut [u8], at: usize, size: usize, kind: usize)

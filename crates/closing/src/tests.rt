@@ -1,65 +1,27 @@
 // The tests of a closing sheet. Each loop counts down, as its definition does.
 use block::limits::MAX_CODE;
+use block::record::FIELD_BASE;
+use footprint::layout::KEY_WORDS;
+use machine::layout::COUNT;
+use machine::layout::FINISHED;
+use machine::layout::OUTCOME;
+use machine::layout::STATE;
+use machine::layout::STATUS_WORDS;
 ghost use mathlib.Core.Path.{_≡_};
 ghost use mathlib.Core.Bool.{_&&_, _||_, not};
 ghost use Prim.Native.Nat.{_/_, _%_, _^_, _<_, _≤_};
 ghost use lib.Dec.{eqb, leb};
-ghost use lib.ListN.{length};
 ghost use lib.Signed.{nonNeg};
 ghost use Rattle.block.specs.Limits.{maxCalls, maxCode, maxKeys};
-ghost use Rattle.machine.specs.Run.{largeEnough, statusWord, statusWords};
+ghost use Rattle.machine.specs.Run.{statusWord, statusWords};
 ghost use Rattle.machine.specs.Action.{notPaid};
 ghost use Rattle.sheet.specs.Sheet.{statesAllowed, allFinished, receiptsAllowed, balancesAllowed};
-
-// "the fixed size for the limits above", of each lent buffer.
-const PLAN_SIZE: usize = 8192;
-
-const KEYS_SIZE: usize = 2048;
-
-const CELLS_SIZE: usize = 1024;
-
-const STATUS_SIZE: usize = 1024;
-
-const OLDS_SIZE: usize = 192;
-
-// A call has four words of the status: its state, its outcome and its count stand in the first three.
-const STATUS_WORDS: usize = 4;
-
-const STATE: usize = 0;
-
-pub(crate) const OUTCOME: usize = 1;
-
-pub(crate) const COUNT: usize = 2;
-
-// The state of a finished call, which is the last of the three.
-const FINISHED: u64 = 2;
 
 // The last of the outcomes.
 const NOT_PAID: u64 = 5;
 
-// A cell's key has two words. In the first the field stands above 32 bits and has 16 itself.
-pub(crate) const KEY_WORDS: usize = 2;
-
-const FIELD_BASE: u64 = 4294967296;
-
+// A field has 16 bits.
 const FIELDS: u64 = 65536;
-
-// 20: "a lent buffer .. shorter than the fixed size"
-pub(crate) fn large_enough(
-    plan: &[u64],
-    keys: &[u64],
-    cells: &[i64],
-    status: &[u64],
-    olds: &[i64],
-) -> bool
-    ensures { λ r. ⌜ r ≡ largeEnough (record { plan = length (now (plan .entry)); keys = length (now (keys .entry)); cells = length (now (cells .entry)); status = length (now (status .entry)); olds = length (now (olds .entry)) }) ⌝ }
-{
-    (PLAN_SIZE <= plan.len())
-        & (KEYS_SIZE <= keys.len())
-        & (CELLS_SIZE <= cells.len())
-        & (STATUS_SIZE <= status.len())
-        & (OLDS_SIZE <= olds.len())
-}
 
 // A word of a call's status.
 pub(crate) fn status_word(status: &[u64], call: usize, k: usize) -> u64

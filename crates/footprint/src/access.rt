@@ -5,17 +5,14 @@ use block::Call;
 use block::Instr;
 use block::Payee;
 use block::Source;
+use block::record::ADDRESS_BASE;
+use block::record::FIELD_BASE;
 use block::record::argument;
 use block::record::payee_of;
 ghost use mathlib.Core.Path.{_≡_};
 ghost use Rattle.block.specs.Key.{keyOf};
 ghost use Rattle.footprint.specs.Access.{accesses, cellKey, entryAccesses, payAccesses, sourceValue};
 ghost use Rattle.footprint.specs.Uses.{noUse, useOf, usesOf};
-
-// The place values of field and address in a key's high word, above a.
-const FIELD_PLACE: u64 = 4294967296;
-
-const ADDRESS_PLACE: u64 = 281474976710656;
 
 // The number that a source gives in a call: 32 bits hold it.
 fn source_word(c: Call, s: Source) -> u32
@@ -42,7 +39,7 @@ fn key_use(address: u16, field: u16, a: u32, b: u32, reads: bool, writes: bool) 
     ensures { λ r. ⌜ r ≡ useOf (record { key = keyOf address field a b; reads = reads; writes = writes }) ⌝ }
 {
     KeyUse {
-        high: address as u64 * ADDRESS_PLACE + field as u64 * FIELD_PLACE + a as u64,
+        high: address as u64 * ADDRESS_BASE + field as u64 * FIELD_BASE + a as u64,
         low: b as u64,
         reads,
         writes,

@@ -1,5 +1,6 @@
 // The read and write sets of calls, the table of all keys, and the rows of earlier conflicting calls.
 pub mod access;
+pub mod layout;
 
 // A key in two words, and how it is used.
 pub struct KeyUse {

@@ -1,18 +1,13 @@
 // What the programs exchange with their host: the file block.bin and standard output.
 use libc::STDOUT_FILENO;
+use machine::layout::CELLS_SIZE;
+use machine::layout::KEYS_SIZE;
+use machine::layout::OLDS_SIZE;
+use machine::layout::PLAN_SIZE;
+use machine::layout::STATUS_SIZE;
 ghost use Rattle.io.specs.Counts.{Counts};
 
-// The buffers of a run, and of a text of at most 256 rows of 1,024 bytes and the line before them.
-const PLAN: usize = 8192;
-
-const KEYS: usize = 2048;
-
-const CELLS: usize = 1024;
-
-const STATUS: usize = 1024;
-
-const OLDS: usize = 192;
-
+// The longest text: 256 rows of 1,024 bytes and the line before them.
 const TEXT: usize = 262400;
 
 // The bytes of block.bin in the current folder, as many as the buffer takes; a missing file has none. Answers how many.
@@ -37,11 +32,11 @@ pub fn print(text: &[u8], n: usize) {
 
 // Writes the listing of the file's first n bytes.
 pub fn print_listing(file: &[u8], n: usize) {
-    let mut plan = [0u64; PLAN];
-    let mut keys = [0u64; KEYS];
-    let mut cells = [0i64; CELLS];
-    let mut status = [0u64; STATUS];
-    let mut olds = [0i64; OLDS];
+    let mut plan = [0u64; PLAN_SIZE];
+    let mut keys = [0u64; KEYS_SIZE];
+    let mut cells = [0i64; CELLS_SIZE];
+    let mut status = [0u64; STATUS_SIZE];
+    let mut olds = [0i64; OLDS_SIZE];
     let mut text = [0u8; TEXT];
     if n <= file.len() {
         let length = listing::list(

@@ -4,6 +4,8 @@ use block::limits::MAX_CALLS;
 use block::limits::MAX_WORKERS;
 use block::numbers::number_of;
 use block::numbers::offset_of;
+use footprint::layout::PLAN_WORDS;
+use footprint::layout::ROW;
 use text::block_refused_line;
 use text::counts_line;
 use text::row_line;
@@ -15,17 +17,12 @@ ghost use Rattle.text.specs.Written.{Written};
 ghost use Rattle.opening.specs.Opened.{sizesFor};
 ghost use Rattle.listing.specs.Listing.{rowWords, rowsText, listingText, Listed};
 
-// A call has 32 words of the plan, and its row begins at the word 27.
-const PLAN_WORDS: usize = 32;
-
-const ROW_PLACE: usize = 27;
-
 // A call's row in the plan; words past its end count as 0.
 fn row_in(plan: &[u64], call: usize) -> [u64; 4]
     requires { ⌜ call < maxCalls ⌝ }
     ensures { λ r. ⌜ r ≡ rowWords (now (plan .entry)) call ⌝ }
 {
-    let at = PLAN_WORDS * call + ROW_PLACE;
+    let at = PLAN_WORDS * call + ROW;
     [
         wire::word(plan, at),
         wire::word(plan, at + 1),

@@ -1,4 +1,5 @@
 // The run of a block: its opening, the moves of its workers, and the serial run.
+pub mod layout;
 pub mod numbers;
 
 // A worker's seat: the call it holds, as its number plus 1, or 0 for none; the call's place (0 at its entry, p + 1 at

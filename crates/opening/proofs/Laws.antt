@@ -1,15 +1,15 @@
 -- What `open` answers, over plain values: the tests before the block is read, and a block that is prepared or refused. Assumes nothing.
 use mathlib.Core.Path.{_≡_, refl, sym, ap, _∙_}
-use mathlib.Core.Bool.{Bool, true, false, _&&_, _||_, not}
+use mathlib.Core.Bool.{Bool, true, false, _||_, not}
 use mathlib.Core.List.{List}
-use Prim.Native.Nat.{ℕ, _*_}
+use Prim.Native.Nat.{ℕ}
 use native.Mathlib.Omega.{arith}
-use lib.Dec.{eqb, leb, ltb}
+use lib.Dec.{eqb, ltb}
 use lib.IntN.{ℤ, pos}
 use lib.ListN.{length}
 use Rattle.arith.specs.Choice.{if_then_else_}
 use Rattle.wire.specs.Bytes.{repeated}
-use Rattle.block.specs.Limits.{maxCalls, maxCallKeys, maxWorkers}
+use Rattle.block.specs.Limits.{maxWorkers}
 use Rattle.block.specs.Reader as reading
 use Rattle.block.specs.Reader.{Read, readBlock}
 use Rattle.block.specs.Record.{Block}
@@ -24,26 +24,11 @@ use Rattle.analysis.specs.declared.Prepared.{Prepared}
 use Rattle.analysis.specs.Preparing.{preparing, roomOf}
 use Rattle.machine.specs.Opening as machine
 use Rattle.machine.specs.Opening.{headOf, refusedRun, openPrepared, openingOf}
-use Rattle.machine.specs.Run.{Sizes, statusWords, largeEnough}
+use Rattle.machine.specs.Run.{Sizes, largeEnough}
 use Rattle.opening.specs.declared.Opened.{Opened}
 use Rattle.opening.specs.Opened.{sizesFor, opening, testedFor, openedBy, noneOf}
 
 -- ---- the tests before the block is read
-
-twice : (b : Bool) → not (not b) ≡ b
-twice true = refl
-twice false = refl
-
--- The sizes are large enough by one test that fails where three of them are not, and one for each of the others.
-pub large-by : (s : Sizes) (room short status olds : Bool) → room ≡ roomEnough (roomOf (s .plan) (s .keys) (s .cells)) → not room ≡ short
-    → leb (maxCalls * statusWords) (s .status) ≡ status → leb (maxWorkers * maxCallKeys) (s .olds) ≡ olds
-    → (not short && status && olds) ≡ largeEnough s
-unfolding roomEnough largeEnough
-large-by s room short status olds e f g h =
-    let first : not short ≡ roomEnough (roomOf (s .plan) (s .keys) (s .cells)) = ap not (sym f) ∙ twice room ∙ e in
-    ap (λ (b : Bool). b && status && olds) first
-    ∙ ap (λ (b : Bool). roomEnough (roomOf (s .plan) (s .keys) (s .cells)) && b && olds) (sym g)
-    ∙ ap (λ (b : Bool). roomEnough (roomOf (s .plan) (s .keys) (s .cells)) && leb (maxCalls * statusWords) (s .status) && b) (sym h)
 
 abbrev by-tests : Bool → Bool → Verdict
 by-tests large workers = if not large then verdict.Refused Buffers else if workers then verdict.Refused Workers else verdict.Accepted

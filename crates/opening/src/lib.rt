@@ -2,21 +2,16 @@
 use analysis::Prepared;
 use block::Refusal;
 use block::Verdict;
-use block::limits::MAX_CALL_KEYS;
-use block::limits::MAX_CALLS;
 use block::limits::MAX_WORKERS;
 use machine::Head;
 use machine::Seat;
+use machine::layout::large_enough;
 ghost use mathlib.Core.Path.{_≡_};
 ghost use lib.IntN.{pos};
 ghost use lib.ListN.{length};
 ghost use Rattle.wire.specs.Bytes.{repeated};
 ghost use Rattle.machine.specs.Opening.{headOf, openingOf};
-ghost use Rattle.machine.specs.Run.{largeEnough};
 ghost use Rattle.opening.specs.Opened.{sizesFor, opening, testedFor, openedBy, noneOf};
-
-// A call has 4 words of the status.
-const STATUS_WORDS: usize = 4;
 
 // What a block is opened to: its verdict, and the head of its run, all zero if it is refused.
 pub struct Opened {
@@ -65,19 +60,6 @@ fn answered(p: Prepared, workers: usize) -> Opened
             head: idle_head(workers, p.calls, p.cells, p.first),
         },
     }
-}
-
-// Whether buffers of these lengths hold what the limits allow.
-fn large_enough(plan: usize, keys: usize, cells: usize, status: usize, olds: usize) -> bool
-    ensures { λ r. ⌜ r ≡ largeEnough (sizesFor plan keys cells status olds) ⌝ }
-{
-    if !analysis::room_enough(plan, keys, cells) {
-        return false;
-    }
-    if status < MAX_CALLS * STATUS_WORDS {
-        return false;
-    }
-    MAX_WORKERS * MAX_CALL_KEYS <= olds
 }
 
 // The refusals that come before the block is read: 20 and 13.

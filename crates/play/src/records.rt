@@ -3,6 +3,7 @@ use crate::Reading;
 use crate::input::at_most;
 use block::record::CELL_KIND;
 use block::record::HEAD_BYTES;
+use block::record::RECEIPT_KIND;
 use text::cell_line;
 use text::receipt_line;
 ghost use Prim.Native.Nat.{_^_, _<_};
@@ -10,9 +11,6 @@ ghost use lib.ListN.{length, take, drop};
 ghost use Rattle.text.specs.Written.{Written};
 ghost use Rattle.console.specs.Text.{cellLine, receiptLine, sheetText};
 ghost use Rattle.play.specs.Printed.{Within, Printed};
-
-// The kind of a receipt.
-const RECEIPT_KIND: usize = 5;
 
 // The line of a cell, from the body of its record on.
 fn put_cell(sheet: &[u8], body: usize, out: &mut [u8], from: u32) -> usize

@@ -8,6 +8,11 @@ use closing::sheet;
 use console::Line;
 use libc::STDIN_FILENO;
 use machine::Head;
+use machine::layout::CELLS_SIZE;
+use machine::layout::KEYS_SIZE;
+use machine::layout::OLDS_SIZE;
+use machine::layout::PLAN_SIZE;
+use machine::layout::STATUS_SIZE;
 use play::Session;
 use play::input::answer_line;
 use play::input::play_chunk;
@@ -21,17 +26,7 @@ const CHUNK: usize = 4096;
 
 const ANSWERS: usize = 180224;
 
-// The buffers of a run, of the longest sheet, and of its text: at most 57 bytes for a cell and 12 for a receipt.
-const PLAN: usize = 8192;
-
-const KEYS: usize = 2048;
-
-const CELLS: usize = 1024;
-
-const STATUS: usize = 1024;
-
-const OLDS: usize = 192;
-
+// The longest sheet, and its text: at most 57 bytes for a cell and 12 for a receipt.
 const SHEET: usize = 26628;
 
 const TEXT: usize = 65536;
@@ -184,11 +179,11 @@ fn print_refusal(why: Refusal) {
 
 // The file's first n bytes as a block: its refusal, or its run with at most `input` bytes of standard input. Answers whether it was run.
 pub fn run(file: &[u8], n: usize, input: u64) -> bool {
-    let mut plan = [0u64; PLAN];
-    let mut keys = [0u64; KEYS];
-    let mut cells = [0i64; CELLS];
-    let mut status = [0u64; STATUS];
-    let mut olds = [0i64; OLDS];
+    let mut plan = [0u64; PLAN_SIZE];
+    let mut keys = [0u64; KEYS_SIZE];
+    let mut cells = [0i64; CELLS_SIZE];
+    let mut status = [0u64; STATUS_SIZE];
+    let mut olds = [0i64; OLDS_SIZE];
     let mut chunk = [0u8; CHUNK];
     let mut answers = [0u8; ANSWERS];
     if n <= file.len() {
