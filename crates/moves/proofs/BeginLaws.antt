@@ -3,7 +3,8 @@ use mathlib.Core.Path.{_≡_, refl, sym, _∙_}
 use mathlib.Core.Bool.{Bool, true, false, not}
 use mathlib.Core.List.{List}
 use Prim.Native.Nat.{ℕ, _+_, _*_, _≤_, _<_}
-use borrow.Author.Tests.{eq-eqb, ne-eqb, lt-ltb, le-ltb, le-leb, lt-leb}
+use native.Mathlib.Omega.{arith}
+use borrow.Author.Tests.{eq-eqb, ne-eqb, lt-ltb, le-ltb, le-leb, lt-leb, leb-false, ltb-false}
 use lib.Dec.{eqb, leb, ltb}
 use lib.IntN.{ℤ}
 use lib.ListN.{set}
@@ -18,7 +19,7 @@ use Rattle.machine.specs.declared.Seat.{Seat}
 use Rattle.machine.specs.declared.Answer.{Answer}
 use Rattle.machine.specs.declared.Answer.the-variants.{Accepted, Damaged, NoCall, WorkerBusy, NotWaiting, EarlierUnfinished}
 use Rattle.moves.specs.Lent.{lent, moved}
-use Rattle.moves.specs.Tests.{behind, workerTested, earlierOf, FewKeys}
+use Rattle.moves.specs.Tests.{behind, workerTested, headTested, earlierOf, FewKeys}
 use Rattle.moves.specs.declared.Tested.{Tested}
 use Rattle.moves.specs.declared.Tested.the-variants.{Passed, Refused}
 use Rattle.moves.specs.declared.Earlier.{Earlier}
@@ -42,51 +43,90 @@ few-counted f h = rw f at h
 
 -- ---- what the head tells
 
--- What is left behind the tests of the worker, from the number of calls and the seat's entry.
-abbrev beginNext : Run → ℕ → ℕ → ℕ → ℕ → Moved
-beginNext r w c calls busy =
-    if ltb maxCalls calls
-    then stay r Damaged
-    else if leb calls c
-    then stay r NoCall
-    else if ltb calls busy
-    then stay r Damaged
-    else if not (eqb busy 0)
-    then stay r WorkerBusy
-    else beginChecked r w c
+module _ (calls busy c : ℕ) where
+  pub head-many : maxCalls < calls → Refused Damaged ≡ headTested calls busy c
+  unfolding headTested
+  head-many l = simp (lt-ltb maxCalls calls l)
+
+  module _ (few : calls ≤ maxCalls) where
+    pub head-past : calls ≤ c → Refused NoCall ≡ headTested calls busy c
+    unfolding headTested
+    head-past l = simp (le-ltb maxCalls calls few, le-leb calls c l)
+
+    module _ (own : c < calls) where
+      pub head-lost : calls < busy → Refused Damaged ≡ headTested calls busy c
+      unfolding headTested
+      head-lost l = simp (le-ltb maxCalls calls few, lt-leb calls c own, lt-ltb calls busy l)
+
+      pub head-busy : busy ≤ calls → (busy ≡ 0 → ⊥) → Refused WorkerBusy ≡ headTested calls busy c
+      unfolding headTested
+      head-busy l some = simp (le-ltb maxCalls calls few, lt-leb calls c own, le-ltb calls busy l, ne-eqb busy 0 some)
+
+      pub head-free : busy ≤ calls → busy ≡ 0 → Passed ≡ headTested calls busy c
+      unfolding headTested
+      head-free l e = simp (le-ltb maxCalls calls few, lt-leb calls c own, le-ltb calls busy l, eq-eqb busy 0 e)
+
+  -- BEGIN goes on behind these tests.
+  head-behind : {A : Type 0} (stop : Answer → A) (on : A)
+      → behind (headTested calls busy c) stop on
+      ≡ (if ltb maxCalls calls
+      then stop Damaged
+      else if leb calls c
+      then stop NoCall
+      else if ltb calls busy
+      then stop Damaged
+      else if not (eqb busy 0)
+      then stop WorkerBusy
+      else on)
+  unfolding headTested
+  head-behind stop on = go (ltb maxCalls calls) (leb calls c) (ltb calls busy) (not (eqb busy 0))
+    where
+      go : (p q r s : Bool)
+          → behind (if p then Refused Damaged else if q then Refused NoCall else if r then Refused Damaged else if s then Refused WorkerBusy else Passed)
+          stop on
+          ≡ (if p then stop Damaged else if q then stop NoCall else if r then stop Damaged else if s then stop WorkerBusy else on)
+      go true q r s = refl
+      go false true r s = refl
+      go false false true s = refl
+      go false false false true = refl
+      go false false false false = refl
+
+  pub head-passed : {t : Tested} → t ≡ headTested calls busy c → t ≡ Passed → c < maxCalls
+  unfolding headTested
+  head-passed e f =
+      let both = go (ltb maxCalls calls) (leb calls c) (ltb calls busy) (not (eqb busy 0)) (sym f ∙ e) in
+      let few : calls ≤ maxCalls = ltb-false maxCalls calls (both .0) in
+      let own : c < calls = leb-false calls c (both .1) in
+      omega arith
+    where
+      go : (p q r s : Bool)
+          → Passed ≡ (if p then Refused Damaged else if q then Refused NoCall else if r then Refused Damaged else if s then Refused WorkerBusy else Passed)
+          → (p ≡ false) × (q ≡ false)
+      go true q r s e = let z : _≡_ {A = ℕ} 0 1 = cc in absurd (omega arith)
+      go false true r s e = let z : _≡_ {A = ℕ} 0 1 = cc in absurd (omega arith)
+      go false false r s e = (refl, refl)
 
 module _ (h : Head) (w c : ℕ) (plan keys status : List ℕ) (cells olds : List ℤ) {large : Bool} (sized : large ≡ largeEnough (sizesOf (lent h plan keys cells status olds)))
     {t : Tested} (tested : t ≡ workerTested large (h .workers) w) where
-  begin-behind : behind t (stay (lent h plan keys cells status olds)) (beginNext (lent h plan keys cells status olds) w c (h .calls) (seatOf h w .call))
-      ≡ beginOf (lent h plan keys cells status olds) w c
+  -- What is left behind the tests of the worker, from the number of calls and the seat's entry.
+  abbrev behindWorker : Moved
+  behindWorker =
+      behind (headTested (h .calls) (seatOf h w .call) c) (stay (lent h plan keys cells status olds)) (beginChecked (lent h plan keys cells status olds) w c)
+
+  begin-behind : behind t (stay (lent h plan keys cells status olds)) behindWorker ≡ beginOf (lent h plan keys cells status olds) w c
   unfolding beginOf
-  begin-behind = rw (tested, sized) (worker-behind _ _ _ _ _)
+  begin-behind =
+      rw
+      (tested, sized, head-behind (h .calls) (seatOf h w .call) c (stay (lent h plan keys cells status olds)) (beginChecked (lent h plan keys cells status olds) w c))
+      (worker-behind _ _ _ _ _)
 
   pub begin-refused : {a : Answer} → t ≡ Refused a → stay (lent h plan keys cells status olds) a ≡ beginOf (lent h plan keys cells status olds) w c
   begin-refused e = rw e at begin-behind
 
-  module _ (on : t ≡ Passed) where
-    begin-next : beginNext (lent h plan keys cells status olds) w c (h .calls) (seatOf h w .call) ≡ beginOf (lent h plan keys cells status olds) w c
-    begin-next = rw on at begin-behind
-
-    pub begin-many : maxCalls < h .calls → stay (lent h plan keys cells status olds) Damaged ≡ beginOf (lent h plan keys cells status olds) w c
-    begin-many l = sym (simp (lt-ltb maxCalls (h .calls) l)) ∙ begin-next
-
-    pub begin-past : h .calls ≤ maxCalls → h .calls ≤ c → stay (lent h plan keys cells status olds) NoCall ≡ beginOf (lent h plan keys cells status olds) w c
-    begin-past few l = sym (simp (le-ltb maxCalls (h .calls) few, le-leb (h .calls) c l)) ∙ begin-next
-
-    module _ (few : h .calls ≤ maxCalls) (own : c < h .calls) {s : Seat} (seat : s ≡ seatOf h w) where
-      begin-seat : beginNext (lent h plan keys cells status olds) w c (h .calls) (s .call) ≡ beginOf (lent h plan keys cells status olds) w c
-      begin-seat = rw seat begin-next
-
-      pub begin-lost : h .calls < s .call → stay (lent h plan keys cells status olds) Damaged ≡ beginOf (lent h plan keys cells status olds) w c
-      begin-lost l = sym (simp (le-ltb maxCalls (h .calls) few, lt-leb (h .calls) c own, lt-ltb (h .calls) (s .call) l)) ∙ begin-seat
-
-      pub begin-busy : s .call ≤ h .calls → (s .call ≡ 0 → ⊥) → stay (lent h plan keys cells status olds) WorkerBusy ≡ beginOf (lent h plan keys cells status olds) w c
-      begin-busy l some = sym (simp (le-ltb maxCalls (h .calls) few, lt-leb (h .calls) c own, le-ltb (h .calls) (s .call) l, ne-eqb (s .call) 0 some)) ∙ begin-seat
-
-      pub begin-free : s .call ≤ h .calls → s .call ≡ 0 → beginChecked (lent h plan keys cells status olds) w c ≡ beginOf (lent h plan keys cells status olds) w c
-      begin-free l e = sym (simp (le-ltb maxCalls (h .calls) few, lt-leb (h .calls) c own, le-ltb (h .calls) (s .call) l, eq-eqb (s .call) 0 e)) ∙ begin-seat
+  pub begin-seated : t ≡ Passed → {s : Seat} → s ≡ seatOf h w → {u : Tested} → u ≡ headTested (h .calls) (s .call) c
+      → behind u (stay (lent h plan keys cells status olds)) (beginChecked (lent h plan keys cells status olds) w c)
+      ≡ beginOf (lent h plan keys cells status olds) w c
+  begin-seated on seat told = rw (told, seat) (rw on at begin-behind)
 
 -- ---- what the plan and the states tell
 
@@ -143,10 +183,10 @@ module _ (h : Head) (plan keys status : List ℕ) (cells olds : List ℤ) (w c :
 -- ---- the change
 
 pub begun : (h : Head) (plan keys status : List ℕ) (cells olds : List ℤ) (w c : ℕ) {n : ℕ} → n ≡ keysOf plan c
-    → {h′ : Head} {status′ : List ℕ} {olds′ : List ℤ}
+    → {status′ : List ℕ} {olds′ : List ℤ}
     → olds′ ≡ stored olds (maxCallKeys * w) (savedOf (entriesOf plan c n) cells)
     → status′ ≡ set status (4 * c) 1
-    → h′ ≡ withSeat h w (record { call = c + 1; place = 0; count = 0; regs = zeroRegisters })
-    → moved Accepted (lent h′ plan keys cells status′ olds′) ≡ moved Accepted (beginCall (lent h plan keys cells status olds) w c)
+    → moved Accepted (lent (withSeat h w (record { call = c + 1; place = 0; count = 0; regs = zeroRegisters })) plan keys cells status′ olds′)
+    ≡ moved Accepted (beginCall (lent h plan keys cells status olds) w c)
 unfolding beginCall
-begun h plan keys status cells olds w c count e f g = rw (e, f, g, count)
+begun h plan keys status cells olds w c count e f = rw (e, f, count)

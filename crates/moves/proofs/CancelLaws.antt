@@ -5,7 +5,7 @@ use mathlib.Core.List.{List}
 use Prim.Native.Nat.{ℕ, _*_}
 use lib.IntN.{ℤ}
 use lib.ListN.{set}
-use Rattle.machine.specs.Run.{entriesOf, idleSeat, withSeat}
+use Rattle.machine.specs.Run.{entriesOf, idleSeat, seatOf, withSeat}
 use Rattle.machine.specs.Step.{restorable, restored}
 use Rattle.machine.specs.Moves.{Moved, answered, holds, heldBy, keysOf, oldsOf, cancelHeld, cancelFor, cancelOf}
 use Rattle.machine.specs.declared.Head.{Head}
@@ -13,6 +13,7 @@ use Rattle.machine.specs.declared.Seat.{Seat}
 use Rattle.machine.specs.declared.Answer.{Answer}
 use Rattle.machine.specs.declared.Answer.the-variants.{Accepted, Damaged}
 use Rattle.moves.specs.Lent.{lent, moved}
+use Rattle.moves.proofs.HeldLaws.{seat-kept}
 
 module _ (h : Head) (w : ℕ) (plan keys status : List ℕ) (cells olds : List ℤ) where
   pub cancel-answered : {a : Answer} → answered a ≡ heldBy (lent h plan keys cells status olds) w
@@ -26,17 +27,16 @@ module _ (h : Head) (w : ℕ) (plan keys status : List ℕ) (cells olds : List �
   cancel-holds e f = f ∙ ap (cancelFor (lent h plan keys cells status olds) w) e
 
   module _ (c : ℕ) {n : ℕ} (count : n ≡ keysOf plan c) where
-    pub cancel-damaged : false ≡ restorable n (entriesOf plan c n)
-        → moved Damaged (lent h plan keys cells status olds) ≡ cancelHeld (lent h plan keys cells status olds) w c
+    pub cancel-damaged : {s : Seat} → s ≡ seatOf h w → false ≡ restorable n (entriesOf plan c n)
+        → moved Damaged (lent (withSeat h w s) plan keys cells status olds) ≡ cancelHeld (lent h plan keys cells status olds) w c
     unfolding cancelHeld
-    cancel-damaged r = rw (← count, ← r)
+    cancel-damaged own r = seat-kept h w plan keys status cells olds own (rw (← count, ← r))
 
     pub cancel-done : true ≡ restorable n (entriesOf plan c n)
-        → {cells′ : List ℤ} {status′ : List ℕ} {h′ : Head} {s : Seat}
+        → {cells′ : List ℤ} {status′ : List ℕ} {s : Seat}
         → cells′ ≡ restored (entriesOf plan c n) (oldsOf olds w n) cells
         → status′ ≡ set status (4 * c) 0
         → s ≡ idleSeat
-        → h′ ≡ withSeat h w s
-        → moved Accepted (lent h′ plan keys cells′ status′ olds) ≡ cancelHeld (lent h plan keys cells status olds) w c
+        → moved Accepted (lent (withSeat h w s) plan keys cells′ status′ olds) ≡ cancelHeld (lent h plan keys cells status olds) w c
     unfolding cancelHeld
-    cancel-done r e f g k = rw (← count, ← r, e, f, k, g)
+    cancel-done r e f g = rw (← count, ← r, e, f, g)

@@ -1,5 +1,5 @@
 -- The mathematics of the proofs of `held`, over plain variables: the sizes, the first tests of every move, and the held call. Assumes nothing.
-use mathlib.Core.Path.{_≡_, refl, sym, _∙_}
+use mathlib.Core.Path.{_≡_, refl, sym, ap, _∙_}
 use mathlib.Core.Bool.{Bool, true, false, _&&_, _||_, not}
 use mathlib.Core.List.{List, [], _∷_}
 use Prim.Native.Nat.{ℕ, zero, suc, _-_, _≤_, _<_}
@@ -8,20 +8,21 @@ use borrow.Author.Tests.{eq-eqb, ne-eqb, lt-ltb, le-ltb, le-leb, lt-leb, leb-tru
 use lib.Dec.{eqb, leb, ltb}
 use lib.IntN.{ℤ}
 use lib.ListN.{length, getD}
+use lib.Seq.{set-getD}
 use native.Mathlib.Nat.{not-suc-le-zero, le-of-suc-le-suc}
 use Rattle.arith.specs.Choice.{if_then_else_}
 use Rattle.block.specs.Limits.{maxCalls, maxWorkers}
-use Rattle.machine.specs.Run.{Sizes, fixedSizes, largeEnough, seatOf, sizesOf}
-use Rattle.machine.specs.Moves.{Held, answered, holds, heldBy}
+use Rattle.machine.specs.Run.{Sizes, fixedSizes, idleSeat, largeEnough, seatOf, sizesOf, withSeat}
+use Rattle.machine.specs.Moves.{Moved, stay, answered, holds, heldBy}
 use Rattle.machine.specs.declared.Head.{Head}
 use Rattle.machine.specs.declared.Seat.{Seat}
 use Rattle.machine.specs.declared.Answer.{Answer}
 use Rattle.machine.specs.declared.Answer.the-variants.{Damaged, NoWorker, WorkerIdle}
-use Rattle.moves.specs.Lent.{lent}
+use Rattle.moves.specs.Lent.{lent, moved}
 use Rattle.moves.specs.Tests.{behind, workerTested}
-use Rattle.moves.specs.HeldCall.{InRun, HeldInRun, PassedInRun}
+use Rattle.moves.specs.HeldCall.{asHeld, heldFrom, HeldInRun}
 use Rattle.moves.specs.declared.Holding.{Holding}
-use Rattle.moves.specs.declared.Holding.the-variants.{Holds}
+use Rattle.moves.specs.declared.Holding.the-variants.{Answered, Holds}
 use Rattle.moves.specs.declared.Tested.{Tested}
 use Rattle.moves.specs.declared.Tested.the-variants.{Passed, Refused}
 
@@ -63,6 +64,22 @@ pub getD-inside : {A : Type 0} (l : List A) (i : ℕ) (a b : A) → i < length l
 getD-inside [] i a b h = absurd (not-suc-le-zero h)
 getD-inside (x ∷ l) zero a b h = refl
 getD-inside (x ∷ l) (suc i) a b h = getD-inside l i a b (le-of-suc-le-suc h)
+
+-- There are eight seats, so that of a worker is there.
+pub seat-read : (h : Head) (w : ℕ) (d : Seat) → length (h .seats) ≡ 8 → w < maxWorkers → getD (h .seats) w d ≡ seatOf h w
+seat-read h w d long l = getD-inside (h .seats) w d idleSeat (omega arith)
+
+-- A seat that is put back where it was leaves the head, and so the run.
+seat-same : (h : Head) (w : ℕ) → withSeat h w (seatOf h w) ≡ h
+seat-same h w =
+    ap (λ (l : List Seat). record { workers = h .workers; calls = h .calls; cells = h .cells; first = h .first; seats = l })
+    (set-getD (h .seats) w idleSeat)
+
+pub seat-kept : (h : Head) (w : ℕ) (plan keys status : List ℕ) (cells olds : List ℤ) {s : Seat} {a : Answer} {m : Moved} → s ≡ seatOf h w
+    → stay (lent h plan keys cells status olds) a ≡ m → moved a (lent (withSeat h w s) plan keys cells status olds) ≡ m
+seat-kept h w plan keys status cells olds {s} {a} e f =
+    let same : withSeat h w s ≡ h = ap (withSeat h w) e ∙ seat-same h w in
+    ap (λ (g : Head). moved a (lent g plan keys cells status olds)) same ∙ f
 
 -- ---- the worker
 
@@ -123,15 +140,24 @@ worker-good n w some few l = simp (ne-eqb n 0 some, le-ltb maxWorkers n few, lt-
 
 -- ---- the held call
 
--- What is held, from the number of calls and the seat's entry.
-abbrev heldFrom : ℕ → ℕ → Held
-heldFrom calls call =
-    if eqb call 0
-    then answered WorkerIdle
-    else if ltb maxCalls calls || ltb calls call
-    then answered Damaged
-    else holds (call - 1)
+module _ (calls call : ℕ) where
+  pub held-idle : call ≡ 0 → answered WorkerIdle ≡ heldFrom calls call
+  held-idle e = simp (eq-eqb call 0 e)
 
+  module _ (some : call ≡ 0 → ⊥) where
+    pub held-many : maxCalls < calls → answered Damaged ≡ heldFrom calls call
+    held-many l = simp (ne-eqb call 0 some, lt-ltb maxCalls calls l)
+
+    pub held-past : calls ≤ maxCalls → calls < call → answered Damaged ≡ heldFrom calls call
+    held-past few l = simp (ne-eqb call 0 some, le-ltb maxCalls calls few, lt-ltb calls call l)
+
+    pub held-holds : calls ≤ maxCalls → call ≤ calls → holds (call - 1) ≡ heldFrom calls call
+    held-holds few l = simp (ne-eqb call 0 some, le-ltb maxCalls calls few, le-ltb calls call l)
+
+pub held-known : {c : ℕ} {k : Holding} → k ≡ Holds c → HeldInRun k → c < maxCalls
+held-known e h = rw e at h
+
+-- The tests of the worker, and behind them its seat, decide what is held.
 module _ (h : Head) (w : ℕ) (plan keys status : List ℕ) (cells olds : List ℤ) {large : Bool} (sized : large ≡ largeEnough (sizesOf (lent h plan keys cells status olds)))
     {t : Tested} (tested : t ≡ workerTested large (h .workers) w) where
   held-behind : behind t answered (heldFrom (h .calls) (seatOf h w .call)) ≡ heldBy (lent h plan keys cells status olds) w
@@ -141,31 +167,12 @@ module _ (h : Head) (w : ℕ) (plan keys status : List ℕ) (cells olds : List �
   pub held-refused : {a : Answer} → t ≡ Refused a → answered a ≡ heldBy (lent h plan keys cells status olds) w
   held-refused e = rw e at held-behind
 
-  -- Behind the tests the seat decides.
-  module _ (on : t ≡ Passed) {s : Seat} (seat : s ≡ seatOf h w) where
-    held-on : heldFrom (h .calls) (s .call) ≡ heldBy (lent h plan keys cells status olds) w
-    held-on = rw seat (rw on at held-behind)
+  module _ (on : t ≡ Passed) {s : Seat} (seat : s ≡ seatOf h w) (k : Holding) (found : asHeld k ≡ heldFrom (h .calls) (s .call)) where
+    held-on : asHeld k ≡ heldBy (lent h plan keys cells status olds) w
+    held-on = found ∙ (rw seat (rw on at held-behind))
 
-    pub held-idle : s .call ≡ 0 → answered WorkerIdle ≡ heldBy (lent h plan keys cells status olds) w
-    held-idle e = sym (simp (eq-eqb (s .call) 0 e)) ∙ held-on
+    pub held-answered : {a : Answer} → k ≡ Answered a → answered a ≡ heldBy (lent h plan keys cells status olds) w
+    held-answered e = ap asHeld (sym e) ∙ held-on
 
-    pub held-many : (s .call ≡ 0 → ⊥) → maxCalls < h .calls → answered Damaged ≡ heldBy (lent h plan keys cells status olds) w
-    held-many some l = sym (simp (ne-eqb (s .call) 0 some, lt-ltb maxCalls (h .calls) l)) ∙ held-on
-
-    pub held-past : (s .call ≡ 0 → ⊥) → h .calls ≤ maxCalls → h .calls < s .call → answered Damaged ≡ heldBy (lent h plan keys cells status olds) w
-    held-past some few l = sym (simp (ne-eqb (s .call) 0 some, le-ltb maxCalls (h .calls) few, lt-ltb (h .calls) (s .call) l)) ∙ held-on
-
-    pub held-holds : (s .call ≡ 0 → ⊥) → h .calls ≤ maxCalls → s .call ≤ h .calls → holds (s .call - 1) ≡ heldBy (lent h plan keys cells status olds) w
-    held-holds some few l = sym (simp (ne-eqb (s .call) 0 some, le-ltb maxCalls (h .calls) few, le-ltb (h .calls) (s .call) l)) ∙ held-on
-
--- What the tests told of a call behind them.
-pub in-run : (large : Bool) (n w c : ℕ) {t : Tested} → t ≡ workerTested large n w → t ≡ Passed → c < maxCalls → InRun large w c
-in-run large n w c e on l =
-    record { sizes = passed-large large n w (sym on ∙ e); worker = passed-worker large n w (sym on ∙ e); call = l }
-
--- That, of a held call and of a call that may begin.
-pub held-known : {large : Bool} {w c : ℕ} {k : Holding} → k ≡ Holds c → HeldInRun k large w → InRun large w c
-held-known e h = rw e at h
-
-pub passed-known : {large : Bool} {w c : ℕ} {t : Tested} → t ≡ Passed → PassedInRun t large w c → InRun large w c
-passed-known e h = rw e at h
+    pub held-call : {c : ℕ} → k ≡ Holds c → holds c ≡ heldBy (lent h plan keys cells status olds) w
+    held-call e = ap asHeld (sym e) ∙ held-on

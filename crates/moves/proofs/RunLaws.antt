@@ -22,9 +22,11 @@ use Rattle.machine.specs.declared.Answer.the-variants.{Accepted, Damaged}
 use Rattle.machine.specs.declared.Head.{Head}
 use Rattle.machine.specs.declared.Seat.{Seat}
 use Rattle.moves.specs.Lent.{lent, moved}
-use Rattle.moves.specs.Turn.{Settled, Stands, Turned, localIn, ownOlds, settledBy, turned, viewIn, Placed}
+use Rattle.moves.specs.Turn.{Settled, Stands, Turned, broken, localIn, ownOlds, settledBy, settledIn, settledRun, turned, viewIn, Placed}
 use Rattle.moves.specs.declared.Fate.the-variants.{Broken, Going, Over}
+use Rattle.moves.specs.declared.Seated.{Seated}
 use Rattle.moves.specs.declared.Turn.{Turn}
+use Rattle.moves.proofs.HeldLaws.{seat-kept}
 
 -- ---- the seat and the status behind a turn
 
@@ -32,17 +34,19 @@ pub receipt : (status : List ℕ) (c outcome count : ℕ) {one two three : List 
     → three ≡ withReceipt status c outcome count
 receipt status c outcome count e f g = rw (g, f, e)
 
-module _ (h : Head) (status : List ℕ) (w c : ℕ) (t : Turn) where
-  pub settle-broken : t .fate ≡ Broken → _≡_ {A = Settled} (record { head = h; answer = Damaged; status = status }) (settledBy h status w c t)
+module _ (s : Seat) (status : List ℕ) (c : ℕ) (t : Turn) where
+  pub settle-broken : t .fate ≡ Broken → _≡_ {A = Settled} (record { seated = record { seat = s; answer = Damaged }; status = status }) (settledBy s status c t)
   settle-broken e = rw e
 
-  pub settle-going : {place : ℕ} → t .fate ≡ Going place → {next : Head} → next ≡ withSeat h w (record { call = c + 1; place = place; count = t .count; regs = t .regs })
-      → _≡_ {A = Settled} (record { head = next; answer = Accepted; status = status }) (settledBy h status w c t)
-  settle-going e f = rw (e, f)
+  pub settle-going : {place : ℕ} → t .fate ≡ Going place
+      → _≡_ {A = Settled}
+      (record { seated = record { seat = record { call = c + 1; place = place; count = t .count; regs = t .regs }; answer = Accepted }; status = status })
+      (settledBy s status c t)
+  settle-going e = rw e
 
-  pub settle-over : {outcome : ℕ} → t .fate ≡ Over outcome → {next : Head} {seat : Seat} {after : List ℕ} → seat ≡ idleSeat → next ≡ withSeat h w seat → after ≡ withReceipt status c outcome (t .count)
-      → _≡_ {A = Settled} (record { head = next; answer = Accepted; status = after }) (settledBy h status w c t)
-  settle-over e i f g = rw (e, f, i, g)
+  pub settle-over : {outcome : ℕ} → t .fate ≡ Over outcome → {seat : Seat} {after : List ℕ} → seat ≡ idleSeat → after ≡ withReceipt status c outcome (t .count)
+      → _≡_ {A = Settled} (record { seated = record { seat = seat; answer = Accepted }; status = after }) (settledBy s status c t)
+  settle-over e f g = rw (e, f, g)
 
 -- ---- the tests before a turn
 
@@ -123,41 +127,31 @@ module _ (head : Head) (block plan keys : List ℕ) (cells : List ℤ) (status :
   abbrev run : Run
   run = lent head plan keys cells status olds
 
-  abbrev settledFor : Stepped → Settled
-  settledFor s = settledBy head status w c (turned cells s .turn)
+  -- A damaged turn leaves the run.
+  pub broken-stays : {t : Turn} {m : Moved} → t ≡ broken → stay run Damaged ≡ m → settledRun head plan keys cells status olds w c t ≡ m
+  broken-stays {t} {m} e p = ap (settledRun head plan keys cells status olds w c) e ∙ seat-kept head w plan keys status cells olds {s = seatOf head w} refl p
 
   -- The run behind a step is made of the turn's cells and of what it settles.
-  settled-run : (s : Stepped) → moved (settledFor s .answer) (lent (settledFor s .head) plan keys (turned cells s .cells) (settledFor s .status) olds) ≡ stepped run w c s
+  settled-run : (s : Stepped) → settledRun head plan keys (turned cells s .cells) status olds w c (turned cells s .turn) ≡ stepped run w c s
   unfolding stepped
-  settled-run damaged = refl
+  settled-run damaged = broken-stays refl refl
   settled-run (more l after) = refl
   settled-run (done outcome count after) = refl
 
-  run-settled : (s : Stepped) {t : Turn} {after : List ℤ} {next : Head} {answer : Answer} {left : List ℕ}
-      → Stands t after cells s
-      → _≡_ {A = Settled} (record { head = next; answer = answer; status = left }) (settledBy head status w c t)
-      → moved answer (lent next plan keys after left olds) ≡ stepped run w c s
-  run-settled s p q =
-      let r = q ∙ ap (λ (x : Turned). settledBy head status w c (x .turn)) p in
-      (λ i. moved (r i .answer) (lent (r i .head) plan keys (p i .cells) (r i .status) olds)) ∙ settled-run s
-
-  pub record-stepped : (call : Call) {seat : Seat} {t : Turn} {after : List ℤ} {next : Head} {answer : Answer} {left : List ℕ} → seat ≡ seatOf head w
+  pub record-stepped : (call : Call) {seat : Seat} {t : Turn} {after : List ℤ} → seat ≡ seatOf head w
       → Stands t after cells (stepCall (viewIn block plan keys c call) (localIn seat (ownOlds plan olds w c)) cells)
-      → _≡_ {A = Settled} (record { head = next; answer = answer; status = left }) (settledBy head status w c t)
-      → moved answer (lent next plan keys after left olds) ≡ stepped run w c (stepCall (viewOf block run c call) (localOf run w c) cells)
-  record-stepped call e p q =
-      run-settled (stepCall (viewOf block run c call) (localOf run w c) cells)
-      (p ∙ ap (λ (s : Seat). turned cells (stepCall (viewIn block plan keys c call) (localIn s (ownOlds plan olds w c)) cells)) e) q
+      → settledRun head plan keys after status olds w c t ≡ stepped run w c (stepCall (viewOf block run c call) (localOf run w c) cells)
+  record-stepped call e p =
+      let own = p ∙ ap (λ (s : Seat). turned cells (stepCall (viewIn block plan keys c call) (localIn s (ownOlds plan olds w c)) cells)) e in
+      ap (λ (x : Turned). settledRun head plan keys (x .cells) status olds w c (x .turn)) own
+      ∙ settled-run (stepCall (viewOf block run c call) (localOf run w c) cells)
 
-  abbrev recordAt : ℕ
-  recordAt = head .first + 34 * c
-
-  -- A step behind the tests of the seat, and behind those of the record.
-  abbrev behindSeat : Moved
-  behindSeat =
-      if ltb (length block) (recordAt + 34)
+  -- A step behind the tests of the seat, with the first call record at a place; and behind those of the record.
+  abbrev behindSeat : ℕ → Moved
+  behindSeat first =
+      if ltb (length block) (first + 34 * c + 34)
       then stay run Damaged
-      else stepRecord block run w c (callOf (drop (recordAt + 4) block))
+      else stepRecord block run w c (callOf (drop (first + 34 * c + 4) block))
 
   abbrev badPlace : Bool
   badPlace = ltb (maxCode + 1) (planWord plan c 1) || ltb (planWord plan c 1) (seatOf head w .place)
@@ -169,33 +163,37 @@ module _ (head : Head) (block plan keys : List ℕ) (cells : List ℤ) (status :
     same-test : ok ≡ inRange (planWord plan c 1) (seatOf head w)
     same-test = tested ∙ ap (inRange (planWord plan c 1)) own
 
-    pub held-seated : ok ≡ true → Placed plan c (seatOf head w)
-    held-seated = in-place plan c (seatOf head w) same-test
-
     pub held-unseated : ok ≡ false → stay run Damaged ≡ stepHeld block run w c
     unfolding stepHeld
-    held-unseated = two-tests badPlace badCount ok (stay run Damaged) behindSeat same-test
+    held-unseated = two-tests badPlace badCount ok (stay run Damaged) (behindSeat (head .first)) same-test
 
-    module _ (seated : ok ≡ true) {there : Bool} (found : there ≡ not (ltb (length block) (recordAt + 34))) where
-      on-seat : behindSeat ≡ stepHeld block run w c
+    module _ (seated : ok ≡ true) {first : ℕ} (starts : first ≡ head .first)
+        {there : Bool} (found : there ≡ not (ltb (length block) (first + 34 * c + 34))) where
+      on-head : behindSeat (head .first) ≡ stepHeld block run w c
       unfolding stepHeld
-      on-seat = both-passed badPlace badCount ok (stay run Damaged) behindSeat same-test seated
+      on-head = both-passed badPlace badCount ok (stay run Damaged) (behindSeat (head .first)) same-test seated
+
+      on-seat : behindSeat first ≡ stepHeld block run w c
+      on-seat = ap behindSeat starts ∙ on-head
 
       pub held-cut : there ≡ false → stay run Damaged ≡ stepHeld block run w c
-      held-cut e = cut (ltb (length block) (recordAt + 34)) (sym found ∙ e) ∙ on-seat
+      held-cut e = cut (ltb (length block) (first + 34 * c + 34)) (sym found ∙ e) ∙ on-seat
         where
-          cut : (t : Bool) → not t ≡ false → stay run Damaged ≡ (if t then stay run Damaged else stepRecord block run w c (callOf (drop (recordAt + 4) block)))
+          cut : (t : Bool) → not t ≡ false
+              → stay run Damaged ≡ (if t then stay run Damaged else stepRecord block run w c (callOf (drop (first + 34 * c + 4) block)))
           cut true h = refl
           cut false h = let z : _≡_ {A = ℕ} 0 1 = cc in absurd (omega arith)
 
-      on-record : there ≡ true → stepRecord block run w c (callOf (drop (recordAt + 4) block)) ≡ stepHeld block run w c
-      on-record e = whole (ltb (length block) (recordAt + 34)) (sym found ∙ e) ∙ on-seat
+      on-record : there ≡ true → stepRecord block run w c (callOf (drop (first + 34 * c + 4) block)) ≡ stepHeld block run w c
+      on-record e = whole (ltb (length block) (first + 34 * c + 34)) (sym found ∙ e) ∙ on-seat
         where
-          whole : (t : Bool) → not t ≡ true → stepRecord block run w c (callOf (drop (recordAt + 4) block)) ≡ (if t then stay run Damaged else stepRecord block run w c (callOf (drop (recordAt + 4) block)))
+          whole : (t : Bool) → not t ≡ true
+              → stepRecord block run w c (callOf (drop (first + 34 * c + 4) block))
+              ≡ (if t then stay run Damaged else stepRecord block run w c (callOf (drop (first + 34 * c + 4) block)))
           whole true h = let z : _≡_ {A = ℕ} 0 1 = cc in absurd (omega arith)
           whole false h = refl
 
-      module _ (whole : there ≡ true) {body : CallBody} (read : body ≡ callOf (drop (recordAt + 4) block)) where
+      module _ (whole : there ≡ true) {body : CallBody} (read : body ≡ callOf (drop (first + 34 * c + 4) block)) where
         pub held-broken : body ≡ OutOfRange → stay run Damaged ≡ stepHeld block run w c
         unfolding stepRecord
         held-broken e = ap (stepRecord block run w c) (sym e ∙ read) ∙ on-record whole
@@ -216,3 +214,10 @@ module _ (head : Head) (block plan keys : List ℕ) (cells : List ℤ) (status :
       → m ≡ stepOf block (lent head plan keys cells status olds) w
   unfolding stepFor
   step-holds e p = p ∙ ap (stepFor block (lent head plan keys cells status olds) w) e
+
+  -- The turn settled on the worker's seat.
+  pub step-settled : (c : ℕ) {seat : Seat} (t : Turn) {after : List ℤ} {next : Seated} {left : List ℕ} {m : Moved} → seat ≡ seatOf head w
+      → _≡_ {A = Settled} (record { seated = next; status = left }) (settledBy seat status c t)
+      → settledRun head plan keys after status olds w c t ≡ m
+      → moved (next .answer) (lent (withSeat head w (next .seat)) plan keys after left olds) ≡ m
+  step-settled c {seat} t {after} own e p = ap (settledIn head plan keys after olds w) (e ∙ ap (λ (s : Seat). settledBy s status c t) own) ∙ p

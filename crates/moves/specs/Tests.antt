@@ -4,10 +4,10 @@ use mathlib.Core.List.{List}
 use Prim.Native.Nat.{ℕ, _≤_}
 use lib.Dec.{eqb, leb, ltb}
 use Rattle.arith.specs.Choice.{if_then_else_}
-use Rattle.block.specs.Limits.{maxCallKeys, maxWorkers}
+use Rattle.block.specs.Limits.{maxCalls, maxCallKeys, maxWorkers}
 use Rattle.machine.specs.Moves.{earlierBroken, earlierFinished}
 use Rattle.machine.specs.declared.Answer.{Answer}
-use Rattle.machine.specs.declared.Answer.the-variants.{Damaged, NoWorker}
+use Rattle.machine.specs.declared.Answer.the-variants.{Damaged, NoWorker, NoCall, WorkerBusy}
 use Rattle.moves.specs.declared.Tested.{Tested}
 use Rattle.moves.specs.declared.Tested.the-variants.{Passed, Refused}
 use Rattle.moves.specs.declared.Earlier.{Earlier}
@@ -25,6 +25,19 @@ workerTested large workers w =
     then Refused Damaged
     else if leb workers w
     then Refused NoWorker
+    else Passed
+
+-- What BEGIN tests next: 20 for the number of calls, 22, 20 for the call that the worker holds, 23.
+unfoldable pub headTested : ℕ → ℕ → ℕ → Tested
+headTested calls busy c =
+    if ltb maxCalls calls
+    then Refused Damaged
+    else if leb calls c
+    then Refused NoCall
+    else if ltb calls busy
+    then Refused Damaged
+    else if not (eqb busy 0)
+    then Refused WorkerBusy
     else Passed
 
 -- The earlier conflicting calls of call c, in one answer.

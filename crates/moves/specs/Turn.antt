@@ -15,17 +15,18 @@ use Rattle.footprint.specs.Access.{Access}
 use Rattle.footprint.specs.Plan.{planWords}
 use Rattle.footprint.specs.declared.KeyUse.{KeyUse}
 use Rattle.footprint.specs.declared.Uses.{Uses}
-use Rattle.machine.specs.Run.{planWord, zeroRegisters, withSeat, idleSeat, withReceipt}
+use Rattle.machine.specs.Run.{planWord, zeroRegisters, seatOf, withSeat, idleSeat, withReceipt}
 use Rattle.machine.specs.Step.{View, Local, Stepped, damaged, more, done, findEntry}
-use Rattle.machine.specs.Moves.{keysOf, ownEntries, oldsOf}
+use Rattle.machine.specs.Moves.{Moved, keysOf, ownEntries, oldsOf}
 use Rattle.machine.specs.declared.Seat.{Seat}
 use Rattle.machine.specs.declared.Head.{Head}
-use Rattle.machine.specs.declared.Answer.{Answer}
 use Rattle.machine.specs.declared.Answer.the-variants.{Accepted, Damaged}
 use Rattle.machine.specs.declared.Next.{Next}
 use Rattle.machine.specs.declared.Next.the-variants.{Go, End, Load, Store, Transfer}
 use Rattle.machine.specs.declared.Lookup.{Lookup}
 use Rattle.machine.specs.declared.Lookup.the-variants.{NoCell}
+use Rattle.moves.specs.Lent.{lent, moved}
+use Rattle.moves.specs.declared.Seated.{Seated}
 use Rattle.moves.specs.declared.Turn.{Turn}
 use Rattle.moves.specs.declared.Fate.{Fate}
 use Rattle.moves.specs.declared.Fate.the-variants.{Broken, Going, Over}
@@ -140,22 +141,27 @@ turned cells (done outcome count after) = record { turn = over outcome count; ce
 abbrev pub Stands : Turn → List ℤ → List ℤ → Stepped → Type 0
 Stands t after cells s = _≡_ {A = Turned} (record { turn = t; cells = after }) (turned cells s)
 
--- What a turn of call c changes of the run beside the cells, with the answer: "A finished or cancelled call frees its worker."
+-- What a turn of call c changes beside the cells, from its worker's seat and the status: "A finished or cancelled call frees its worker."
 pub record Settled : Type 0 where
-  pub head : Head
-  pub answer : Answer
+  pub seated : Seated
   pub status : List ℕ
 
-abbrev pub settledAs : Head → List ℕ → ℕ → ℕ → ℕ → List ℤ → Fate → Settled
-settledAs h status w c count regs Broken = record { head = h; answer = Damaged; status = status }
-settledAs h status w c count regs (Going place) =
+abbrev pub settledAs : Seat → List ℕ → ℕ → ℕ → List ℤ → Fate → Settled
+settledAs s status c count regs Broken = record { seated = record { seat = s; answer = Damaged }; status = status }
+settledAs s status c count regs (Going place) =
     record {
-      head = withSeat h w (record { call = c + 1; place = place; count = count; regs = regs });
-      answer = Accepted;
+      seated = record { seat = record { call = c + 1; place = place; count = count; regs = regs }; answer = Accepted };
       status = status;
     }
-settledAs h status w c count regs (Over outcome) =
-    record { head = withSeat h w idleSeat; answer = Accepted; status = withReceipt status c outcome count }
+settledAs s status c count regs (Over outcome) =
+    record { seated = record { seat = idleSeat; answer = Accepted }; status = withReceipt status c outcome count }
 
-abbrev pub settledBy : Head → List ℕ → ℕ → ℕ → Turn → Settled
-settledBy h status w c t = settledAs h status w c (t .count) (t .regs) (t .fate)
+abbrev pub settledBy : Seat → List ℕ → ℕ → Turn → Settled
+settledBy s status c t = settledAs s status c (t .count) (t .regs) (t .fate)
+
+-- The run behind it, with the cells that the turn leaves.
+abbrev pub settledIn : Head → List ℕ → List ℕ → List ℤ → List ℤ → ℕ → Settled → Moved
+settledIn h plan keys cells olds w s = moved (s .seated .answer) (lent (withSeat h w (s .seated .seat)) plan keys cells (s .status) olds)
+
+abbrev pub settledRun : Head → List ℕ → List ℕ → List ℤ → List ℕ → List ℤ → ℕ → ℕ → Turn → Moved
+settledRun h plan keys cells status olds w c t = settledIn h plan keys cells olds w (settledBy (seatOf h w) status c t)

@@ -1,24 +1,23 @@
 // BEGIN by value: the tests of the worker, of the call and of its earlier conflicting calls, and the change.
 use crate::Earlier;
 use crate::Reply;
+use crate::Seated;
 use crate::Tested;
 use crate::entries::key_count;
 use crate::entries::restorable;
 use crate::entries::save;
-use crate::held::large_enough;
-use crate::held::seat_at;
-use crate::held::with_seat;
 use crate::held::worker_tested;
-use crate::layout::FINISHED;
-use crate::layout::PLAN_WORDS;
-use crate::layout::ROW;
-use crate::layout::RUNNING;
-use crate::layout::STATUS_WORDS;
-use crate::layout::WAITING;
 use block::limits::MAX_CALLS;
+use footprint::layout::PLAN_WORDS;
+use footprint::layout::ROW;
 use machine::Answer;
 use machine::Head;
 use machine::Seat;
+use machine::layout::FINISHED;
+use machine::layout::RUNNING;
+use machine::layout::STATUS_WORDS;
+use machine::layout::WAITING;
+use machine::layout::large_enough;
 ghost use mathlib.Core.Path.{_≡_};
 ghost use mathlib.Core.List.{List};
 ghost use Prim.Native.Nat.{ℕ, _≤_, _<_};
@@ -26,13 +25,12 @@ ghost use lib.IntN.{ℤ};
 ghost use lib.ListN.{length};
 ghost use Rattle.arith.specs.Choice.{if_then_else_};
 ghost use Rattle.block.specs.Limits.{maxCalls, maxWorkers};
-ghost use Rattle.machine.specs.Run.{fixedSizes, largeEnough, rowIn, sizesOf, stateOf};
+ghost use Rattle.machine.specs.Run.{fixedSizes, rowIn, seatOf, stateOf, withSeat};
 ghost use Rattle.machine.specs.Moves.{beginCall, beginChecked, beginOf, keysOf, stay};
 ghost use Rattle.machine.specs.declared.Head.{Head};
 ghost use Rattle.machine.specs.declared.Answer.the-variants.{Accepted};
 ghost use Rattle.moves.specs.Lent.{lent, moved};
-ghost use Rattle.moves.specs.Tests.{behind, earlierOf, FewKeys};
-ghost use Rattle.moves.specs.HeldCall.{PassedInRun};
+ghost use Rattle.moves.specs.Tests.{behind, earlierOf, headTested, FewKeys};
 ghost use Rattle.moves.specs.declared.Earlier.the-variants.{Unfinished, Finished};
 
 // The state of a call.
@@ -86,22 +84,17 @@ fn settled(unfinished: bool) -> Earlier
     }
 }
 
-// 20, 21, 22 and 23: what the head tells of the worker and the call.
-fn head_tested(head: Head, large: bool, worker: usize, call: usize) -> Tested
-    ensures { λ r. ⌜ ((plan keys status : List ℕ) (cells olds : List ℤ) → large ≡ largeEnough (sizesOf (lent head plan keys cells status olds)) → behind r (stay (lent head plan keys cells status olds)) (beginChecked (lent head plan keys cells status olds) worker call) ≡ beginOf (lent head plan keys cells status olds) worker call) ⌝ }
-    ensures { λ r. ⌜ PassedInRun r large worker call ⌝ }
+// 22 and 23, and 20 for the numbers that these use: the number of calls, and the call that the worker holds.
+fn head_tested(calls: usize, busy: usize, call: usize) -> Tested
+    ensures { λ r. ⌜ r ≡ headTested calls busy call ⌝ }
 {
-    if let Tested::Refused(answer) = worker_tested(head.workers, large, worker) {
-        return Tested::Refused(answer);
-    }
-    if MAX_CALLS < head.calls {
+    if MAX_CALLS < calls {
         return Tested::Refused(Answer::Damaged);
     }
-    if head.calls <= call {
+    if calls <= call {
         return Tested::Refused(Answer::NoCall);
     }
-    let busy = seat_at(head, worker).call;
-    if head.calls < busy {
+    if calls < busy {
         return Tested::Refused(Answer::Damaged);
     }
     if busy != 0 {
@@ -140,33 +133,33 @@ fn call_tested(plan: &[u64], status: &[u64], call: usize) -> Tested
 
 // The call that the tests of the head let through: its own tests, and the change.
 fn begin_call(
-    head: Head,
+    seat: Seat,
     plan: &[u64],
     cells: &[i64],
     status: &mut [u64],
     olds: &mut [i64],
     worker: usize,
     call: usize,
-) -> Reply
+) -> Seated
     requires { ⌜ call < maxCalls ⌝ }
     requires { ⌜ worker < maxWorkers ⌝ }
     requires { ⌜ fixedSizes .plan ≤ length (now plan) ⌝ }
-    ensures { λ r. ⌜ ((keys : List ℕ) → moved (r .answer) (lent (r .head) (now (plan .entry)) keys (now (cells .entry)) (now (status .exit)) (now (olds .exit))) ≡ beginChecked (lent head (now (plan .entry)) keys (now (cells .entry)) (now (status .entry)) (now (olds .entry))) worker call) ⌝ }
+    ensures { λ r. ⌜ ((head : Head) (keys : List ℕ) → seat ≡ seatOf head worker → moved (r .answer) (lent (withSeat head worker (r .seat)) (now (plan .entry)) keys (now (cells .entry)) (now (status .exit)) (now (olds .exit))) ≡ beginChecked (lent head (now (plan .entry)) keys (now (cells .entry)) (now (status .entry)) (now (olds .entry))) worker call) ⌝ }
 {
     if let Tested::Refused(answer) = call_tested(plan, status, call) {
-        return Reply { head, answer };
+        return Seated { seat, answer };
     }
     let n = key_count(plan, call);
     save(plan, call, n, cells, olds, worker);
     wire::put_word(status, STATUS_WORDS * call, RUNNING);
-    let seat = Seat {
+    let at_entry = Seat {
         call: call + 1,
         place: 0,
         count: 0,
         regs: [0; 8],
     };
-    Reply {
-        head: with_seat(head, worker, seat),
+    Seated {
+        seat: at_entry,
         answer: Answer::Accepted,
     }
 }
@@ -191,8 +184,17 @@ pub fn begin(
         status.len(),
         olds.len(),
     );
-    if let Tested::Refused(answer) = head_tested(head, large, worker, call) {
+    if let Tested::Refused(answer) = worker_tested(head.workers, large, worker) {
         return Reply { head, answer };
     }
-    begin_call(head, plan, cells, status, olds, worker, call)
+    let mut next = head;
+    let seat = next.seats[worker];
+    if let Tested::Refused(answer) = head_tested(head.calls, seat.call, call) {
+        return Reply { head, answer };
+    }
+    let after = begin_call(seat, plan, cells, status, olds, worker, call);
+    let answer = after.answer;
+    let seat = after.seat;
+    next.seats[worker] = seat;
+    Reply { head: next, answer }
 }

@@ -1,53 +1,57 @@
 // CANCEL by value: the cells of the worker's call restored, the call waiting again, the worker free.
 use crate::Holding;
 use crate::Reply;
+use crate::Seated;
+use crate::Tested;
 use crate::entries::key_count;
 use crate::entries::restorable;
 use crate::entries::restore;
 use crate::held::held;
 use crate::held::idle_seat;
-use crate::held::large_enough;
-use crate::held::with_seat;
-use crate::layout::STATUS_WORDS;
-use crate::layout::WAITING;
+use crate::held::worker_tested;
 use machine::Answer;
 use machine::Head;
+use machine::Seat;
+use machine::layout::STATUS_WORDS;
+use machine::layout::WAITING;
+use machine::layout::large_enough;
 ghost use mathlib.Core.Path.{_≡_};
 ghost use mathlib.Core.List.{List};
 ghost use Prim.Native.Nat.{ℕ, _≤_, _<_};
 ghost use lib.ListN.{length};
 ghost use Rattle.block.specs.Limits.{maxCalls, maxWorkers};
-ghost use Rattle.machine.specs.Run.{fixedSizes};
+ghost use Rattle.machine.specs.Run.{fixedSizes, seatOf, withSeat};
 ghost use Rattle.machine.specs.Moves.{cancelHeld, cancelOf};
+ghost use Rattle.machine.specs.declared.Head.{Head};
 ghost use Rattle.moves.specs.Lent.{lent, moved};
 
 // The call c that the worker holds, given back.
 fn cancel_held(
-    head: Head,
+    seat: Seat,
     plan: &[u64],
     cells: &mut [i64],
     status: &mut [u64],
     olds: &[i64],
     worker: usize,
     c: usize,
-) -> Reply
+) -> Seated
     requires { ⌜ c < maxCalls ⌝ }
     requires { ⌜ worker < maxWorkers ⌝ }
     requires { ⌜ fixedSizes .plan ≤ length (now plan) ⌝ }
     requires { ⌜ fixedSizes .olds ≤ length (now olds) ⌝ }
-    ensures { λ r. ⌜ ((keys : List ℕ) → moved (r .answer) (lent (r .head) (now (plan .entry)) keys (now (cells .exit)) (now (status .exit)) (now (olds .entry))) ≡ cancelHeld (lent head (now (plan .entry)) keys (now (cells .entry)) (now (status .entry)) (now (olds .entry))) worker c) ⌝ }
+    ensures { λ r. ⌜ ((head : Head) (keys : List ℕ) → seat ≡ seatOf head worker → moved (r .answer) (lent (withSeat head worker (r .seat)) (now (plan .entry)) keys (now (cells .exit)) (now (status .exit)) (now (olds .entry))) ≡ cancelHeld (lent head (now (plan .entry)) keys (now (cells .entry)) (now (status .entry)) (now (olds .entry))) worker c) ⌝ }
 {
     let n = key_count(plan, c);
     if !restorable(plan, c, n) {
-        return Reply {
-            head,
+        return Seated {
+            seat,
             answer: Answer::Damaged,
         };
     }
     restore(plan, c, n, olds, worker, cells);
     wire::put_word(status, STATUS_WORDS * c, WAITING);
-    Reply {
-        head: with_seat(head, worker, idle_seat()),
+    Seated {
+        seat: idle_seat(),
         answer: Answer::Accepted,
     }
 }
@@ -71,8 +75,19 @@ pub fn cancel(
         status.len(),
         olds.len(),
     );
-    match held(head, large, worker) {
+    if let Tested::Refused(answer) = worker_tested(head.workers, large, worker) {
+        return Reply { head, answer };
+    }
+    let mut next = head;
+    let seat = next.seats[worker];
+    match held(head.calls, seat.call) {
         Holding::Answered(answer) => Reply { head, answer },
-        Holding::Holds(c) => cancel_held(head, plan, cells, status, olds, worker, c),
+        Holding::Holds(c) => {
+            let after = cancel_held(seat, plan, cells, status, olds, worker, c);
+            let answer = after.answer;
+            let seat = after.seat;
+            next.seats[worker] = seat;
+            Reply { head: next, answer }
+        }
     }
 }

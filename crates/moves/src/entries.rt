@@ -1,11 +1,11 @@
 // A call's entries in the plan: their number, whether they can be used to keep and to restore, the old values kept, and the cells restored.
-use crate::layout::FIRST_ENTRY;
-use crate::layout::FLAGS;
-use crate::layout::KEY_COUNT;
-use crate::layout::PLAN_WORDS;
-use crate::layout::WRITES;
 use block::limits::MAX_CALL_KEYS;
 use block::limits::MAX_KEYS;
+use footprint::layout::FIRST_ENTRY;
+use footprint::layout::FLAGS;
+use footprint::layout::KEY_COUNT;
+use footprint::layout::PLAN_WORDS;
+use footprint::layout::WRITES;
 ghost use mathlib.Core.Path.{_≡_};
 ghost use mathlib.Core.Bool.{_&&_, _||_, not};
 ghost use Prim.Native.Nat.{_*_, _%_, _≤_, _<_};

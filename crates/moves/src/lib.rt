@@ -3,17 +3,23 @@ pub mod begin;
 pub mod cancel;
 mod entries;
 mod held;
-mod layout;
 mod lookup;
 mod perform;
 pub mod step;
 
 use machine::Answer;
 use machine::Head;
+use machine::Seat;
 
 // What a move answers, and the head behind it.
 pub struct Reply {
     pub head: Head,
+    pub answer: Answer,
+}
+
+// What a move behind its tests leaves of the head, its worker's seat, and what it answers.
+pub struct Seated {
+    pub seat: Seat,
     pub answer: Answer,
 }
 

@@ -1,12 +1,12 @@
 // Where a call keeps a cell: the search among its entries for a key with the wanted flags.
-use crate::layout::FIRST_ENTRY;
-use crate::layout::FLAGS;
-use crate::layout::KEY_COUNT;
-use crate::layout::PLAN_WORDS;
-use crate::layout::WRITES;
 use block::limits::MAX_CALL_KEYS;
 use block::limits::MAX_KEYS;
 use footprint::KeyUse;
+use footprint::layout::FIRST_ENTRY;
+use footprint::layout::FLAGS;
+use footprint::layout::KEY_COUNT;
+use footprint::layout::PLAN_WORDS;
+use footprint::layout::WRITES;
 use machine::Lookup;
 ghost use mathlib.Core.Path.{_≡_};
 ghost use mathlib.Core.Bool.{_&&_, _||_, not};

@@ -2,14 +2,12 @@
 use crate::Fate;
 use crate::Holding;
 use crate::Reply;
+use crate::Seated;
+use crate::Tested;
 use crate::Turn;
 use crate::held::held;
 use crate::held::idle_seat;
-use crate::held::large_enough;
-use crate::held::seat_at;
-use crate::held::with_seat;
-use crate::layout::FINISHED;
-use crate::layout::STATUS_WORDS;
+use crate::held::worker_tested;
 use crate::lookup::plan_word;
 use crate::perform::damaged;
 use crate::perform::done;
@@ -27,9 +25,14 @@ use block::record::call_at;
 use block::record::code_at;
 use footprint::access::entry_uses;
 use footprint::access::instr_uses;
+use footprint::layout::CODE_LENGTH;
+use footprint::layout::CODE_START;
 use machine::Answer;
 use machine::Head;
 use machine::Seat;
+use machine::layout::FINISHED;
+use machine::layout::STATUS_WORDS;
+use machine::layout::large_enough;
 ghost use mathlib.Core.Path.{_≡_};
 ghost use mathlib.Core.Bool.{_&&_, _||_, not};
 ghost use mathlib.Core.List.{List};
@@ -37,23 +40,19 @@ ghost use Prim.Native.Nat.{ℕ, _+_, _-_, _*_, _≤_, _<_};
 ghost use lib.Dec.{ltb};
 ghost use lib.ListN.{drop};
 ghost use Rattle.block.specs.Instruction.{decode, instrBytes};
-ghost use Rattle.block.specs.Limits.{maxCalls, maxCode, maxWorkers};
+ghost use Rattle.block.specs.Limits.{maxCalls, maxCode};
 ghost use Rattle.block.specs.Record.{callBytes, headBytes};
 ghost use Rattle.machine.specs.Run.{planWord, seatOf, withReceipt};
 ghost use Rattle.machine.specs.Step.{stepCall, stepDecoded, stepEntry, stepInstr};
-ghost use Rattle.machine.specs.Moves.{localOf, stepHeld, stepOf, stepped, viewOf};
+ghost use Rattle.machine.specs.Moves.{stepHeld, stepOf};
+ghost use Rattle.machine.specs.declared.Head.{Head};
 ghost use Rattle.moves.specs.Lent.{lent, moved};
-ghost use Rattle.moves.specs.Turn.{localIn, ownOlds, settledBy, turned, viewIn, Ready, Placed};
+ghost use Rattle.moves.specs.Turn.{localIn, ownOlds, settledBy, settledRun, turned, viewIn, Ready, Placed};
 
 // The outcomes of a call that ends behind its code, and of one whose function is unknown.
 const ENDED: u64 = 0;
 
 const UNKNOWN_FUNCTION: u64 = 1;
-
-// The words of a call in the plan: where its code starts, and its length plus 1.
-const START_WORD: usize = 0;
-
-const CODE_WORD: usize = 1;
 
 // The length of a call record.
 const RECORD_BYTES: usize = HEAD_BYTES + CALL_BYTES;
@@ -75,7 +74,7 @@ fn step_entry(
     requires { ⌜ seat .place ≤ maxCode ⌝ }
     ensures { λ r. ⌜ ((block : List ℕ) → record { turn = r; cells = now (cells .exit) } ≡ turned (now (cells .entry)) (stepEntry (viewIn block (now (plan .entry)) (now (keys .entry)) c call) (localIn seat (ownOlds (now (plan .entry)) (now (olds .entry)) w c)) (now (cells .entry)))) ⌝ }
 {
-    if plan_word(plan, c, CODE_WORD) == 0 {
+    if plan_word(plan, c, CODE_LENGTH) == 0 {
         return done(UNKNOWN_FUNCTION, seat.count);
     }
     let regs = seat.regs;
@@ -153,8 +152,8 @@ fn step_instr(
     requires { ⌜ seat .count ≤ maxCode ⌝ }
     ensures { λ r. ⌜ record { turn = r; cells = now (cells .exit) } ≡ turned (now (cells .entry)) (stepInstr (viewIn (now (block .entry)) (now (plan .entry)) (now (keys .entry)) c call) (localIn seat (ownOlds (now (plan .entry)) (now (olds .entry)) w c)) (now (cells .entry))) ⌝ }
 {
-    let start = plan_word(plan, c, START_WORD) as usize;
-    let size = plan_word(plan, c, CODE_WORD) as usize - 1;
+    let start = plan_word(plan, c, CODE_START) as usize;
+    let size = plan_word(plan, c, CODE_LENGTH) as usize - 1;
     let len = INSTR_BYTES * size;
     if block.len() < len {
         return damaged();
@@ -185,7 +184,7 @@ fn step_call(
     if seat.place == 0 {
         return step_entry(plan, keys, cells, olds, w, c, seat, call);
     }
-    if seat.place as u64 == plan_word(plan, c, CODE_WORD) {
+    if seat.place as u64 == plan_word(plan, c, CODE_LENGTH) {
         return done(ENDED, seat.count);
     }
     step_instr(block, plan, keys, cells, olds, w, c, seat, call)
@@ -203,60 +202,37 @@ fn put_receipt(status: &mut [u64], c: usize, outcome: u64, count: u64)
 }
 
 // "A finished or cancelled call frees its worker."
-fn settle(head: Head, status: &mut [u64], w: usize, c: usize, turn: Turn) -> Reply
-    requires { ⌜ w < maxWorkers ⌝ }
+fn settle(seat: Seat, status: &mut [u64], c: usize, turn: Turn) -> Seated
     requires { ⌜ c < maxCalls ⌝ }
-    ensures { λ r. ⌜ record { head = r .head; answer = r .answer; status = now (status .exit) } ≡ settledBy head (now (status .entry)) w c turn ⌝ }
+    ensures { λ r. ⌜ record { seated = r; status = now (status .exit) } ≡ settledBy seat (now (status .entry)) c turn ⌝ }
 {
     let fate = turn.fate;
     let regs = turn.regs;
     match fate {
-        Fate::Broken => Reply {
-            head,
+        Fate::Broken => Seated {
+            seat,
             answer: Answer::Damaged,
         },
         Fate::Going(place) => {
-            let seat = Seat {
+            let on = Seat {
                 call: c + 1,
                 place,
                 count: turn.count,
                 regs,
             };
-            Reply {
-                head: with_seat(head, w, seat),
+            Seated {
+                seat: on,
                 answer: Answer::Accepted,
             }
         }
         Fate::Over(outcome) => {
             put_receipt(status, c, outcome, turn.count);
-            Reply {
-                head: with_seat(head, w, idle_seat()),
+            Seated {
+                seat: idle_seat(),
                 answer: Answer::Accepted,
             }
         }
     }
-}
-
-// The run after a step of call c on worker w, whose record holds `call`.
-fn step_record(
-    head: Head,
-    block: &[u8],
-    plan: &[u64],
-    keys: &[u64],
-    cells: &mut [i64],
-    status: &mut [u64],
-    olds: &[i64],
-    w: usize,
-    c: usize,
-    call: Call,
-) -> Reply
-    requires { ⌜ Ready (now plan) (now olds) w c ⌝ }
-    requires { ⌜ Placed (now plan) c (seatOf head w) ⌝ }
-    ensures { λ r. ⌜ moved (r .answer) (lent (r .head) (now (plan .entry)) (now (keys .entry)) (now (cells .exit)) (now (status .exit)) (now (olds .entry))) ≡ stepped (lent head (now (plan .entry)) (now (keys .entry)) (now (cells .entry)) (now (status .entry)) (now (olds .entry))) w c (stepCall (viewOf (now (block .entry)) (lent head (now (plan .entry)) (now (keys .entry)) (now (cells .entry)) (now (status .entry)) (now (olds .entry))) c call) (localOf (lent head (now (plan .entry)) (now (keys .entry)) (now (cells .entry)) (now (status .entry)) (now (olds .entry))) w c) (now (cells .entry))) ⌝ }
-{
-    let seat = seat_at(head, w);
-    let turn = step_call(block, plan, keys, cells, olds, w, c, seat, call);
-    settle(head, status, w, c, turn)
 }
 
 // The place (entry, or 0 to the code's length) and the count.
@@ -264,7 +240,7 @@ fn in_range(plan: &[u64], c: usize, seat: Seat) -> bool
     requires { ⌜ c < maxCalls ⌝ }
     ensures { λ r. ⌜ r ≡ (not (ltb (maxCode + 1) (planWord (now (plan .entry)) c 1) || ltb (planWord (now (plan .entry)) c 1) (seat .place)) && not (ltb maxCode (seat .count))) ⌝ }
 {
-    let code = plan_word(plan, c, CODE_WORD) as usize;
+    let code = plan_word(plan, c, CODE_LENGTH) as usize;
     if LAST_PLACE < code {
         return false;
     }
@@ -286,42 +262,31 @@ fn has_record(len: usize, first: usize, c: usize) -> bool
     first <= len - end
 }
 
-// A step of the call c that worker w holds.
+// A step of the call c that worker w holds, in a run whose first call record starts at `first`.
 fn step_held(
-    head: Head,
+    seat: Seat,
+    first: usize,
     block: &[u8],
     plan: &[u64],
     keys: &[u64],
     cells: &mut [i64],
-    status: &mut [u64],
     olds: &[i64],
     w: usize,
     c: usize,
-) -> Reply
+) -> Turn
     requires { ⌜ Ready (now plan) (now olds) w c ⌝ }
-    ensures { λ r. ⌜ moved (r .answer) (lent (r .head) (now (plan .entry)) (now (keys .entry)) (now (cells .exit)) (now (status .exit)) (now (olds .entry))) ≡ stepHeld (now (block .entry)) (lent head (now (plan .entry)) (now (keys .entry)) (now (cells .entry)) (now (status .entry)) (now (olds .entry))) w c ⌝ }
+    ensures { λ r. ⌜ ((head : Head) (status : List ℕ) → seat ≡ seatOf head w → first ≡ head .first → settledRun head (now (plan .entry)) (now (keys .entry)) (now (cells .exit)) status (now (olds .entry)) w c r ≡ stepHeld (now (block .entry)) (lent head (now (plan .entry)) (now (keys .entry)) (now (cells .entry)) status (now (olds .entry))) w c) ⌝ }
 {
-    let seat = seat_at(head, w);
-    let first = head.first;
     if !in_range(plan, c, seat) {
-        return Reply {
-            head,
-            answer: Answer::Damaged,
-        };
+        return damaged();
     }
     if !has_record(block.len(), first, c) {
-        return Reply {
-            head,
-            answer: Answer::Damaged,
-        };
+        return damaged();
     }
     let CallBody::InRange(call) = call_at(block, first + RECORD_BYTES * c + HEAD_BYTES) else {
-        return Reply {
-            head,
-            answer: Answer::Damaged,
-        };
+        return damaged();
     };
-    step_record(head, block, plan, keys, cells, status, olds, w, c, call)
+    step_call(block, plan, keys, cells, olds, w, c, seat, call)
 }
 
 // STEP(worker) on a lent run and block: the answer and the head, with the cells and the status changed in place.
@@ -344,8 +309,20 @@ pub fn step(
         status.len(),
         olds.len(),
     );
-    match held(head, large, worker) {
+    if let Tested::Refused(answer) = worker_tested(head.workers, large, worker) {
+        return Reply { head, answer };
+    }
+    let mut next = head;
+    let seat = next.seats[worker];
+    match held(head.calls, seat.call) {
         Holding::Answered(answer) => Reply { head, answer },
-        Holding::Holds(c) => step_held(head, block, plan, keys, cells, status, olds, worker, c),
+        Holding::Holds(c) => {
+            let turn = step_held(seat, head.first, block, plan, keys, cells, olds, worker, c);
+            let after = settle(seat, status, c, turn);
+            let answer = after.answer;
+            let seat = after.seat;
+            next.seats[worker] = seat;
+            Reply { head: next, answer }
+        }
     }
 }

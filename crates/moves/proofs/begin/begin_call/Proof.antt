@@ -2,6 +2,7 @@
 -- Assumes nothing.
 use borrow.Author.Needs.{needs}
 use native.Mathlib.Omega.{arith}
+use Rattle.moves.proofs.HeldLaws.{seat-kept}
 use Rattle.moves.proofs.BeginLaws.{behind-stop, behind-on, few-keys, begun}
 use Rattle.moves.proofs.begin.begin_call.Statement.{statement}
 use Rattle.moves.proofs.begin.begin_call.Tie as tie
@@ -18,7 +19,8 @@ same-length c = search needs
 returns : tie.Need-returns
 returns c =
     let a = c .before .before .before .before .before .before .before .args in
-    λ keys. behind-stop _ _ (c .before .answer .given .1) (c .before .before .before .call-tested .ensures .0 (a .head) keys (a .cells .now) (a .olds .now) (a .worker))
+    λ head keys own. seat-kept head (a .worker) (a .plan .now) keys (a .status .now) (a .cells .now) (a .olds .now) own
+    (behind-stop _ _ (c .before .answer .given .1) (c .before .before .before .call-tested .ensures .0 head keys (a .cells .now) (a .olds .now) (a .worker)))
 
 enum-told : tie.Need-enum-told
 enum-told c = search needs
@@ -41,9 +43,6 @@ put-word-requires c κs = search needs
 add-t19 : tie.Need-add-t19
 add-t19 c = search needs
 
-with-seat-requires : tie.Need-with-seat-requires
-with-seat-requires c κs = search needs
-
 same-length-2 : tie.Need-same-length-2
 same-length-2 c = search needs
 
@@ -52,9 +51,9 @@ same-length-3 c = search needs
 
 returns-2 : tie.Need-returns-2
 returns-2 c =
-    let a = c .before .before .before .before .before .before .before .before .before .before .before .before .before .before .before .args in
-    λ keys. behind-on _ _ (c .before .before .before .before .before .before .before .before .before .enum-told .given .1) (c .before .before .before .before .before .before .before .before .before .before .before .call-tested .ensures .0 (a .head) keys (a .cells .now) (a .olds .now) (a .worker))
-    (begun (a .head) (a .plan .now) keys (a .status .now) (a .cells .now) (a .olds .now) (a .worker) (a .call) (c .before .before .before .before .before .before .before .before .key-count .ensures) (c .before .before .before .before .before .before .save .ensures) (c .before .before .before .put-word .ensures) (c .with-seat .ensures))
+    let a = c .before .before .before .before .before .before .before .before .before .before .before .before .before .before .args in
+    λ head keys own. behind-on _ _ (c .before .before .before .before .before .before .before .before .enum-told .given .1) (c .before .before .before .before .before .before .before .before .before .before .call-tested .ensures .0 head keys (a .cells .now) (a .olds .now) (a .worker))
+    (begun head (a .plan .now) keys (a .status .now) (a .cells .now) (a .olds .now) (a .worker) (a .call) (c .before .before .before .before .before .before .before .key-count .ensures) (c .before .before .before .before .before .save .ensures) (c .before .before .put-word .ensures))
 
 pub begin-call-spec : {M : Type 1} → statement M
 begin-call-spec =
@@ -70,7 +69,6 @@ begin-call-spec =
     mul-put-word
     put-word-requires
     add-t19
-    with-seat-requires
     same-length-2
     same-length-3
     returns-2)

@@ -17,8 +17,7 @@ restorable-requires c κs = search needs
 returns : tie.Need-returns
 returns c =
     let a = c .before .before .before .before .before .args in
-    λ keys. cancel-damaged (a .head) (a .worker) (a .plan .now) keys (a .status .now) (a .cells .now) (a .olds .now) (a .c) (c .before .before .key-count .ensures)
-    (sym (not-true _ (c .if1 .taken)) ∙ c .before .restorable .ensures)
+    λ head keys own. cancel-damaged head (a .worker) (a .plan .now) keys (a .status .now) (a .cells .now) (a .olds .now) (a .c) (c .before .before .key-count .ensures) own (sym (not-true _ (c .if1 .taken)) ∙ c .before .restorable .ensures)
 
 restore-requires : tie.Need-restore-requires
 restore-requires c κs =
@@ -35,9 +34,6 @@ put-word-requires c κs = search needs
 idle-seat-requires : tie.Need-idle-seat-requires
 idle-seat-requires c κs = search needs
 
-with-seat-requires : tie.Need-with-seat-requires
-with-seat-requires c κs = search needs
-
 same-length : tie.Need-same-length
 same-length c = search needs
 
@@ -46,10 +42,10 @@ same-length-2 c = search needs
 
 returns-2 : tie.Need-returns-2
 returns-2 c =
-    let a = c .before .before .before .before .before .before .before .before .before .before .before .before .before .before .args in
-    let r = c .before .before .before .before .before .before .before .before .before .before in
-    λ keys. cancel-done (a .head) (a .worker) (a .plan .now) keys (a .status .now) (a .cells .now) (a .olds .now) (a .c) (r .before .key-count .ensures)
-    (sym (not-false _ (c .before .before .before .before .before .before .before .before .before .if1 .left)) ∙ r .restorable .ensures) (c .before .before .before .before .before .before .before .restore .ensures) (c .before .before .before .before .put-word .ensures) (c .before .idle-seat .ensures) (c .with-seat .ensures)
+    let a = c .before .before .before .before .before .before .before .before .before .before .before .before .before .args in
+    let r = c .before .before .before .before .before .before .before .before .before in
+    λ head keys own. cancel-done head (a .worker) (a .plan .now) keys (a .status .now) (a .cells .now) (a .olds .now) (a .c) (r .before .key-count .ensures) (sym (not-false _ (c .before .before .before .before .before .before .before .before .if1 .left)) ∙ r .restorable .ensures)
+    (c .before .before .before .before .before .before .restore .ensures) (c .before .before .before .put-word .ensures) (c .idle-seat .ensures)
 
 pub cancel-held-spec : {M : Type 1} → statement M
 cancel-held-spec =
@@ -62,7 +58,6 @@ cancel-held-spec =
     mul-put-word
     put-word-requires
     idle-seat-requires
-    with-seat-requires
     same-length
     same-length-2
     returns-2)

@@ -10,11 +10,8 @@ enum-told c = search needs
 enum-known-fate : tie.Need-enum-known-fate
 enum-known-fate c = search needs
 
-add-t13 : tie.Need-add-t13
-add-t13 c = search needs
-
-with-seat-requires : tie.Need-with-seat-requires
-with-seat-requires c κs = search needs
+add-t12 : tie.Need-add-t12
+add-t12 c = search needs
 
 enum-known-fate-2 : tie.Need-enum-known-fate-2
 enum-known-fate-2 c = search needs
@@ -25,29 +22,23 @@ put-receipt-requires c κs = search needs
 idle-seat-requires : tie.Need-idle-seat-requires
 idle-seat-requires c κs = search needs
 
-with-seat-requires-2 : tie.Need-with-seat-requires-2
-with-seat-requires-2 c κs = search needs
-
 returns : tie.Need-returns
 returns c =
-    let s = c .before .before .before .before in
-    let a = s .args in
-    settle-broken (a .head) (a .status .now) (a .w) (a .c) (a .turn) (c .enum-told .given .1)
+    let a = c .before .before .before .before .args in
+    settle-broken (a .seat) (a .status .now) (a .c) (a .turn) (c .enum-told .given .1)
 
 returns-2 : tie.Need-returns-2
 returns-2 c =
-    let s = c .before .before .before .before .before .before in
-    let a = s .args in
-    settle-going (a .head) (a .status .now) (a .w) (a .c) (a .turn) (c .before .before .fate .given .1) (c .with-seat .ensures)
+    let a = c .before .before .before .before .before .args in
+    settle-going (a .seat) (a .status .now) (a .c) (a .turn) (c .before .fate .given .1)
 
 same-length : tie.Need-same-length
 same-length c = search needs
 
 returns-3 : tie.Need-returns-3
 returns-3 c =
-    let s = c .before .before .before .before .before .before .before .before .before .before .before in
-    let a = s .args in
-    settle-over (a .head) (a .status .now) (a .w) (a .c) (a .turn) (c .before .before .before .before .before .before .before .fate2 .given .1) (c .before .idle-seat .ensures) (c .with-seat2 .ensures) (c .before .before .before .before .put-receipt .ensures)
+    let a = c .before .before .before .before .before .before .before .before .before .before .args in
+    settle-over (a .seat) (a .status .now) (a .c) (a .turn) (c .before .before .before .before .before .before .fate2 .given .1) (c .idle-seat .ensures) (c .before .before .before .put-receipt .ensures)
 
 pub settle-spec : {M : Type 1} → statement M
 settle-spec =
@@ -55,12 +46,10 @@ settle-spec =
     (tie.spec
     enum-told
     enum-known-fate
-    add-t13
-    with-seat-requires
+    add-t12
     enum-known-fate-2
     put-receipt-requires
     idle-seat-requires
-    with-seat-requires-2
     returns
     returns-2
     same-length
