@@ -8,8 +8,9 @@ use native.Mathlib.Numerals.{add-one}
 use native.Mathlib.Omega.{arith}
 use borrow.Author.Tests.{lt-ltb, le-ltb, eq-eqb, ne-eqb}
 use lib.Dec.{eqb, ltb}
-use lib.ListN.{drop, set}
+use lib.ListN.{length, drop, set}
 use Rattle.arith.specs.Choice.{if_then_else_}
+use Rattle.wire.specs.Bytes.{repeated}
 use Rattle.wire.specs.RowOps.{firstOf}
 use Rattle.block.specs.Instruction.{instrBytes, decode}
 use Rattle.block.specs.Limits.{maxCallKeys}
@@ -19,21 +20,21 @@ use Rattle.block.specs.declared.Decoded.the-variants.{Valid, Invalid}
 use Rattle.block.specs.declared.Instr.{Instr}
 use Rattle.footprint.specs.Access.{Access, accesses, entryAccesses}
 use Rattle.footprint.specs.AccessLaws.{entry-few, decoded-few}
-use Rattle.analysis.specs.Gathered.{gathered, holdsKey, placeIn, tooMany, useFlags, united, extended, withUseAt, withUse, withUses}
-use Rattle.analysis.specs.GatheredLaws.{if-true, if-false, gathered-count, gathered-uses}
+use Rattle.analysis.specs.Gathered.{Wide, inParts, gathered, holdsKey, placeIn, tooMany, useFlags, united, extended, withUseAt, withUse, withUses}
+use Rattle.analysis.specs.GatheredLaws.{if-true, if-false, gathered-count, gathered-uses, use-count}
 use Rattle.footprint.specs.SetLaws.{merged-append, code-more}
 use Rattle.footprint.specs.Sets.{mergeAll, decodedAccesses, codeAccesses}
 use Rattle.footprint.specs.Uses.{usesOf}
 use Rattle.footprint.specs.declared.KeyUse.{KeyUse}
 use Rattle.analysis.specs.declared.Sets.{Sets}
+use Rattle.analysis.specs.declared.Standing.{Standing}
 use Rattle.footprint.specs.declared.Uses.{Uses}
 
 -- ---- the search for a place
 
 -- The search that starts at the first place.
-pub place-start : (s : Sets) (u : KeyUse) → placeIn s u ≡ firstOf (holdsKey s u) (s .count - 0) 0
-unfolding placeIn
-place-start s u = let all : s .count ≡ s .count - 0 = omega arith in ap (λ (n : ℕ). firstOf (holdsKey s u) n 0) all
+pub place-start : (p : ℕ → Bool) (n : ℕ) → firstOf p n 0 ≡ firstOf p (n - 0) 0
+place-start p n = let all : n ≡ n - 0 = omega arith in ap (λ (m : ℕ). firstOf p m 0) all
 
 module _ (p : ℕ → Bool) (n at : ℕ) where
   turn : at < n → firstOf p (n - at) at ≡ firstOf p (suc (n - (at + 1))) at
@@ -57,9 +58,9 @@ pub use-over : (s : Sets) (u : KeyUse) → s .over ≡ true → s ≡ withUse s 
 unfolding withUse
 use-over s u over = sym (if-true s (withUseAt s u (placeIn s u)) over)
 
-module _ (s : Sets) (u : KeyUse) {at : ℕ} (fits : s .over ≡ false) (place : at ≡ placeIn s u) where
+module _ (s : Sets) (u : KeyUse) {at : ℕ} (fits : s .over ≡ false) (place : at ≡ firstOf (holdsKey s u) (s .count) 0) where
   use-at : withUse s u ≡ withUseAt s u at
-  unfolding withUse
+  unfolding withUse placeIn
   use-at = if-false s (withUseAt s u (placeIn s u)) fits ∙ ap (withUseAt s u) (sym place)
 
   pub use-known : {f : ℕ} → f ≡ useFlags u → at < s .count → united s at f ≡ withUse s u
@@ -74,15 +75,16 @@ module _ (s : Sets) (u : KeyUse) {at : ℕ} (fits : s .over ≡ false) (place : 
 
   pub use-new : {f : ℕ} → f ≡ useFlags u → s .count ≤ at → at < maxCallKeys
       → _≡_ {A = Sets}
-      (record { over = s .over; count = at + 1; highs = set (s .highs) at (u .high); lows = set (s .lows) at (u .low); flags = set (s .flags) at f })
+      (record { over = false; count = at + 1; highs = set (s .highs) at (u .high); lows = set (s .lows) at (u .low); flags = set (s .flags) at f })
       (withUse s u)
   use-new {f} flags h room =
+      let fitting : false ≡ s .over = sym fits in
       let flagged : set (s .flags) at f ≡ set (s .flags) at (useFlags u) = ap (set (s .flags) at) flags in
       let made : _≡_ {A = Sets}
-      (record { over = s .over; count = at + 1; highs = set (s .highs) at (u .high); lows = set (s .lows) at (u .low); flags = set (s .flags) at f })
+      (record { over = false; count = at + 1; highs = set (s .highs) at (u .high); lows = set (s .lows) at (u .low); flags = set (s .flags) at f })
       (extended s at u) =
       λ i. record {
-        over = s .over;
+        over = fitting i;
         count = at + 1;
         highs = set (s .highs) at (u .high);
         lows = set (s .lows) at (u .low);
@@ -92,6 +94,26 @@ module _ (s : Sets) (u : KeyUse) {at : ℕ} (fits : s .over ≡ false) (place : 
 
   pub use-past : {r : Sets} → r ≡ tooMany → s .count ≤ at → maxCallKeys ≤ at → r ≡ withUse s u
   use-past e h full = e ∙ sym (new h ∙ if-false (extended s at u) tooMany (le-ltb at maxCallKeys full))
+
+-- Cleared columns are those of too many keys.
+pub all-clear : (hs ls fs : List ℕ) {ks bs cs : List ℕ}
+    → ks ≡ repeated (length hs) 0 → bs ≡ repeated (length ls) 0 → cs ≡ repeated (length fs) 0
+    → length hs ≡ maxCallKeys → length ls ≡ maxCallKeys → length fs ≡ maxCallKeys
+    → inParts (record { over = true; count = 0 }) ks bs cs ≡ tooMany
+all-clear hs ls fs {ks} {bs} {cs} e f g h l m =
+    let highs : ks ≡ repeated maxCallKeys 0 = e ∙ ap (λ (n : ℕ). repeated n 0) h in
+    let lows : bs ≡ repeated maxCallKeys 0 = f ∙ ap (λ (n : ℕ). repeated n 0) l in
+    let flags : cs ≡ repeated maxCallKeys 0 = g ∙ ap (λ (n : ℕ). repeated n 0) m in
+    λ i. record { over = true; count = 0; highs = highs i; lows = lows i; flags = flags i }
+
+-- A use keeps the columns wide.
+pub wide-used : (t r : Standing) (hs ls fs ks bs cs : List ℕ) (u : KeyUse) → Wide t hs ls fs
+    → inParts r ks bs cs ≡ withUse (inParts t hs ls fs) u → length ks ≡ length hs → length bs ≡ length ls → length cs ≡ length fs
+    → Wide r ks bs cs
+wide-used t r hs ls fs ks bs cs u wide e h l f =
+    let few : withUse (inParts t hs ls fs) u .count ≤ maxCallKeys = use-count (inParts t hs ls fs) u (wide .0) in
+    let same : r .count ≡ withUse (inParts t hs ls fs) u .count = ap (λ (s : Sets). s .count) e in
+    (omega arith, h ∙ wide .1, l ∙ wide .2, f ∙ wide .3)
 
 module _ (s : Sets) (us : Uses) where
   pub uses-none : us .count ≡ 0 → s ≡ withUses s us
@@ -122,15 +144,12 @@ module _ (s : Sets) (us : Uses) where
 -- ---- the walks
 
 -- An instruction, as it was decoded.
-module _ (s : Sets) (c : Call) {d e : Decoded} (same : d ≡ e) where
-  pub walk-valid : {i : Instr} {us : Uses} {r : Sets} → d ≡ Valid i → us ≡ usesOf (accesses c i) → r ≡ withUses s us
-      → r ≡ withUses s (usesOf (decodedAccesses c e))
-  walk-valid valid uses sets =
-      sets ∙ ap (withUses s) (uses ∙ ap (λ (x : Decoded). usesOf (decodedAccesses c x)) (sym valid ∙ same))
+module _ (c : Call) {d e : Decoded} (same : d ≡ e) where
+  pub uses-valid : {i : Instr} {us : Uses} → d ≡ Valid i → us ≡ usesOf (accesses c i) → us ≡ usesOf (decodedAccesses c e)
+  uses-valid valid uses = uses ∙ ap (λ (x : Decoded). usesOf (decodedAccesses c x)) (sym valid ∙ same)
 
-  pub walk-invalid : d ≡ Invalid → s ≡ withUses s (usesOf (decodedAccesses c e))
-  unfolding withUses usesOf
-  walk-invalid invalid = ap (λ (x : Decoded). withUses s (usesOf (decodedAccesses c x))) (sym invalid ∙ same)
+  pub uses-invalid : d ≡ Invalid → usesOf [] ≡ usesOf (decodedAccesses c e)
+  uses-invalid invalid = ap (λ (x : Decoded). usesOf (decodedAccesses c x)) (sym invalid ∙ same)
 
 pub some-gathered : {s : Sets} (es : List Access) → s ≡ gathered es → s .count ≤ maxCallKeys
 some-gathered es e = rw e (gathered-count es)
@@ -145,14 +164,14 @@ module _ (c : Call) (size : ℕ) (code : List ℕ) where
   unfolding mergeAll codeAccesses
   walk-start empty uses sets = sets ∙ ap₂ withUses empty uses ∙ gathered-uses [] (entryAccesses c) (entry-few c)
 
-  pub walk-more : (n : ℕ) {s r : Sets} → s ≡ gathered (firstAccesses n)
-      → r ≡ withUses s (usesOf (decodedAccesses c (decode n size (drop (instrBytes * n) code)))) → r ≡ gathered (firstAccesses (n + 1))
-  walk-more n so-far sets =
+  pub walk-more : (n : ℕ) {s r : Sets} {us : Uses} → s ≡ gathered (firstAccesses n)
+      → us ≡ usesOf (decodedAccesses c (decode n size (drop (instrBytes * n) code))) → r ≡ withUses s us → r ≡ gathered (firstAccesses (n + 1))
+  walk-more n so-far uses sets =
       let next : List Access = decodedAccesses c (decode n size (drop (instrBytes * n) code)) in
       let more : codeAccesses c n 0 size code ++ next ≡ codeAccesses c (n + 1) 0 size code =
       ap (λ (i : ℕ). codeAccesses c n 0 size code ++ decodedAccesses c (decode i size (drop (instrBytes * n) code))) (sym (zero-add n))
       ∙ sym (code-more c n 0 size code) ∙ ap (λ (m : ℕ). codeAccesses c m 0 size code) (sym (add-one n)) in
-      sets ∙ ap (λ (x : Sets). withUses x (usesOf next)) so-far
+      sets ∙ ap₂ withUses so-far uses
       ∙ gathered-uses (firstAccesses n) next (decoded-few c (decode n size (drop (instrBytes * n) code)))
       ∙ ap gathered
       (sym (merged-append (mergeAll [] (entryAccesses c)) (codeAccesses c n 0 size code) next)

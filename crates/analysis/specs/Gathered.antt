@@ -1,7 +1,8 @@
 -- The set of a call as the code gathers it: the words and flags of its distinct keys in three buffers of 24 places. Assumes nothing.
+use mathlib.Core.Path.{_≡_}
 use mathlib.Core.Bool.{Bool, true, false, _&&_}
 use mathlib.Core.List.{List, map}
-use Prim.Native.Nat.{ℕ, _+_, _*_}
+use Prim.Native.Nat.{ℕ, _+_, _*_, _≤_}
 use lib.Bits.{bitOr}
 use lib.Dec.{eqb, ltb}
 use lib.ListN.{length, getD, set}
@@ -15,6 +16,7 @@ use Rattle.footprint.specs.Plan.{highWord, lowWord}
 use Rattle.footprint.specs.declared.KeyUse.{KeyUse}
 use Rattle.footprint.specs.declared.Uses.{Uses}
 use Rattle.analysis.specs.declared.Sets.{Sets}
+use Rattle.analysis.specs.declared.Standing.{Standing}
 
 -- A column of the set: what each access has there, and zeros behind.
 abbrev pub column : (Access → ℕ) → List Access → List ℕ
@@ -34,6 +36,14 @@ flagsOf e = bit (e .reads) + 2 * bit (e .writes)
 abbrev pub tooMany : Sets
 tooMany = record { over = true; count = 0; highs = repeated maxCallKeys 0; lows = repeated maxCallKeys 0; flags = repeated maxCallKeys 0 }
 
+-- A set whose columns lie apart.
+abbrev pub inParts : Standing → List ℕ → List ℕ → List ℕ → Sets
+inParts t hs ls fs = record { over = t .over; count = t .count; highs = hs; lows = ls; flags = fs }
+
+-- Its columns have their 24 places, and no more keys stand.
+abbrev pub Wide : Standing → List ℕ → List ℕ → List ℕ → Type 0
+Wide t hs ls fs = (t .count ≤ maxCallKeys) × (length hs ≡ maxCallKeys) × (length ls ≡ maxCallKeys) × (length fs ≡ maxCallKeys)
+
 -- Accesses that fit.
 abbrev pub columns : List Access → Sets
 columns es = record { over = false; count = length es; highs = column highOf es; lows = column lowOf es; flags = column flagsOf es }
@@ -41,9 +51,12 @@ columns es = record { over = false; count = length es; highs = column highOf es;
 unfoldable pub gathered : List Access → Sets
 gathered es = if ltb maxCallKeys (length es) then tooMany else columns es
 
--- Whether a place holds the key of a use.
+-- Whether a place of two columns, or of a set, holds the key of a use.
+abbrev pub keyAt : List ℕ → List ℕ → KeyUse → ℕ → Bool
+keyAt hs ls u k = eqb (getD hs k 0) (u .high) && eqb (getD ls k 0) (u .low)
+
 abbrev pub holdsKey : Sets → KeyUse → ℕ → Bool
-holdsKey s u k = eqb (getD (s .highs) k 0) (u .high) && eqb (getD (s .lows) k 0) (u .low)
+holdsKey s u k = keyAt (s .highs) (s .lows) u k
 
 -- The place of a use's key among those that stand, or their number.
 unfoldable pub placeIn : Sets → KeyUse → ℕ

@@ -1,9 +1,11 @@
 // The set analysis of a call: its distinct keys with their flags, at most 24, gathered by a function walk over an instruction walk.
 use crate::Sets;
+use crate::Standing;
 use block::Call;
 use block::Decoded;
 use block::instruction::decode;
 use block::limits::MAX_CALL_KEYS;
+use block::record::INSTR_BYTES;
 use footprint::KeyUse;
 use footprint::Uses;
 use footprint::access::entry_uses;
@@ -11,16 +13,14 @@ use footprint::access::instr_uses;
 ghost use mathlib.Core.Path.{_≡_};
 ghost use mathlib.Core.List.{[]};
 ghost use Prim.Native.Nat.{_*_, _<_, _≤_};
-ghost use lib.ListN.{drop};
+ghost use lib.ListN.{drop, length};
+ghost use Rattle.wire.specs.RowOps.{firstOf};
 ghost use Rattle.block.specs.Instruction.{decode, instrBytes};
-ghost use Rattle.block.specs.Limits.{maxCallKeys, maxCode};
+ghost use Rattle.block.specs.Limits.{maxCode};
 ghost use Rattle.footprint.specs.Access.{entryAccesses};
-ghost use Rattle.analysis.specs.Gathered.{gathered, placeIn, tooMany, useFlags, withUse, withUses};
+ghost use Rattle.analysis.specs.Gathered.{Wide, gathered, inParts, keyAt, useFlags, withUse, withUses};
 ghost use Rattle.footprint.specs.Sets.{codeAccesses, decodedAccesses, mergeAll};
 ghost use Rattle.footprint.specs.Uses.{usesOf};
-
-// The length of an instruction in bytes.
-const INSTR_BYTES: usize = 8;
 
 // No keys.
 pub(crate) fn no_keys() -> Sets
@@ -28,19 +28,6 @@ pub(crate) fn no_keys() -> Sets
 {
     Sets {
         over: false,
-        count: 0,
-        highs: [0; MAX_CALL_KEYS],
-        lows: [0; MAX_CALL_KEYS],
-        flags: [0; MAX_CALL_KEYS],
-    }
-}
-
-// More keys than the limit.
-fn too_many() -> Sets
-    ensures { λ r. ⌜ r ≡ tooMany ⌝ }
-{
-    Sets {
-        over: true,
         count: 0,
         highs: [0; MAX_CALL_KEYS],
         lows: [0; MAX_CALL_KEYS],
@@ -64,14 +51,14 @@ fn use_flags(u: KeyUse) -> u64
     0
 }
 
-// The place of a use's key among those that stand, or their number.
-fn place(s: Sets, u: KeyUse) -> usize
-    requires { ⌜ s .count ≤ maxCallKeys ⌝ }
-    ensures { λ r. ⌜ r ≡ placeIn s u ⌝ }
+// The place of a use's key among the first `count`, or their number.
+fn place(highs: &[u64], lows: &[u64], count: usize, u: KeyUse) -> usize
+    requires { ⌜ (count ≤ length (now highs)) × (count ≤ length (now lows)) ⌝ }
+    ensures { λ r. ⌜ r ≡ firstOf (keyAt (now (highs .entry)) (now (lows .entry)) u) count 0 ⌝ }
 {
     let mut at = 0;
-    while at < s.count {
-        let found = (s.highs[at] == u.high) & (s.lows[at] == u.low);
+    while at < count {
+        let found = (highs[at] == u.high) & (lows[at] == u.low);
         if found {
             return at;
         }
@@ -81,54 +68,85 @@ fn place(s: Sets, u: KeyUse) -> usize
 }
 
 // One more use: its flags join those of its key, or its key is a new one behind the others.
-fn with_use(s: Sets, u: KeyUse) -> Sets
-    requires { ⌜ s .count ≤ maxCallKeys ⌝ }
-    ensures { λ r. ⌜ r ≡ withUse s u ⌝ }
+fn with_use(
+    highs: &mut [u64],
+    lows: &mut [u64],
+    flags: &mut [u64],
+    t: Standing,
+    u: KeyUse,
+) -> Standing
+    requires { ⌜ Wide t (now highs) (now lows) (now flags) ⌝ }
+    ensures { λ r. ⌜ inParts r (now (highs .exit)) (now (lows .exit)) (now (flags .exit)) ≡ withUse (inParts t (now (highs .entry)) (now (lows .entry)) (now (flags .entry))) u ⌝ }
 {
-    if s.over {
-        return s;
+    if t.over {
+        return t;
     }
-    let at = place(s, u);
-    let flags = use_flags(u);
-    let mut t = s;
-    if at < s.count {
-        let old = s.flags[at];
-        t.flags[at] = old | flags;
+    let at = place(highs, lows, t.count, u);
+    let joining = use_flags(u);
+    if at < t.count {
+        let old = flags[at];
+        flags[at] = old | joining;
         return t;
     }
     if MAX_CALL_KEYS <= at {
-        return too_many();
+        wire::clear_words(highs);
+        wire::clear_words(lows);
+        wire::clear_words(flags);
+        return Standing {
+            over: true,
+            count: 0,
+        };
     }
-    t.count = at + 1;
-    t.highs[at] = u.high;
-    t.lows[at] = u.low;
-    t.flags[at] = flags;
-    t
+    highs[at] = u.high;
+    lows[at] = u.low;
+    flags[at] = joining;
+    Standing {
+        over: false,
+        count: at + 1,
+    }
 }
 
 // The uses of one instruction, or of the entry, in their order.
-fn with_uses(s: Sets, us: Uses) -> Sets
-    requires { ⌜ s .count ≤ maxCallKeys ⌝ }
-    ensures { λ r. ⌜ r ≡ withUses s us ⌝ }
+fn with_uses(
+    highs: &mut [u64],
+    lows: &mut [u64],
+    flags: &mut [u64],
+    t: Standing,
+    us: Uses,
+) -> Standing
+    requires { ⌜ Wide t (now highs) (now lows) (now flags) ⌝ }
+    ensures { λ r. ⌜ inParts r (now (highs .exit)) (now (lows .exit)) (now (flags .exit)) ≡ withUses (inParts t (now (highs .entry)) (now (lows .entry)) (now (flags .entry))) us ⌝ }
 {
     if us.count == 0 {
-        return s;
-    }
-    let t = with_use(s, us.first);
-    if us.count == 1 {
         return t;
     }
-    with_use(t, us.second)
+    let one = with_use(highs, lows, flags, t, us.first);
+    if us.count == 1 {
+        return one;
+    }
+    with_use(highs, lows, flags, one, us.second)
 }
 
-// The instruction walk: the uses of the instruction at `index` of a code of `size`.
-fn instr_sets(s: Sets, code: &[u8], index: usize, size: usize, c: Call) -> Sets
-    requires { ⌜ (s .count ≤ maxCallKeys) × (index < maxCode) ⌝ }
-    ensures { λ r. ⌜ r ≡ withUses s (usesOf (decodedAccesses c (decode index size (drop (instrBytes * index) (now (code .entry)))))) ⌝ }
+// The instruction walk: the uses of the instruction at `index` of a code of `size`. What does not decode uses no key.
+fn uses_at(code: &[u8], index: usize, size: usize, c: Call) -> Uses
+    requires { ⌜ index < maxCode ⌝ }
+    ensures { λ r. ⌜ r ≡ usesOf (decodedAccesses c (decode index size (drop (instrBytes * index) (now (code .entry))))) ⌝ }
 {
     match decode(code, INSTR_BYTES * index, index, size) {
-        Decoded::Valid(i) => with_uses(s, instr_uses(c, i)),
-        Decoded::Invalid => s,
+        Decoded::Valid(i) => instr_uses(c, i),
+        Decoded::Invalid => {
+            let none = KeyUse {
+                high: 0,
+                low: 0,
+                reads: false,
+                writes: false,
+            };
+            Uses {
+                count: 0,
+                first: none,
+                second: none,
+            }
+        }
     }
 }
 
@@ -137,11 +155,25 @@ pub(crate) fn function_sets(code: &[u8], size: usize, c: Call) -> Sets
     requires { ⌜ size ≤ maxCode ⌝ }
     ensures { λ r. ⌜ r ≡ gathered (mergeAll (mergeAll [] (entryAccesses c)) (codeAccesses c size 0 size (now (code .entry)))) ⌝ }
 {
-    let mut s = with_uses(no_keys(), entry_uses(c));
+    let mut highs = [0u64; MAX_CALL_KEYS];
+    let mut lows = [0u64; MAX_CALL_KEYS];
+    let mut flags = [0u64; MAX_CALL_KEYS];
+    let none = Standing {
+        over: false,
+        count: 0,
+    };
+    let mut t = with_uses(&mut highs, &mut lows, &mut flags, none, entry_uses(c));
     let mut index = 0;
     while index < size {
-        s = instr_sets(s, code, index, size, c);
+        let us = uses_at(code, index, size, c);
+        t = with_uses(&mut highs, &mut lows, &mut flags, t, us);
         index += 1;
     }
-    s
+    Sets {
+        over: t.over,
+        count: t.count,
+        highs,
+        lows,
+        flags,
+    }
 }

@@ -33,6 +33,12 @@ pub struct Sets {
     pub flags: [u64; MAX_CALL_KEYS],
 }
 
+// What stands beside the columns of a set while it grows: whether there were more keys than the limit, and how many stand.
+pub struct Standing {
+    pub over: bool,
+    pub count: usize,
+}
+
 // The code of the function that a call names: where it starts in the block, and how many instructions it has plus 1; both 0 for an
 // unknown function.
 pub struct Code {

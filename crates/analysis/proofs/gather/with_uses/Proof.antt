@@ -1,31 +1,69 @@
 -- `analysis::gather::with_uses` meets its contract: the uses that stand are taken one after the other. Assumes nothing.
 use borrow.Author.Needs.{needs}
-use Rattle.analysis.specs.GatheredLaws.{use-count}
-use Rattle.analysis.proofs.GatherLaws.{uses-none, uses-one, uses-two}
+use Rattle.analysis.specs.Gathered.{inParts}
+use Rattle.analysis.proofs.GatherLaws.{uses-none, uses-one, uses-two, wide-used}
 use Rattle.analysis.proofs.gather.with_uses.Statement.{statement}
 use Rattle.analysis.proofs.gather.with_uses.Tie as tie
 
 returns : tie.Need-returns
-returns c = uses-none (c .before .before .args .s) (c .before .before .args .us) (c .if1 .taken)
+returns c =
+    let a = c .before .before .before .before .before .args in
+    uses-none (inParts (a .t) (a .highs .now) (a .lows .now) (a .flags .now)) (a .us) (c .if1 .taken)
 
 with-use-requires : tie.Need-with-use-requires
 with-use-requires c κs = search needs
 
+same-length : tie.Need-same-length
+same-length c = search needs
+
+same-length-2 : tie.Need-same-length-2
+same-length-2 c = search needs
+
+same-length-3 : tie.Need-same-length-3
+same-length-3 c = search needs
+
 returns-2 : tie.Need-returns-2
 returns-2 c =
-    let a = c .before .before .before .before .before .args in
-    uses-one (a .s) (a .us) (c .before .before .before .if1 .left) (c .if2 .taken) (c .before .before .with-use .ensures)
+    let some = c .before .before .before .before .before .before .before .before .before .before .before .before in
+    let a = some .before .before .before .before .before .args in
+    uses-one (inParts (a .t) (a .highs .now) (a .lows .now) (a .flags .now)) (a .us)
+    (some .if1 .left) (c .if2 .taken) (c .before .before .before .before .before .before .before .before .with-use .ensures)
 
 with-use-requires-2 : tie.Need-with-use-requires-2
 with-use-requires-2 c κs =
-    let start = c .before .before .before .before .before in
-    rw (c .before .before .with-use .ensures) (use-count (start .args .s) (start .args .us .first) (start .pre))
+    let first = c .before .before .before .before .before .before .before .before .before .before .before in
+    let one = first .with-use in
+    wide-used _ _ _ _ _ _ _ _ _ (first .before .before .before .before .before .before .before .before .before .pre) (one .ensures) (one .kept .0) (one .kept .1 .0) (one .kept .1 .1 .0)
+
+same-length-4 : tie.Need-same-length-4
+same-length-4 c = search needs
+
+same-length-5 : tie.Need-same-length-5
+same-length-5 c = search needs
+
+same-length-6 : tie.Need-same-length-6
+same-length-6 c = search needs
 
 returns-3 : tie.Need-returns-3
 returns-3 c =
-    let a = c .before .before .before .before .before .before .args in
-    uses-two (a .s) (a .us) (c .before .before .before .before .if1 .left) (c .before .if2 .left) (c .before .before .before .with-use .ensures) (c .with-use2 .ensures)
+    let more = c .before .before .before .before .before .before .before .before .before .before in
+    let some = more .before .before .before .before .before .before .before .before .before .before .before .before in
+    let a = some .before .before .before .before .before .args in
+    uses-two (inParts (a .t) (a .highs .now) (a .lows .now) (a .flags .now)) (a .us)
+    (some .if1 .left) (more .if2 .left) (more .before .before .before .before .before .before .before .before .with-use .ensures) (c .before .before .before .before .before .before .with-use2 .ensures)
 
 pub with-uses-spec : {M : Type 1} → statement M
 with-uses-spec =
-    tie.close (tie.spec returns with-use-requires returns-2 with-use-requires-2 returns-3)
+    tie.close
+    (tie.spec
+    returns
+    with-use-requires
+    same-length
+    same-length-2
+    same-length-3
+    returns-2
+    with-use-requires-2
+    same-length-4
+    same-length-5
+    same-length-6
+    returns-3)
