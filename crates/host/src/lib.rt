@@ -23,7 +23,8 @@ pub fn read_block_file(file: &mut [u8]) -> usize
     n
 }
 
-// Writes the first n bytes of the text.
+// Writes the first n bytes of the text, or nothing where it has fewer. It answers nothing and is lent nothing to be written, so there is
+// nothing to ensure but that it ends.
 pub fn print(text: &[u8], n: usize) {
     if n <= text.len() {
         io::write_all(STDOUT_FILENO, &text[..n]);
