@@ -3,7 +3,7 @@ use mathlib.Core.Path.{_≡_}
 use mathlib.Core.List.{List, [], map}
 use mathlib.Core.Option.{Option, none}
 use Prim.Native.Nat.{ℕ}
-use lib.ListN.{getD}
+use lib.ListN.{length, getD}
 use Rattle.block.specs.Record.{Function, Block}
 use Rattle.block.specs.Reader.{Read, accepted, refused, readBlock, emptyBlock}
 use Rattle.footprint.specs.Access.{Access}
@@ -19,6 +19,10 @@ blockIn (refused why) = emptyBlock
 
 abbrev pub blockOf : List ℕ → Block
 blockOf file = blockIn (readBlock file)
+
+-- The number of its calls.
+abbrev pub callCount : List ℕ → ℕ
+callCount file = length (blockOf file .calls)
 
 -- The sets of all calls, in block order; and those of call j.
 abbrev pub allSets : List ℕ → Block → List (List Access)

@@ -1,7 +1,7 @@
 -- Moving an amount between two balances: the sum is kept, nothing falls below zero, and within the limit every balance stays a value. Assumes nothing.
 use mathlib.Core.Path.{_≡_, refl, ap}
 use mathlib.Core.Bool.{Bool, true, _&&_}
-use mathlib.Core.List.{List, [], _∷_}
+use mathlib.Core.List.{List, [], _∷_, _++_}
 use Prim.Native.Nat.{ℕ, zero, suc, _+_, _^_, _<_, _≤_}
 use native.Mathlib.Nat.{le-of-suc-le-suc}
 use native.Mathlib.Omega.{arith}
@@ -86,6 +86,16 @@ unfolding total noneBelowZero
 total-first b bs e =
     let o = both (nonNeg b) (noneBelowZero bs) e in
     (omega (arith, sum b (total bs), nonNeg-true b (o .0), total-from-zero bs (o .1), total-from-zero (b ∷ bs) e), o .1)
+
+-- Those at the front are not below zero either, and add up to no more than all.
+pub total-front : (xs ys : List ℤ) → noneBelowZero (xs ++ ys) ≡ true → (noneBelowZero xs ≡ true) × (P (total xs) ≤ P (total (xs ++ ys)))
+unfolding noneBelowZero total
+total-front [] ys e = (refl, omega arith)
+total-front (x ∷ xs) ys e =
+    let o = total-first x (xs ++ ys) e in
+    let ih = total-front xs ys (o .1) in
+    let none : noneBelowZero (x ∷ xs) ≡ true = both-and (nonNeg x) (noneBelowZero xs) (both (nonNeg x) (noneBelowZero (xs ++ ys)) e .0) (ih .0) in
+    (none, omega (arith, o .0, total-first x xs none .0, ih .1))
 
 pub one-below-total : (bs : List ℤ) (i : ℕ) → noneBelowZero bs ≡ true → P (balance bs i) ≤ P (total bs)
 one-below-total [] i e = omega arith

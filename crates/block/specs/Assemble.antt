@@ -5,9 +5,9 @@ use Prim.Native.Char.{code}
 use Prim.Native.String as string
 use Prim.Native.String.{String}
 use lib.IntN.{ℤ}
-use lib.ListN.{length}
 use Rattle.arith.specs.Exact.{unsigned}
 use Rattle.wire.specs.Bytes.{bytesOf}
+use Rattle.block.specs.Record.{recordOf}
 
 -- The bytes of a text.
 unfoldable pub text : String → List ℕ
@@ -62,9 +62,6 @@ abbrev pub JEQ : ℕ → ℕ → (to : ℕ) → List ℕ
 JEQ x y to = instr 14 x y 0 to
 
 -- The records of a block.
-abbrev pub recordOf : ℕ → List ℕ → List ℕ
-recordOf kind body = bytesOf 2 (length body) ++ bytesOf 2 kind ++ body
-
 abbrev pub function : (contract number : ℕ) → List (List ℕ) → List ℕ
 function contract number instrs = recordOf 1 (bytesOf 2 contract ++ bytesOf 2 number ++ joined instrs)
 

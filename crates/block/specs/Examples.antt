@@ -6,9 +6,10 @@ use lib.IntN.{pos}
 use lib.ListN.{length}
 use Rattle.block.specs.Record.{functionId}
 use Rattle.block.specs.Reader.{Read, accepted, refused, readBlock}
+use Rattle.block.specs.Encoding.{fileOf, blockFor}
 use Rattle.block.specs.Refusal.{numberOf, offsetOf}
 use Rattle.block.specs.Assemble.{text, joined, instr, SET, JEQ, function, call, end}
-use Rattle.block.specs.Worked.{P}
+use Rattle.block.specs.Worked.{P, contentsP}
 use Rattle.block.specs.Computing.{computing}
 
 -- A block's functions (contract and number), their codes' starts and lengths, its keys, the number of its calls and the first one's
@@ -26,6 +27,9 @@ reads parts = outline (readBlock (joined parts))
 
 pub record Read-P : Type 0 where
   pub block-p : outline (readBlock P) ≡ (2147483648 ∷ 2147483649 ∷ 2147483650 ∷ []) ∷ (8 ∷ 32 ∷ 80 ∷ []) ∷ (2 ∷ 5 ∷ 2 ∷ []) ∷ ((5 * 2 ^ 80) ∷ []) ∷ (3 ∷ 120 ∷ []) ∷ []
+  -- It is the file of its contents, and read as they are.
+  pub file-p : fileOf contentsP ≡ P
+  pub contents-p : readBlock P ≡ accepted (blockFor contentsP)
   -- 10 comes before 6: the second function is not rising and has a wrong instruction.
   pub code-first : reads (function 32768 1 [] ∷ function 32768 1 (instr 16 0 0 0 0 ∷ []) ∷ end ∷ []) ≡ (10 ∷ 16 ∷ []) ∷ []
   -- A jump goes forward, and to the code's length at most.
@@ -38,10 +42,12 @@ pub record Read-P : Type 0 where
   pub behind : reads (end ∷ (0 ∷ []) ∷ []) ≡ (8 ∷ 4 ∷ []) ∷ []
 
 pub read-p : Read-P
-unfolding computing text joined P outline
+unfolding computing text joined P contentsP outline
 read-p =
     record {
       block-p = refl;
+      file-p = refl;
+      contents-p = refl;
       code-first = refl;
       jump-back = refl;
       jump-past = refl;

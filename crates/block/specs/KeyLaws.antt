@@ -1,4 +1,4 @@
--- The parts of a key are those it was made from. Assumes nothing.
+-- The parts of a key are those it was made from, and a key is made from its parts. Assumes nothing.
 use mathlib.Core.Path.{_≡_}
 use Prim.Native.Nat.{ℕ, _^_, _<_}
 use native.Mathlib.Omega.{arith}
@@ -16,3 +16,6 @@ module _ (address field a b : ℕ) (hf : field < 2 ^ 16) (ha : a < 2 ^ 32) (hb :
 
   pub b-of : bIn (keyOf address field a b) ≡ b
   b-of = omega arith
+
+pub key-parts : (k : ℕ) → keyOf (addressIn k) (fieldIn k) (aIn k) (bIn k) ≡ k
+key-parts k = omega arith

@@ -7,6 +7,14 @@ pub mod DecodeLaws
 pub mod Record
 pub mod Reader
 pub mod ReaderLaws
+pub mod Encoding
+pub mod EncodingLaws
+pub mod BodyLaws
+pub mod ContentsLaws
+pub mod ReadsWhole
+pub mod ReadsOnly
+pub mod OneFile
+pub mod ReaderExact
 pub mod Assemble
 pub mod Worked
 pub mod Examples

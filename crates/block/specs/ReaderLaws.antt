@@ -374,7 +374,7 @@ module _ (file : List ℕ) (bytes : (i : ℕ) → getD file i 0 < 256) where
       subst⁻¹ (λ (c : Cell). isBalance (c .key) ≡ true → ltZ (pos 0) (c .value) ≡ true) (laws .cells i d h)
       (cell-above (b .opening + 24 * i + 4) (laws .allowed i d h))
 
-from-zero : (z : ℤ) → ltZ (pos 0) z ≡ true → nonNeg z ≡ true
+pub from-zero : (z : ℤ) → ltZ (pos 0) z ≡ true → nonNeg z ≡ true
 from-zero (pos n) e = refl
 from-zero (negsuc n) e = e
 

@@ -1,14 +1,14 @@
 -- "Block file": what the bodies of its records hold, and the block they make. Assumes nothing.
 use mathlib.Core.Bool.{Bool, _&&_, not}
-use mathlib.Core.List.{List}
+use mathlib.Core.List.{List, _++_}
 use Prim.Native.Nat.{ℕ, _+_, _-_, _*_, _%_}
 use lib.IntN.{ℤ, pos}
 use lib.Signed.{ltZ, nonNeg}
 use lib.Dec.{eqb, leb, ltb}
-use lib.ListN.{take, drop}
+use lib.ListN.{length, take, drop}
 use Rattle.arith.specs.Choice.{if_then_else_}
 use Rattle.arith.specs.Exact.{signed}
-use Rattle.wire.specs.Bytes.{number, readLe}
+use Rattle.wire.specs.Bytes.{number, readLe, bytesOf}
 use Rattle.block.specs.Limits.{maxCode}
 use Rattle.block.specs.Key.{firstContract, addressOf, keyOf, keyAllowed}
 use Rattle.block.specs.Instruction.{instrBytes}
@@ -20,6 +20,9 @@ use Rattle.block.specs.declared.CallBody.the-variants.{InRange, OutOfRan
 -- "little-endian records: length (2 bytes, of the body), kind (2), body"
 abbrev pub headBytes : ℕ
 headBytes = 4
+
+abbrev pub recordOf : (kind : ℕ) → List ℕ → List ℕ
+recordOf kind body = bytesOf 2 (length body) ++ bytesOf 2 kind ++ body
 
 -- The kinds: "1, function", "2, opening cell", "3, call", "4, end"; kind 5 is a receipt of the closing sheet.
 abbrev pub functionKind : ℕ

@@ -10,7 +10,8 @@ use Rattle.machine.specs.Run.{Sizes}
 use Rattle.machine.specs.Opening.{Opened, openingOf}
 use Rattle.machine.specs.Run.{fixedSizes}
 use Rattle.console.specs.Computing as console
-use Rattle.block.specs.Assemble.{joined, times, instr, SET, THROW, JEQ, recordOf, function, cell, call, callWith, end}
+use Rattle.block.specs.Record.{recordOf}
+use Rattle.block.specs.Assemble.{joined, times, instr, SET, THROW, JEQ, function, cell, call, callWith, end}
 use Rattle.footprint.specs.Examples.{gets, keysBlock}
 
 -- The number and offset that answer an opening.

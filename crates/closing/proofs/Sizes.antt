@@ -17,9 +17,9 @@ use Rattle.wire.specs.Bytes.{bytesOf, stored}
 use Rattle.wire.specs.Laws.{bytesOf-length}
 use Rattle.machine.specs.Run.{statusWord}
 use Rattle.machine.specs.Step.{cellAt}
-use Rattle.block.specs.Record.{cellKind, endKind}
-use Rattle.sheet.specs.Sheet.{recordOf, keyHigh, keyLow, keyBytes, cellRecords, receiptRecords, unwritten, written}
-use Rattle.machine.specs.declared.Answer.the-variants.{SheetTooLong}
+use Rattle.block.specs.Record.{recordOf, cellKind, endKind}
+use Rattle.sheet.specs.Sheet.{keyHigh, keyLow, keyBytes, cellRecords, receiptRecords, unwritten, writtenIf}
+use Rattle.machine.specs.declared.Answer.the-variants.{Damaged, SheetTooLong}
 use Rattle.sheet.specs.declared.Closing.the-variants.{Written}
 use Rattle.closing.specs.Length.{cellRecord, receiptRecord, sheetParts, nonZero, sheetLength}
 
@@ -163,14 +163,19 @@ module _ (cells : List ℤ) (count : ℕ) where
 
 -- ---- the answer
 
--- The length decides between 28 and the sheet.
-module _ (output bytes : List ℕ) {size : ℕ} (e : size ≡ length bytes) where
-  pub written-long : length output < size → unwritten output SheetTooLong ≡ written output bytes
-  unfolding written
-  written-long h = simp (lt-ltb (length output) (length bytes) (omega arith))
+-- The length decides on 28, then the receipts on 20; where both pass, the sheet is stored.
+module _ (output bytes : List ℕ) (receipts : Bool) {size : ℕ} where
+  pub too-long : length output < size → size ≡ length bytes → unwritten output SheetTooLong ≡ writtenIf receipts output bytes
+  unfolding writtenIf
+  too-long h e = simp (lt-ltb (length output) (length bytes) (omega arith))
 
-  pub written-whole : size ≤ length output → {exit : List ℕ} → exit ≡ stored output 0 bytes → record { answer = Written size; output = exit } ≡ written output bytes
-  unfolding written
-  written-whole h q =
-      simp (le-ltb (length output) (length bytes) (omega arith))
+  pub broken : size ≤ length output → receipts ≡ false → size ≡ length bytes → unwritten output Damaged ≡ writtenIf receipts output bytes
+  unfolding writtenIf
+  broken h b e = simp (le-ltb (length output) (length bytes) (omega arith), b)
+
+  pub whole : size ≤ length output → receipts ≡ true → size ≡ length bytes → {exit : List ℕ} → exit ≡ stored output 0 bytes
+      → record { answer = Written size; output = exit } ≡ writtenIf receipts output bytes
+  unfolding writtenIf
+  whole h b e q =
+      simp (le-ltb (length output) (length bytes) (omega arith), b)
       (ap₂ (λ (n : ℕ) (s : List ℕ). record { answer = Written n; output = s }) e q)

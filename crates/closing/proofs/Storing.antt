@@ -6,8 +6,8 @@ use native.Mathlib.Omega.{arith}
 use lib.ListN.{length, length-append}
 use Rattle.wire.specs.Bytes.{bytesOf, stored}
 use Rattle.wire.specs.Laws.{bytesOf-length, stored-append, stored-length}
-use Rattle.block.specs.Record.{endKind}
-use Rattle.sheet.specs.Sheet.{recordOf, keyBytes}
+use Rattle.block.specs.Record.{recordOf, endKind}
+use Rattle.sheet.specs.Sheet.{keyBytes}
 
 -- What is stored behind a list that was stored is stored with it.
 pub behind : (s : List ℕ) (i : ℕ) (xs ys : List ℕ) {t u : List ℕ} {j : ℕ} → j ≡ i + length xs → t ≡ stored s i xs → u ≡ stored t j ys → u ≡ stored s i (xs ++ ys)

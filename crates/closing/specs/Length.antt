@@ -6,9 +6,9 @@ use lib.Dec.{eqb}
 use Rattle.arith.specs.Choice.{if_then_else_}
 use Rattle.arith.specs.Exact.{unsigned}
 use Rattle.wire.specs.Bytes.{bytesOf}
-use Rattle.block.specs.Record.{headBytes, cellBytes, cellKind, receiptKind, endKind}
+use Rattle.block.specs.Record.{recordOf, headBytes, cellBytes, cellKind, receiptKind, endKind}
 use Rattle.machine.specs.Step.{cellAt}
-use Rattle.sheet.specs.Sheet.{recordOf, keyBytes, cellRecords, receiptRecords}
+use Rattle.sheet.specs.Sheet.{keyBytes, cellRecords, receiptRecords}
 
 -- What the sheet has of a cell, by its key and the bits of its value: nothing if that is zero.
 abbrev pub cellRecord : ℕ → ℕ → ℕ → List ℕ

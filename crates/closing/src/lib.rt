@@ -1,77 +1,23 @@
 // The closing sheet of a run, written into a lent output.
 mod records;
 mod tests;
+mod write;
 
 use block::limits::MAX_CALLS;
 use block::limits::MAX_KEYS;
-use block::record::CELL_BYTES;
-use block::record::HEAD_BYTES;
-use block::record::RECEIPT_BYTES;
 use machine::Answer;
 use machine::Head;
 use machine::layout::large_enough;
-use records::put_sheet;
 use sheet::Closing;
 use tests::all_finished;
 use tests::balances_allowed;
-use tests::receipts_allowed;
 use tests::states_allowed;
+use write::write_sheet;
 ghost use mathlib.Core.Path.{_≡_};
-ghost use Prim.Native.Nat.{_+_, _*_, _≤_};
-ghost use Rattle.block.specs.Limits.{maxCalls, maxKeys};
-ghost use Rattle.sheet.specs.Sheet.{written, sheetOf};
-ghost use Rattle.closing.specs.Length.{sheetParts, nonZero, sheetLength};
+ghost use Rattle.sheet.specs.Sheet.{sheetOf};
 
-// How many of the first cells are not zero: those with a record.
-fn nonzero_cells(cells: &[i64], count: usize) -> usize
-    ensures { λ r. ⌜ r ≡ nonZero (now (cells .entry)) count 0 ⌝ }
-    ensures { λ r. ⌜ r ≤ count ⌝ }
-{
-    let mut found = 0;
-    let mut n = 0;
-    while n < count {
-        if arith::unsigned64(wire::value(cells, n)) != 0 {
-            found += 1;
-        }
-        n += 1;
-    }
-    found
-}
-
-// The length of a sheet: a record for each non-zero cell and for each call, and the end.
-fn sheet_length(cells: &[i64], count: usize, calls: usize) -> usize
-    requires { ⌜ count ≤ maxKeys ⌝ }
-    requires { ⌜ calls ≤ maxCalls ⌝ }
-    ensures { λ r. ⌜ r ≡ sheetLength (now (cells .entry)) count calls ⌝ }
-{
-    let found = nonzero_cells(cells, count);
-    (HEAD_BYTES + CELL_BYTES) * found + (HEAD_BYTES + RECEIPT_BYTES) * calls + HEAD_BYTES
-}
-
-// The sheet of a run that has one, stored at the front of the output: its length is known before its first byte is stored.
-// 28: "sheet longer than the output buffer".
-fn write_sheet(
-    keys: &[u64],
-    cells: &[i64],
-    status: &[u64],
-    count: usize,
-    calls: usize,
-    output: &mut [u8],
-) -> Closing
-    requires { ⌜ count ≤ maxKeys ⌝ }
-    requires { ⌜ calls ≤ maxCalls ⌝ }
-    ensures { λ r. ⌜ record { answer = r; output = now (output .exit) } ≡ written (now (output .entry)) (sheetParts (now (keys .entry)) (now (cells .entry)) (now (status .entry)) count calls) ⌝ }
-{
-    let length = sheet_length(cells, count, calls);
-    if output.len() < length {
-        return Closing::Refused(Answer::SheetTooLong);
-    }
-    put_sheet(keys, cells, status, count, calls, output);
-    Closing::Written(length)
-}
-
-// The closing sheet: 20 for the sizes, the number of calls and their states; 27 for a call unfinished; 20 for receipts, the number
-// of cells and balances; 28.
+// The closing sheet: 20 for the sizes, the number of calls and their states; 27 for a call unfinished; 20 for the number of cells and
+// the balances; 28; 20 for the receipts.
 pub fn sheet(
     head: Head,
     plan: &[u64],
@@ -103,9 +49,6 @@ pub fn sheet(
     }
     if !all_finished(status, calls) {
         return Closing::Refused(Answer::CallUnfinished);
-    }
-    if !receipts_allowed(status, calls) {
-        return Closing::Refused(Answer::Damaged);
     }
     if MAX_KEYS < count {
         return Closing::Refused(Answer::Damaged);

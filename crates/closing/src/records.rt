@@ -17,8 +17,8 @@ ghost use Prim.Native.Nat.{_+_, _*_, _≤_, _<_, _^_};
 ghost use lib.ListN.{length};
 ghost use Rattle.wire.specs.Bytes.{bytesOf, stored};
 ghost use Rattle.block.specs.Limits.{maxCalls, maxKeys};
-ghost use Rattle.block.specs.Record.{cellKind};
-ghost use Rattle.sheet.specs.Sheet.{recordOf, keyBytes, cellRecords, receiptRecords};
+ghost use Rattle.block.specs.Record.{recordOf, cellKind};
+ghost use Rattle.sheet.specs.Sheet.{keyBytes, cellRecords, receiptRecords};
 ghost use Rattle.closing.specs.Length.{cellRecord, receiptRecord, sheetParts};
 
 // The head of a record: "length (2 bytes, of the body), kind (2)".

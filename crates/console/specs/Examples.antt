@@ -20,8 +20,9 @@ pub record Lines : Type 0 where
   -- are in no such form; leading zeros are taken, and 99999 is a number.
   pub malformed : registerOf P (text "\nb  0 0\nb 0 0 \n b 0 0\nb\nb 0\nb 0 0 0\nb 000000 0\nB 0 0\ns -1\ns 0\r\nc\t0\nbegin\n") ≡ text "r 1 0\nr 2 0\nr 3 0\nr 4 0\nr 5 0\nr 6 0\nr 7 0\nr 8 0\nr 9 0\nr 10 0\nr 11 0\nr 12 0\nr 13 0\nr 0 27\n"
   pub numbers : registerOf P (text "b 00007 99999\nb 99999 0\nb 00000 00000\ns 00000\nc 0\n") ≡ text "r 1 22\nr 2 21\nr 0 27\n"
-  -- The last line needs no line feed; an empty rest is no line.
+  -- The last line needs no line feed, of whatever form it is; an empty rest is no line.
   pub last-line : registerOf P (text "c 0\nc 1") ≡ text "r 1 26\nr 2 26\nr 0 27\n"
+  pub last-malformed : registerOf P (text "c 0\nx") ≡ text "r 1 26\nr 2 0\nr 0 27\n"
   pub empty-input : registerOf P [] ≡ text "r 0 27\n"
   -- A refused block answers no move.
   pub refused-block : registerOf [] movesP ≡ text "e 2 0\n"
@@ -34,6 +35,7 @@ lines =
       malformed = refl;
       numbers = refl;
       last-line = refl;
+      last-malformed = refl;
       empty-input = refl;
       refused-block = refl;
     }

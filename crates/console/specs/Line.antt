@@ -1,6 +1,6 @@
 -- The move lines of standard input: `b worker call`, `s worker`, `c worker`. "one space divides its parts, and its numbers are of
 -- decimal digits"; a number has 1 to 5 digits. A line is read byte by byte. Assumes nothing.
-use mathlib.Core.Bool.{Bool, _&&_}
+use mathlib.Core.Bool.{Bool, true, false, _&&_}
 use mathlib.Core.Option.{Option, none, some}
 use Prim.Native.Nat.{ℕ, _+_, _-_, _*_}
 use lib.Dec.{eqb, leb, ltb}
@@ -49,6 +49,16 @@ readByte (Between w) x = if isDigit x then Second w 1 (x - zeroDigit) else Malfo
 readByte (Second w digits n) x =
     if takesDigit digits n x then Second w (digits + 1) (n * 10 + (x - zeroDigit)) else Malformed
 readByte Malformed x = Malformed
+
+-- Whether nothing of the line is read.
+unfoldable pub isEmpty : Line → Bool
+isEmpty Empty = true
+isEmpty (Named l) = false
+isEmpty (Spaced l) = false
+isEmpty (First l digits n) = false
+isEmpty (Between w) = false
+isEmpty (Second w digits n) = false
+isEmpty Malformed = false
 
 -- The move of a line with one number.
 unfoldable pub moveFor : Letter → ℕ → Option Move

@@ -20,11 +20,11 @@ use Rattle.sheet.specs.Sheet.{Closed, sheetOf}
 use Rattle.sheet.specs.declared.Closing.{Closing}
 use Rattle.sheet.specs.declared.Closing.the-variants.{Written, Refused}
 use Rattle.wire.specs.Decimal.{lineFeed}
-use Rattle.console.specs.Line.{readByte, lineMove}
+use Rattle.console.specs.Line.{readByte, isEmpty, lineMove}
 use Rattle.text.specs.Lines.{refusedText, blockRefusedText}
 use Rattle.console.specs.Text.{sheetText}
 use Rattle.console.specs.declared.Line.{Line}
-use Rattle.console.specs.declared.Line.the-variants.{Empty, Named, Spaced, First, Between, Second, Malformed}
+use Rattle.console.specs.declared.Line.the-variants.{Empty}
 
 -- Where the reading of the input stands: the number of the line from 1, what is read of it, the run and the output so far.
 pub record Session : Type 0 where
@@ -70,14 +70,8 @@ playBytes block s [] = s
 playBytes block s (x ∷ xs) = playBytes block (playByte block s x) xs
 
 -- ".. or, unless empty, at the input's end"
-unfoldable pub playEnd : List ℕ → Session → Line → Session
-playEnd block s Empty = s
-playEnd block s (Named l) = playLine block s
-playEnd block s (Spaced l) = playLine block s
-playEnd block s (First l digits n) = playLine block s
-playEnd block s (Between w) = playLine block s
-playEnd block s (Second w digits n) = playLine block s
-playEnd block s Malformed = playLine block s
+unfoldable pub playEnd : List ℕ → Session → Session
+playEnd block s = if isEmpty (s .line) then s else playLine block s
 
 -- The sheet as text, or "a refused sheet `r 0 27` in place of the k and t lines".
 unfoldable pub closingText : Closed → Closing → List ℕ
@@ -97,8 +91,7 @@ maxInput = 2 ^ 32 - 1
 
 unfoldable pub playInput : List ℕ → Run → List ℕ → Session
 playInput block r input =
-    let s : Session = playBytes block (record { number = 1; line = Empty; run = r; output = [] }) (take maxInput input) in
-    playEnd block s (s .line)
+    playEnd block (playBytes block (record { number = 1; line = Empty; run = r; output = [] }) (take maxInput input))
 
 unfoldable pub registerOpened : List ℕ → List ℕ → Run → Verdict → List ℕ
 registerOpened block input r (verdict.Refused why) = blockRefusedText (numberOf why) (offsetOf why)

@@ -24,7 +24,7 @@ use Rattle.footprint.specs.Access.{cellKey, targetOf}
 use Rattle.footprint.specs.SetsExact.{instructionsOf}
 use Rattle.footprint.specs.LimitLaws.{update-same, update-other}
 use Rattle.footprint.specs.RunLaws.{Every, Found, every-at}
-use Rattle.footprint.specs.Rule.{State, update, credit, debit, Result, ends, fails, Course, before, over, assignChecked, transfer, execute, executeAt, runBody, Left, settle, runFunction, transactionBy}
+use Rattle.footprint.specs.Rule.{State, update, credit, debit, Result, ends, fails, Course, before, over, assignChecked, transfer, execute, executeAt, runBody, Left, settle, unbegun, runFunction, transactionBy}
 
 -- Document 003, definition 2: alike on the keys in Q.
 abbrev pub Alike : (ℕ → Type 0) → State → State → Type 0
@@ -49,9 +49,9 @@ module _ (Q : ℕ → Type 0) where
 
   -- Two courses at one place, with equal registers and counts and states alike; or at results of one kind.
   abbrev pub Ended : Result → Result → Type 0
-  Ended (ends σ n) (ends τ m) = (n ≡ m) × Alike Q σ τ
-  Ended (ends σ n) (fails o m) = ⊥
-  Ended (fails o n) (ends τ m) = ⊥
+  Ended (ends σ n e) (ends τ m f) = (n ≡ m) × (e ≡ f) × Alike Q σ τ
+  Ended (ends σ n e) (fails o m) = ⊥
+  Ended (fails o n) (ends τ m f) = ⊥
   Ended (fails o n) (fails u m) = (o ≡ u) × (n ≡ m)
 
   abbrev pub Beside : Course → Course → Type 0
@@ -64,6 +64,7 @@ module _ (Q : ℕ → Type 0) where
   pub record LeftAlike (l m : Left) : Type 0 where
     pub outcome : l .outcome ≡ m .outcome
     pub count : l .count ≡ m .count
+    pub behind : l .behind ≡ m .behind
     pub state : Alike Q (l .state) (m .state)
 
   module _ (c : Call) where
@@ -118,7 +119,7 @@ module _ (Q : ℕ → Type 0) where
 
       execute-alike : (i : Instr) → ReadsIn i → Beside (execute c p ρ n σ i) (execute c p ρ n τ i)
       unfolding execute
-      execute-alike Stop q = (refl, alike)
+      execute-alike Stop q = (refl, refl, alike)
       execute-alike Throw q = (refl, refl)
       execute-alike (Set x v) q = (refl, refl, refl, alike)
       execute-alike (Arg x k) q = (refl, refl, refl, alike)
@@ -139,13 +140,13 @@ module _ (Q : ℕ → Type 0) where
     at-alike : (p : ℕ) (ρ : List ℤ) (n : ℕ) (σ τ : State) → Alike Q σ τ → (o : Option Instr) → Found ReadsIn o
         → Beside (executeAt c p ρ n σ o) (executeAt c p ρ n τ o)
     unfolding executeAt
-    at-alike p ρ n σ τ alike none q = (refl, alike)
+    at-alike p ρ n σ τ alike none q = (refl, refl, alike)
     at-alike p ρ n σ τ alike (some i) q = execute-alike p ρ (n + 1) σ τ alike i q
 
     run-alike : (body : List Instr) → Every ReadsIn body → (turns : ℕ) (x y : Course) → Beside x y
         → Ended (runBody turns c body x) (runBody turns c body y)
     unfolding runBody
-    run-alike body each zero (before p ρ n σ) (before q π m τ) h = (h .2, h .3)
+    run-alike body each zero (before p ρ n σ) (before q π m τ) h = (h .2, refl, h .3)
     run-alike body each zero (before p ρ n σ) (over s) h = absurd h
     run-alike body each zero (over r) (before q π m τ) h = absurd h
     run-alike body each zero (over r) (over s) h = h
@@ -158,10 +159,10 @@ module _ (Q : ℕ → Type 0) where
 
     settle-alike : (σ τ : State) → Alike Q σ τ → (r s : Result) → Ended r s → LeftAlike (settle σ r) (settle τ s)
     unfolding settle
-    settle-alike σ τ alike (ends σ′ n) (ends τ′ m) h = record { outcome = refl; count = h .0; state = h .1 }
-    settle-alike σ τ alike (ends σ′ n) (fails o m) h = absurd h
-    settle-alike σ τ alike (fails o n) (ends τ′ m) h = absurd h
-    settle-alike σ τ alike (fails o n) (fails u m) h = record { outcome = h .0; count = h .1; state = alike }
+    settle-alike σ τ alike (ends σ′ n e) (ends τ′ m f) h = record { outcome = refl; count = h .0; behind = h .1; state = h .2 }
+    settle-alike σ τ alike (ends σ′ n e) (fails o m) h = absurd h
+    settle-alike σ τ alike (fails o n) (ends τ′ m f) h = absurd h
+    settle-alike σ τ alike (fails o n) (fails u m) h = record { outcome = h .0; count = h .1; behind = refl; state = alike }
 
     -- Where the test of the sender's balance comes out alike and the function reads within Q, the two leave the like.
     pub transaction-alike : (block : List ℕ) (σ τ : State) → Alike Q σ τ → (f : Option Function)
@@ -169,7 +170,7 @@ module _ (Q : ℕ → Type 0) where
         → ((g : Function) → f ≡ some g → Every ReadsIn (instructionsOf block g))
         → LeftAlike (transactionBy block c σ f) (transactionBy block c τ f)
     unfolding transactionBy runFunction
-    transaction-alike block σ τ alike none test each = record { outcome = refl; count = refl; state = alike }
+    transaction-alike block σ τ alike none test each = record { outcome = refl; count = refl; behind = refl; state = alike }
     transaction-alike block σ τ alike (some g) test each =
         go (ltZ (σ sender) (c .value)) (ltZ (τ sender) (c .value)) (test g refl)
       where
@@ -177,10 +178,10 @@ module _ (Q : ℕ → Type 0) where
         sender = accountBalance (c .sender)
 
         began : Bool → State → Left
-        began b θ = if b then record { outcome = 2; count = 0; state = θ } else runFunction block c θ g
+        began b θ = if b then unbegun θ 2 else runFunction block c θ g
 
         go : (a b : Bool) → a ≡ b → LeftAlike (began a σ) (began b τ)
-        go true true e = record { outcome = refl; count = refl; state = alike }
+        go true true e = record { outcome = refl; count = refl; behind = refl; state = alike }
         go true false e = clash (sym e)
         go false true e = clash e
         go false false e =

@@ -11,6 +11,7 @@ pub mod SetLaws
 pub mod AccessLaws
 pub mod SetsExact
 pub mod RunLaws
+pub mod StepLaws
 pub mod RuleLimit
 pub mod FitLaws
 pub mod AlikeLaws

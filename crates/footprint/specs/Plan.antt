@@ -65,14 +65,18 @@ unfoldable pub openingValue : List Cell → ℕ → ℤ
 openingValue [] k = pos 0
 openingValue (c ∷ cs) k = if eqb k (c .key) then c .value else openingValue cs k
 
--- The lengths of the three buffers that are prepared, and whether they hold what the limits allow.
+-- The lengths of the three buffers that are prepared.
 pub record Room : Type 0 where
   pub plan : ℕ
   pub keys : ℕ
   pub cells : ℕ
 
+-- "the fixed size for the limits above", and whether none is shorter.
+abbrev pub fixedRoom : Room
+fixedRoom = record { plan = maxCalls * planWords; keys = maxKeys * 2; cells = maxKeys }
+
 unfoldable pub roomEnough : Room → Bool
-roomEnough r = leb (maxCalls * planWords) (r .plan) && leb (maxKeys * 2) (r .keys) && leb maxKeys (r .cells)
+roomEnough r = leb (fixedRoom .plan) (r .plan) && leb (fixedRoom .keys) (r .keys) && leb (fixedRoom .cells) (r .cells)
 
 -- The verdict, the numbers of calls and of cells, the offset of the first call record, and the buffers.
 pub record Prepared : Type 0 where
@@ -116,5 +120,6 @@ prepareRead r file (refused why) = unprepared r why
 prepareRead r file (accepted b) =
     prepareAnalysed r b (analyse file (b .functions) (b .calls) (b .first) [] (map (λ c. c .key) (b .cells)))
 
+-- 20, then the block as it is read.
 unfoldable pub preparedOf : Room → List ℕ → Prepared
 preparedOf r file = if roomEnough r then prepareRead r file (readBlock file) else unprepared r Buffers

@@ -1,6 +1,6 @@
 -- The published transaction rule: document 003, figure 1, over the instruction set of document 01. States are functions from keys to
 -- values; nothing here mentions a run, a step or a worker. Assumes nothing.
-use mathlib.Core.Bool.{Bool}
+use mathlib.Core.Bool.{Bool, true, false}
 use mathlib.Core.List.{List, [], _∷_, map}
 use mathlib.Core.Option.{Option, none, some}
 use Prim.Native.Nat.{ℕ, zero, suc, _+_}
@@ -26,6 +26,7 @@ use Rattle.block.specs.declared.Instr.the-variants.{Stop, Throw, Set, Arg, Send
 use Rattle.footprint.specs.Access.{cellKey, targetOf}
 use Rattle.footprint.specs.Sets.{functionOf}
 use Rattle.wire.specs.Bytes.{below}
+use Rattle.wire.specs.Rows.{bit}
 
 -- "The state of the blockchain is a function σ": here from keys, which name address and field, to values.
 abbrev pub State : Type 0
@@ -49,9 +50,10 @@ balancesIn σ = map (λ address. σ (keyOf address 0 0 0)) (below 65536)
 abbrev pub stateWithinLimit : State → Bool
 stateWithinLimit σ = withinLimit (balancesIn σ)
 
--- ⟦S⟧: the body ends in a state, or fails (the figure's ⊥) with an outcome; both with the number of executed instructions.
+-- ⟦S⟧: the body ends in a state, behind its last instruction or by STOP, or fails (the figure's ⊥) with an outcome; both with the number of
+-- executed instructions.
 pub data Result : Type 0 where
-  ends : State → (count : ℕ) → Result
+  ends : State → (count : ℕ) (behind : Bool) → Result
   fails : (outcome count : ℕ) → Result
 
 -- Where a body is: before an instruction, with registers, count and state; or at its result.
@@ -88,7 +90,7 @@ transfer c p ρ n σ amount (To account) =
 
 -- The instruction at p with registers ρ in σ; n counts it.
 unfoldable pub execute : Call → ℕ → List ℤ → ℕ → State → Instr → Course
-execute c p ρ n σ Stop = over (ends σ n)
+execute c p ρ n σ Stop = over (ends σ n false)
 execute c p ρ n σ Throw = over (fails 3 n)
 execute c p ρ n σ (Set x v) = assign p ρ n σ x v
 execute c p ρ n σ (Arg x k) = assign p ρ n σ x (pos (argument c k))
@@ -108,17 +110,17 @@ execute c p ρ n σ (Jlt x y to) = before (if ltZ (value ρ x) (value ρ y) then
 
 -- Behind the last instruction the body has ended.
 unfoldable pub executeAt : Call → ℕ → List ℤ → ℕ → State → Option Instr → Course
-executeAt c p ρ n σ none = over (ends σ n)
+executeAt c p ρ n σ none = over (ends σ n true)
 executeAt c p ρ n σ (some i) = execute c p ρ (n + 1) σ i
 
 -- Jumps go forward, so a body of k instructions is over after k + 1 turns.
 unfoldable pub runBody : ℕ → Call → List Instr → Course → Result
-runBody zero c body (before p ρ n σ) = ends σ n
+runBody zero c body (before p ρ n σ) = ends σ n true
 runBody zero c body (over r) = r
 runBody (suc turns) c body (before p ρ n σ) = runBody turns c body (executeAt c p ρ n σ (getElem? body p))
 runBody (suc turns) c body (over r) = r
 
--- The instructions of a code, from its bytes.
+-- The instructions of a code, from its bytes. In an accepted block every one is valid, and stands in the body at its index: `bodies` of `Demand2`.
 unfoldable pub withInstr : Decoded → List Instr → List Instr
 withInstr (Valid i) body = i ∷ body
 withInstr Invalid body = body
@@ -127,16 +129,25 @@ unfoldable pub bodyOf : ℕ → ℕ → ℕ → List ℕ → List Instr
 bodyOf zero index size s = []
 bodyOf (suc left) index size s = withInstr (decode index size s) (bodyOf left (index + 1) size (drop instrBytes s))
 
--- What a transaction leaves: a state, and its receipt.
+-- What a transaction leaves: a state, and its receipt; and whether its body ended behind its last instruction.
 pub record Left : Type 0 where
   pub outcome : ℕ
   pub count : ℕ
+  pub behind : Bool
   pub state : State
+
+-- "A call's steps are its entry, its counted instructions, and one for reaching the end."
+abbrev pub stepsFor : Left → ℕ
+stepsFor l = 1 + l .count + bit (l .behind)
+
+-- A transaction that does not begin.
+abbrev pub unbegun : State → (outcome : ℕ) → Left
+unbegun σ outcome = record { outcome = outcome; count = 0; behind = false; state = σ }
 
 -- [Tx1]: the body ended well, and its state stands. [Tx2]: it failed, and the state is as it was.
 unfoldable pub settle : State → Result → Left
-settle σ (ends σ′ n) = record { outcome = 0; count = n; state = σ′ }
-settle σ (fails outcome n) = record { outcome = outcome; count = n; state = σ }
+settle σ (ends σ′ n behind) = record { outcome = 0; count = n; behind = behind; state = σ′ }
+settle σ (fails outcome n) = record { outcome = outcome; count = n; behind = false; state = σ }
 
 -- "n units of currency are transferred to C before starting to execute f"
 unfoldable pub runFunction : List ℕ → Call → State → Function → Left
@@ -147,12 +158,12 @@ runFunction block c σ f =
     (runBody (length body + 1) c body
     (before 0 ρ 0 (credit (debit σ (accountBalance (c .sender)) (c .value)) (contractBalance (c .contract)) (c .value))))
 
--- ⟦A →n C : f(v)⟧σ. [Tx2] where the function does not exist, or A's balance is below n.
+-- ⟦A →n C : f(v)⟧σ. [Tx2] also where A's balance is below n; that the function may be unknown is document 01's addition: outcome 1.
 unfoldable pub transactionBy : List ℕ → Call → State → Option Function → Left
-transactionBy block c σ none = record { outcome = 1; count = 0; state = σ }
+transactionBy block c σ none = unbegun σ 1
 transactionBy block c σ (some f) =
     if ltZ (σ (accountBalance (c .sender))) (c .value)
-    then record { outcome = 2; count = 0; state = σ }
+    then unbegun σ 2
     else runFunction block c σ f
 
 abbrev pub transaction : List ℕ → List Function → Call → State → Left
@@ -163,3 +174,8 @@ unfoldable pub transactions : List ℕ → List Function → List Call → State
 transactions block functions [] σ = []
 transactions block functions (c ∷ cs) σ =
     let l : Left = transaction block functions c σ in l ∷ transactions block functions cs (l .state)
+
+-- The state behind a list of transactions that began in σ.
+unfoldable pub stateLeft : State → List Left → State
+stateLeft σ [] = σ
+stateLeft σ (l ∷ ls) = stateLeft (l .state) ls

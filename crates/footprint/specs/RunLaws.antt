@@ -23,7 +23,7 @@ use Rattle.block.specs.declared.Instr.{Instr}
 use Rattle.block.specs.declared.Instr.the-variants.{Stop, Throw, Set, Arg, Sender, Value, Add, Sub, Mul, Div, Get, Put, Bal, Pay, Jeq, Jlt}
 use Rattle.footprint.specs.Access.{cellKey, targetOf}
 use Rattle.footprint.specs.SetsExact.{someOf, instructionsOf}
-use Rattle.footprint.specs.Rule.{State, update, credit, debit, Result, ends, fails, Course, before, over, assignChecked, transfer, execute, executeAt, runBody, settle, runFunction, transactionBy}
+use Rattle.footprint.specs.Rule.{State, update, credit, debit, Result, ends, fails, Course, before, over, assignChecked, transfer, execute, executeAt, runBody, settle, unbegun, runFunction, transactionBy}
 
 -- What holds of everything in a list.
 abbrev pub Every : {A : Type 0} → (A → Type 0) → List A → Type 0
@@ -72,7 +72,7 @@ anyValue z = Unit {0}
 
 -- The one of states holds of the state in which a body ended.
 abbrev LeftWith : (State → Type 0) → Result → Type 0
-LeftWith K (ends σ n) = K σ
+LeftWith K (ends σ n behind) = K σ
 LeftWith K (fails outcome n) = Unit {0}
 
 -- Where a body is, the one of values holds of each register, and the one of states of the state.
@@ -182,7 +182,7 @@ module _ (c : Call) (R : ℤ → Type 0) (fit : (z : ℤ) → mag z < 2 ^ 63 →
 
   settle-keeps : (σ : State) → K σ → (r : Result) → LeftWith K r → K (settle σ r .state)
   unfolding settle
-  settle-keeps σ holds (ends τ n) h = h
+  settle-keeps σ holds (ends τ n behind) h = h
   settle-keeps σ holds (fails outcome n) h = holds
 
   -- "signed 64 bits, 0 at start"
@@ -200,7 +200,7 @@ module _ (c : Call) (R : ℤ → Type 0) (fit : (z : ℤ) → mag z < 2 ^ 63 →
   transaction-keeps block σ holds (some g) entry each = go (ltZ (σ (accountBalance (c .sender))) (c .value)) refl
     where
       go : (b : Bool) → ltZ (σ (accountBalance (c .sender))) (c .value) ≡ b
-          → K ((if b then record { outcome = 2; count = 0; state = σ } else runFunction block c σ g) .state)
+          → K ((if b then unbegun σ 2 else runFunction block c σ g) .state)
       go true e = holds
       go false e =
           settle-keeps σ holds _

@@ -35,7 +35,8 @@ use Rattle.machine.specs.Step.{cellAt}
 use Rattle.machine.specs.Made.{Hold}
 use Rattle.guarantees.specs.PlanLaws.{plans-length}
 use Rattle.guarantees.specs.OpeningLimit.{opening-limit}
-use Rattle.guarantees.specs.OpeningLaws.{Large, large-sizes, runWith, Made, opening-made}
+use Rattle.guarantees.specs.Demand1.{Large}
+use Rattle.guarantees.specs.OpeningLaws.{large-sizes, runWith, Made, opening-made}
 use Rattle.guarantees.specs.OpenedCalls.{CallOpened, call-opened}
 
 -- A run that was opened for a file with its block and table, in buffers of the given sizes.

@@ -2,9 +2,8 @@
 -- is one claim about the entire list and not a claim for each move." Assumes nothing.
 use mathlib.Core.Path.{_≡_}
 use mathlib.Core.Bool.{Bool}
-use mathlib.Core.List.{List, []}
+use mathlib.Core.List.{List}
 use Prim.Native.Nat.{ℕ, zero, suc}
-use lib.ListN.{length, getD}
 use Rattle.wire.specs.Bytes.{below}
 use Rattle.schedule.specs.Tally.{Phase, waiting, running, finished, Seat, idle, holds, isFinished}
 use Rattle.schedule.specs.Taken.{taken}
@@ -18,7 +17,8 @@ use Rattle.machine.specs.Opening.{openingOf}
 use Rattle.machine.specs.Moves.{beginOf, stepOf, runAfter}
 use Rattle.machine.specs.Serial.{runCalls, serialRun, serialRunOf}
 use Rattle.sheet.specs.Sheet.{sheetOf}
-use Rattle.guarantees.specs.BlockTally.{fileSets, isBefore, stepsIn, tallyAfter}
+use Rattle.guarantees.specs.BlockTally.{isBefore, stepsIn, tallyAfter}
+use Rattle.analysis.specs.Laid.{callCount, setsAt}
 
 -- A call's state and a worker's call as the run writes them.
 abbrev pub stateNumber : Phase → ℕ
@@ -39,11 +39,11 @@ behind s file workers ms = runAfter file (openedIn s file workers) ms
 
 -- "the steps since" the last begin, read on the tally.
 abbrev pub stepsSince : List ℕ → (workers : ℕ) → List Move → ℕ → ℕ
-stepsSince file workers ms = taken workers (length (fileSets file)) (isBefore (fileSets file)) (stepsIn file workers) ms
+stepsSince file workers ms = taken workers (callCount file) (isBefore file) (stepsIn file workers) ms
 
 -- "The cells that a call may write are its write set": of the cell at a place of the table, by its key.
 abbrev pub mayWrite : List ℕ → Run → (call cell : ℕ) → Bool
-mayWrite file r c x = member (keyAt (r .keys) x) (writeSet (getD (fileSets file) c []))
+mayWrite file r c x = member (keyAt (r .keys) x) (writeSet (setsAt file c))
 
 -- The serial run; and the finished calls alone: "the serial run of this same block in which only they are begun".
 abbrev pub serially : Sizes → List ℕ → (workers : ℕ) → Run

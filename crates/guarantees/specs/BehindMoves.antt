@@ -1,15 +1,13 @@
 -- An accepted opening behind a list of moves: its tally is the one that the theorem on schedules has, and its run stands for the machine there.
 -- Assumes nothing.
 use mathlib.Core.Path.{_≡_, sym, ap, _∙_}
-use mathlib.Core.Bool.{Bool}
 use mathlib.Core.List.{List}
 use Prim.Native.Nat.{ℕ, _<_}
 use lib.IntN.{ℤ}
-use lib.ListN.{length, getD, length-map}
+use lib.ListN.{getD}
 use Rattle.schedule.specs.declared.Move.{Move}
 use Rattle.schedule.specs.Tally as tallies
 use Rattle.schedule.specs.Tally.{Tally, start, isFinished, begun}
-use Rattle.schedule.specs.Taken.{taken}
 use Rattle.schedule.specs.Calls as calls
 use Rattle.schedule.specs.Calls.{Calls, Laws}
 use Rattle.schedule.specs.Machine.{Machine, opening}
@@ -17,18 +15,15 @@ use Rattle.schedule.specs.Expected.{Closed}
 use Rattle.schedule.specs.Valid.{is-finished}
 use Rattle.schedule.specs.Simulation.{opening-agrees, play-agrees}
 use Rattle.schedule.specs.Confluence.{tally, machine, since, Confluent, confluence}
-use Rattle.footprint.specs.Access.{Access}
 use Rattle.footprint.specs.AccessLaws.{Bytes}
-use Rattle.footprint.specs.Sets.{setsOf}
-use Rattle.analysis.specs.Laid.{blockOf, allSets}
+use Rattle.analysis.specs.Laid.{callCount}
 use Rattle.machine.specs.Run.{Sizes}
 use Rattle.machine.specs.Serial.{serialSteps}
 use Rattle.machine.specs.Moves.{answersOf}
-use Rattle.guarantees.specs.BlockTally.{fileSets, isBefore, stepsIn, tallyAfter, tallyAnswers}
+use Rattle.guarantees.specs.BlockTally.{stepsIn, tallyAfter, tallyAnswers}
 use Rattle.guarantees.specs.Agreement.{behind, stepsSince}
 use Rattle.guarantees.specs.AfterOpening.{AfterOpening}
-use Rattle.guarantees.specs.OpenedRuns.{openedRun, callCount, openedCalls, OpenedMatches, opening-matches}
-use Rattle.guarantees.specs.WriteSets.{sets-are}
+use Rattle.guarantees.specs.OpenedRuns.{openedRun, openedCalls, OpenedMatches, opening-matches}
 use Rattle.guarantees.specs.TallySteps.{after-same, answers-same, taken-same}
 use Rattle.guarantees.specs.Serially.{opened-laws, opened-good, steps-are}
 use Rattle.guarantees.specs.MoveLists.{none-twenty, Agreed, Plays, plays}
@@ -86,26 +81,13 @@ module _ (s : Sizes) (file : List ℕ) (workers : ℕ) (bytes : Bytes file) (aft
   pub steps-in : (c : ℕ) → c < callCount file → stepsIn file workers c ≡ calls.serialSteps (openedCalls s file workers) (openedRun s file workers .cells) c
   steps-in c l = sym (sized c l) ∙ steps-are s file workers bytes after c l
 
-  -- What is made of the sets of the file's calls and of their number.
-  by-sets : {A : Type 0} (f : ℕ → (ℕ → ℕ → Bool) → A)
-      → f (length (fileSets file)) (isBefore (fileSets file)) ≡ f (Y .calls) (Y .before)
-  by-sets f =
-      ap (λ (sets : List (List Access)). f (length sets) (isBefore sets)) (sets-are s file workers after)
-      ∙ ap (λ (n : ℕ). f n (isBefore (allSets file (blockOf file)))) (length-map (blockOf file .calls) (setsOf file (blockOf file .functions)))
-
   pub tally-is : tallyAfter file workers ms ≡ theTally
-  tally-is =
-      by-sets (λ n before. tallies.after workers n before (stepsIn file workers) ms)
-      ∙ after-same Y laws workers s₀ good (stepsIn file workers) steps-in ms
+  tally-is = after-same Y laws workers s₀ good (stepsIn file workers) steps-in ms
 
   pub answers-are : answersOf file (openedRun s file workers) ms ≡ tallyAnswers file workers ms
   answers-are =
       played .answered ∙ confluent .same-answers
       ∙ sym (answers-same Y laws workers s₀ good (stepsIn file workers) steps-in ms)
-      ∙ sym (by-sets (λ n before. tallies.answers workers n before (stepsIn file workers) ms))
 
   pub since-is : (c : ℕ) → stepsSince file workers ms c ≡ since (openedCalls s file workers) workers (openedRun s file workers .cells) ms c
-  since-is c =
-      ap (λ (f : ℕ → ℕ). f c)
-      (by-sets (λ n before. taken workers n before (stepsIn file workers) ms)
-      ∙ taken-same Y laws workers s₀ good (stepsIn file workers) steps-in ms)
+  since-is c = ap (λ (f : ℕ → ℕ). f c) (taken-same Y laws workers s₀ good (stepsIn file workers) steps-in ms)

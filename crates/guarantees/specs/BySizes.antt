@@ -1,17 +1,17 @@
 -- An opening's verdict, and the number of steps that the serial run takes for a call, do not depend on the sizes of the buffers. Assumes nothing.
 use mathlib.Core.Path.{_≡_, refl, sym, ap, ap₂, subst⁻¹, _∙_}
-use mathlib.Core.Bool.{Bool, true, false, _&&_, _||_, not}
+use mathlib.Core.Bool.{Bool, true, false, _||_, not}
 use mathlib.Core.List.{List, [], map}
 use Prim.Native.Nat.{ℕ, _+_, _*_, _≤_, _<_}
 use native.Mathlib.Omega.{arith}
-use borrow.Author.Tests.{le-leb, le-ltb, ne-eqb}
-use lib.Dec.{eqb, leb, ltb}
+use borrow.Author.Tests.{le-ltb, ne-eqb}
+use lib.Dec.{eqb, ltb}
 use lib.IntN.{ℤ, pos}
 use lib.ListN.{length, getD, drop}
 use Rattle.arith.specs.Choice.{if_then_else_}
 use Rattle.wire.specs.Bytes.{padded}
 use Rattle.wire.specs.Laws.{padded-at}
-use Rattle.block.specs.Limits.{maxCalls, maxKeys, maxWorkers}
+use Rattle.block.specs.Limits.{maxWorkers}
 use Rattle.block.specs.Record.{Function, Block, headBytes, callBytes, callOf}
 use Rattle.block.specs.Reader.{Read, accepted, readBlock}
 use Rattle.block.specs.declared.Call.{Call}
@@ -22,10 +22,10 @@ use Rattle.footprint.specs.Access.{Access}
 use Rattle.footprint.specs.AccessLaws.{Bytes}
 use Rattle.footprint.specs.Table as table
 use Rattle.footprint.specs.Table.{Analysis}
-use Rattle.footprint.specs.Plan.{Room, Prepared, planWords, unprepared, roomEnough, prepareAnalysed, prepareRead, preparedOf, keyWords, openingValue}
-use Rattle.analysis.specs.Laid.{blockOf, allSets, analysisOf}
+use Rattle.footprint.specs.Plan.{Room, Prepared, roomEnough, prepareAnalysed, prepareRead, keyWords, openingValue}
+use Rattle.analysis.specs.Laid.{blockOf, allSets, analysisOf, callCount}
 use Rattle.schedule.specs.Calls as calls
-use Rattle.machine.specs.Run.{Run, Sizes, fixedSizes, largeEnough}
+use Rattle.machine.specs.Run.{Run, Sizes, fixedSizes, roomIn, largeEnough}
 use Rattle.machine.specs.Opening.{refusedRun, openPrepared, openingOf}
 use Rattle.machine.specs.Step.{View, cellAt}
 use Rattle.machine.specs.Made.{madeView}
@@ -33,31 +33,20 @@ use Rattle.machine.specs.Serial.{serialSteps}
 use Rattle.machine.specs.declared.Head.{Head}
 use Rattle.guarantees.specs.ViewCalls.{bodyCall, runView}
 use Rattle.guarantees.specs.ViewKeys.{step-same}
-use Rattle.guarantees.specs.OpeningLaws.{Large, large-sizes, Made, opening-made}
+use Rattle.guarantees.specs.OpeningLaws.{Made, opening-made}
 use Rattle.guarantees.specs.AfterOpening.{AfterOpening, after-opening}
-use Rattle.guarantees.specs.OpenedRuns.{openedRun, callCount, conflicting, openedCalls, view-made}
+use Rattle.guarantees.specs.OpenedRuns.{openedRun, openedCalls, view-made}
 use Rattle.guarantees.specs.Serially.{opened-laws, opened-good, steps-are}
 use Rattle.guarantees.specs.SerialAlike.{Level, level-steps, StepsAlike, alike-steps}
+use Rattle.guarantees.specs.BlockTally.{isBefore}
 
 -- ---- the verdict
 
-all-three : (x y z : Bool) → x ≡ true → y ≡ true → z ≡ true → (x && y && z) ≡ true
-all-three x y z e f g = rw (e, f, g)
-
--- Buffers that are large enough have room for what is prepared.
-room-enough : (s : Sizes) → Large s → roomEnough (record { plan = s .plan; keys = s .keys; cells = s .cells }) ≡ true
-unfolding roomEnough
-room-enough s large =
-    all-three (leb (maxCalls * planWords) (s .plan)) (leb (maxKeys * 2) (s .keys)) (leb maxKeys (s .cells))
-    (le-leb (maxCalls * planWords) (s .plan) (large .plan)) (le-leb (maxKeys * 2) (s .keys) (large .keys))
-    (le-leb maxKeys (s .cells) (large .cells))
-
-prepared-accepts : (r : Room) (file : List ℕ) (b : Block) (sets : List (List Access)) (keys : List ℕ) → roomEnough r ≡ true
-    → readBlock file ≡ accepted b → analysisOf file b ≡ table.analysed sets keys → preparedOf r file .verdict ≡ Accepted
-unfolding preparedOf prepareRead prepareAnalysed
-prepared-accepts r file b sets keys room read analysis =
-    ap (λ (t : Bool). (if t then prepareRead r file (readBlock file) else unprepared r Buffers) .verdict) room
-    ∙ ap (λ (g : Read). prepareRead r file g .verdict) read ∙ ap (λ (a : Analysis). prepareAnalysed r b a .verdict) analysis
+prepared-accepts : (r : Room) (file : List ℕ) (b : Block) (sets : List (List Access)) (keys : List ℕ)
+    → readBlock file ≡ accepted b → analysisOf file b ≡ table.analysed sets keys → prepareRead r file (readBlock file) .verdict ≡ Accepted
+unfolding prepareRead prepareAnalysed
+prepared-accepts r file b sets keys read analysis =
+    ap (λ (g : Read). prepareRead r file g .verdict) read ∙ ap (λ (a : Analysis). prepareAnalysed r b a .verdict) analysis
 
 workers-allowed : (workers : ℕ) → 0 < workers → workers ≤ maxWorkers → (eqb workers 0 || ltb maxWorkers workers) ≡ false
 workers-allowed workers low high =
@@ -69,8 +58,7 @@ pub accepted-by-sizes : (s t : Sizes) (file : List ℕ) (workers : ℕ) → larg
 unfolding openingOf openPrepared
 accepted-by-sizes s t file workers large answer =
     let m : Made s file workers (openingOf s file workers) = opening-made s file workers answer in
-    let room : Room = record { plan = t .plan; keys = t .keys; cells = t .cells } in
-    let p : Prepared = preparedOf room file in
+    let p : Prepared = prepareRead (roomIn t) file (readBlock file) in
     ap
     (λ (b : Bool).
     (if not b
@@ -82,11 +70,11 @@ accepted-by-sizes s t file workers large answer =
     ∙ ap (λ (b : Bool). (if b then refusedRun t Workers else openPrepared t workers p (p .verdict)) .answer)
     (workers-allowed workers (m .low) (m .high))
     ∙ ap (λ (v : Verdict). openPrepared t workers p v .answer)
-    (prepared-accepts room file (m .block) (m .sets) (m .keys) (room-enough t (large-sizes t large)) (m .read) (m .analysis))
+    (prepared-accepts (roomIn t) file (m .block) (m .sets) (m .keys) (m .read) (m .analysis))
 
 pub accepted-fixed : (s : Sizes) (file : List ℕ) (workers : ℕ) → openingOf s file workers .answer ≡ Accepted
     → openingOf fixedSizes file workers .answer ≡ Accepted
-unfolding largeEnough
+unfolding largeEnough roomEnough
 accepted-fixed s file workers = accepted-by-sizes s fixedSizes file workers refl
 
 -- ---- the views
@@ -165,7 +153,7 @@ module _ (s t : Sizes) (file : List ℕ) (workers : ℕ) (bytes : Bytes file) (a
       → calls.serialSteps (openedCalls s file workers) (openedRun s file workers .cells) c
       ≡ calls.serialSteps (openedCalls t file workers) (openedRun t file workers .cells) c
   scheduled-steps c h =
-      alike-steps (runView file r) (runView file r′) (callCount file) (conflicting file) views (r .cells) c h
+      alike-steps (runView file r) (runView file r′) (callCount file) (isBefore file) views (r .cells) c h
       ∙ level-steps (openedCalls t file workers) (opened-laws t file workers bytes after′ .call) (r .cells) (r′ .cells) level c h
 
   -- The same of the run itself.

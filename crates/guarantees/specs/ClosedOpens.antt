@@ -1,108 +1,58 @@
--- "Its kind 2 records open the next block", of every run whose calls are all finished: what `opened-next-day` asks of a run and its state holds of
--- the run behind the moves and of the state that the published rule leaves. Assumes nothing.
-use mathlib.Core.Path.{_≡_, subst, subst⁻¹}
-use mathlib.Core.List.{List, [], _∷_}
-use Prim.Native.Nat.{ℕ, zero, suc, _+_, _*_, _<_}
-use native.Mathlib.Omega.{arith}
-use lib.Dec.{eqb, lit<}
-use lib.ListN.{length, getD, drop}
-use Rattle.arith.specs.ChoiceLaws.{if-all}
-use Rattle.arith.specs.Laws.{signed-range}
-use Rattle.wire.specs.Bytes.{readLe}
-use Rattle.wire.specs.Laws.{number-lt}
+-- "Its kind 2 records open the next block", of every run whose calls are all finished. Assumes nothing.
+use mathlib.Core.Path.{_≡_}
+use mathlib.Core.List.{List}
+use Prim.Native.Nat.{ℕ, _<_, _≤_}
+use lib.ListN.{length}
 use Rattle.schedule.specs.Tally.{finished}
 use Rattle.schedule.specs.declared.Move.{Move}
-use Rattle.block.specs.Record.{Function, Cell, Block}
-use Rattle.block.specs.ReaderLaws.{Each, Laws}
+use Rattle.block.specs.Limits.{maxBytes, maxCallKeys, maxKeys, maxWorkers}
+use Rattle.block.specs.Encoding.{All, AreBytes, Routine, FunctionFits, CallFits, FunctionsKeep, CallsKeep, placed}
 use Rattle.block.specs.declared.Call.{Call}
 use Rattle.block.specs.declared.Verdict.the-variants as verdict
-use Rattle.footprint.specs.AccessLaws.{Bytes, drop-bytes}
-use Rattle.footprint.specs.FitLaws.{Small, Fit, fit-kept}
-use Rattle.footprint.specs.Plan.{openingValue}
-use Rattle.footprint.specs.Rule.{State, transaction}
-use Rattle.footprint.specs.RuleLimit.{CallFits, call-fits}
-use Rattle.analysis.specs.Laid.{blockOf}
-use Rattle.machine.specs.Made.{Hold}
+use Rattle.footprint.specs.Rule.{State}
+use Rattle.analysis.specs.Laid.{blockOf, callCount, allSets, openingKeys}
 use Rattle.machine.specs.Opening.{openingOf}
 use Rattle.machine.specs.Run.{Run, Sizes}
-use Rattle.sheet.specs.Sheet.{nextBlock}
-use Rattle.guarantees.specs.BlockTally.{fileSets, tallyAfter}
-use Rattle.guarantees.specs.Agreement.{openedIn, behind}
-use Rattle.guarantees.specs.AfterOpening.{AfterOpening, after-opening}
-use Rattle.guarantees.specs.NextDay.{OpensWith, opened-next-day}
-use Rattle.guarantees.specs.OpenedRuns.{OpenedMatches}
-use Rattle.guarantees.specs.SerialRule.{stateAfter, ruleState}
-use Rattle.guarantees.specs.BySizes.{steps-by-sizes}
-use Rattle.guarantees.specs.BehindMoves.{theMachine, behind-matches}
-use Rattle.guarantees.specs.Demand2.{tableIn}
-use Rattle.guarantees.specs.Demand2Proof.{table-is, demand-2}
-use Rattle.guarantees.specs.Demand3Proof.{demand-3}
+use Rattle.sheet.specs.Sheet.{nextFile}
+use Rattle.guarantees.specs.BlockTally.{tallyAfter}
+use Rattle.guarantees.specs.Agreement.{behind}
+use Rattle.guarantees.specs.Demand1.{Exactly, Large, keysTogether}
+use Rattle.guarantees.specs.Demand2.{openingState, closingState}
 
--- "Its kind 2 records open the next block": behind every list of moves that finishes all calls, the sheet's records of cells and an end are read
--- as a block that opens with the state which the published rule leaves.
+-- Functions and calls that have bytes: each number fits its field.
+pub record Sendable (functions : List Routine) (calls : List Call) : Type 0 where
+  pub coded : All (λ f. FunctionFits f × AreBytes (f .code)) functions
+  pub called : All CallFits calls
+
+-- The next day's functions, calls, workers and buffers pass their own tests; nothing is asked of the cells.
+pub record NextKeeps (s : Sizes) (workers : ℕ) (file : List ℕ) (functions : List Routine) (calls : List Call) : Type 0 where
+  pub large : Large s
+  pub some : (1 ≤ workers) × (workers ≤ maxWorkers)
+  pub coded : FunctionsKeep functions
+  pub called : CallsKeep calls
+  pub size : length file ≤ maxBytes
+  pub each : All (λ es. length es ≤ maxCallKeys) (allSets file (blockOf file))
+  pub together : length (keysTogether (openingKeys (blockOf file)) (allSets file (blockOf file))) ≤ maxKeys
+
+-- What the file opens: these functions, these calls, and a state, at every key.
+pub record OpensWith (σ : State) (file : List ℕ) (functions : List Routine) (calls : List Call) : Type 0 where
+  pub coded : blockOf file .functions ≡ placed 0 functions
+  pub called : blockOf file .calls ≡ calls
+  pub state : (k : ℕ) → openingState file k ≡ σ k
+
+-- The kind 2 records of a run open the next block with a state: with any functions and calls, the file is accepted exactly if these pass their
+-- own tests, and then opens with that state.
+pub record OpensNext (r : Run) (σ : State) : Type 0 where
+  pub accepts : (functions : List Routine) (calls : List Call) → Sendable functions calls → (s : Sizes) (workers : ℕ)
+      → Exactly (openingOf s (nextFile r functions calls) workers .answer ≡ verdict.Accepted)
+      (NextKeeps s workers (nextFile r functions calls) functions calls)
+  pub opens : (functions : List Routine) (calls : List Call) → Sendable functions calls → (s : Sizes) (workers : ℕ)
+      → openingOf s (nextFile r functions calls) workers .answer ≡ verdict.Accepted
+      → OpensWith σ (nextFile r functions calls) functions calls
+
+-- Behind every list of moves that finishes all calls, with the state that the published rule leaves.
 abbrev pub ClosedOpens : Type 0
 ClosedOpens =
-    (s : Sizes) (file : List ℕ) (workers : ℕ) → ((i : ℕ) → getD file i 0 < 256) → openingOf s file workers .answer ≡ verdict.Accepted
-    → (ms : List Move) → ((c : ℕ) → c < length (fileSets file) → tallyAfter file workers ms .phase c ≡ finished)
-    → OpensWith (tableIn (openedIn s file workers))
-    (stateAfter file (blockOf file .functions) (blockOf file .calls) (openingValue (blockOf file .cells)) (length (blockOf file .calls)))
-    (nextBlock (behind s file workers ms))
-
--- ---- the opening's values
-
--- "an absent cell reads 0"
-opening-small : (cs : List Cell) → Each (λ i c. Small (c .value)) cs → (k : ℕ) → Small (openingValue cs k)
-unfolding openingValue
-opening-small [] all k = lit< tt
-opening-small (c ∷ cs) all k =
-    if-all Small (eqb k (c .key)) (λ e. all 0 c (omega arith)) (λ e. opening-small cs (λ i d h. all (suc i) d (omega arith)) k)
-
--- "value 8 (two's complement)"
-cells-small : (file : List ℕ) → Bytes file → (b : Block) → Laws file b → Each (λ i c. Small (c .value)) (b .cells)
-cells-small file bytes b laws i d h =
-    let body : List ℕ = drop (b .opening + 24 * i + 4) file in
-    subst⁻¹ (λ (c : Cell). Small (c .value)) (laws .cells i d h)
-    (signed-range 64 (readLe 8 body 12) (lit< tt) (number-lt 8 (drop 12 body) (drop-bytes 12 body (drop-bytes (b .opening + 24 * i + 4) file bytes))))
-
--- ---- the rule's states
-
-calls-fit : (file : List ℕ) → Bytes file → (b : Block) → Laws file b → Each (λ i c. CallFits c) (b .calls)
-calls-fit file bytes b laws i d h =
-    let at : ℕ = b .first + 34 * i + 4 in
-    call-fits (drop at file) (drop-bytes at file bytes) (getD (b .calls) i d) (laws .calls i d h)
-
-states-fit : (file : List ℕ) → Bytes file → (functions : List Function) (calls : List Call) → Each (λ i c. CallFits c) calls → (σ : State) → Fit σ
-    → (c : ℕ) → Fit (stateAfter file functions calls σ c)
-unfolding stateAfter
-states-fit file bytes functions [] all σ fit c = fit
-states-fit file bytes functions (x ∷ xs) all σ fit zero = fit
-states-fit file bytes functions (x ∷ xs) all σ fit (suc c) =
-    states-fit file bytes functions xs (λ i d h. all (suc i) d (omega arith)) (transaction file functions x σ .state)
-    (fit-kept x (all 0 x (omega arith)) file bytes functions σ fit) c
-
--- ---- of a run
-
-module _ (s : Sizes) (file : List ℕ) (workers : ℕ) (after : AfterOpening s file workers) where
-  -- Every state of the published rule, from the opening on, is within the limit and has values of 64 bits.
-  rule-fits : Bytes file → (c : ℕ) → Fit (ruleState file (blockOf file) c)
-  rule-fits bytes =
-      let b : Block = blockOf file in
-      let laws : Laws file b = after .whole .laws in
-      states-fit file bytes (b .functions) (b .calls) (calls-fit file bytes b laws) (openingValue (b .cells))
-      (record { limit = after .opened .limit; small = opening-small (b .cells) (cells-small file bytes b laws) })
-
-pub closed-opens : ClosedOpens
-closed-opens s file workers bytes accepted ms all =
-    let after : AfterOpening s file workers = after-opening s file workers bytes accepted in
-    let σ : State = ruleState file (blockOf file) (length (blockOf file .calls)) in
-    let r : Run = behind s file workers ms in
-    let sized = steps-by-sizes s file workers bytes accepted in
-    let stands : OpenedMatches s file workers (theMachine s file workers bytes after sized ms) r = behind-matches s file workers bytes after sized ms in
-    let fit : Fit σ = rule-fits s file workers after bytes (length (blockOf file .calls)) in
-    let same : tableIn (openedIn s file workers) ≡ after .table = table-is s file workers bytes after in
-    let hold : Hold (tableIn (openedIn s file workers)) σ (r .cells) =
-    subst⁻¹ (Hold (tableIn (openedIn s file workers)) σ) (demand-3 s file workers bytes accepted ms .close all .cells)
-    (demand-2 s file workers bytes accepted .cells) in
-    subst⁻¹ (λ (t : List ℕ). OpensWith t σ (nextBlock r)) same
-    (opened-next-day s file workers bytes after r σ (stands .keys) (stands .cellCount) (subst (λ (t : List ℕ). Hold t σ (r .cells)) same hold)
-    (λ k m. fit .small k) (fit .limit))
+    (s : Sizes) (file : List ℕ) (workers : ℕ) → AreBytes file → openingOf s file workers .answer ≡ verdict.Accepted
+    → (ms : List Move) → ((c : ℕ) → c < callCount file → tallyAfter file workers ms .phase c ≡ finished)
+    → OpensNext (behind s file workers ms) (closingState file)

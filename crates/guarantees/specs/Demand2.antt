@@ -1,29 +1,33 @@
 -- Demand 2, sentence by sentence. Assumes nothing.
 use mathlib.Core.Path.{_≡_}
 use mathlib.Core.Bool.{Bool, true, false, _&&_, not}
-use mathlib.Core.List.{List, []}
-use Prim.Native.Nat.{ℕ, _<_}
-use lib.IntN.{ℤ}
+use mathlib.Core.List.{List}
+use mathlib.Core.Option.{some}
+use Prim.Native.Nat.{ℕ, zero, suc, _<_}
+use lib.IntN.{ℤ, pos}
 use lib.Dec.{ltb}
-use lib.ListN.{length, getD}
+use lib.ListN.{getElem?}
 use Rattle.wire.specs.Rows.{inRow}
+use Rattle.block.specs.Record.{Function}
 use Rattle.block.specs.declared.Call.{Call}
 use Rattle.block.specs.declared.Verdict.the-variants as verdict
-use Rattle.footprint.specs.Sets.{readSet, writeSet}
+use Rattle.block.specs.Encoding.{AreBytes}
+use Rattle.footprint.specs.Sets.{readSet}
 use Rattle.footprint.specs.Conflict.{member, strongSwap}
 use Rattle.footprint.specs.Plan.{openingValue}
-use Rattle.footprint.specs.Rule.{State, Left, stateWithinLimit, transaction}
+use Rattle.footprint.specs.Rule.{State, Left, stateWithinLimit, stepsFor, transaction, transactions, stateLeft}
 use Rattle.analysis.specs.KeyTable.{keyAt, keysIn}
-use Rattle.analysis.specs.Laid.{blockOf, allSets}
+use Rattle.analysis.specs.Laid.{blockOf, callCount, setsAt}
 use Rattle.machine.specs.Run.{Run, Sizes, stateOf, statusWord, rowIn, finished}
 use Rattle.machine.specs.Opening.{openingOf}
-use Rattle.machine.specs.Step.{View, Stepped, damaged, more, done, cellAt}
+use Rattle.machine.specs.Step.{View, Stepped, damaged, more, done, cellAt, stepCall}
 use Rattle.machine.specs.Moves.{viewOf}
 use Rattle.machine.specs.Serial.{maxSteps}
-use Rattle.machine.specs.Made.{begun, stepsOf, Hold}
+use Rattle.machine.specs.Made.{InstrOf, begun, stepsOf, stepsTaken, Hold}
 use Rattle.machine.specs.StepRule.{Leaves}
-use Rattle.guarantees.specs.Agreement.{openedIn, serially}
-use Rattle.guarantees.specs.SerialRule.{callIn, stateAfter, leftAt}
+use Rattle.guarantees.specs.BlockTally.{stepsIn}
+use Rattle.guarantees.specs.Agreement.{openedIn, mayWrite, serially}
+use Rattle.guarantees.specs.SerialRule.{callIn}
 
 -- The keys of a run's cells, in the order of their numbers.
 abbrev pub tableIn : Run → List ℕ
@@ -36,10 +40,37 @@ callOfBlock file c = callIn (blockOf file .calls) c
 abbrev pub ruleFor : List ℕ → ℕ → State → Left
 ruleFor file c σ = transaction file (blockOf file .functions) (callOfBlock file c) σ
 
--- Call c of the opened run, begun in a register with these cells and stepped to its end.
+-- The state that a block opens with; what the rule, folded over the block's calls, leaves of each, and the state behind the last.
+abbrev pub openingState : List ℕ → State
+openingState file = openingValue (blockOf file .cells)
+
+abbrev pub ruleLefts : List ℕ → List Left
+ruleLefts file = transactions file (blockOf file .functions) (blockOf file .calls) (openingState file)
+
+abbrev pub closingState : List ℕ → State
+closingState file = stateLeft (openingState file) (ruleLefts file)
+
+-- Call c of the opened run; begun in a register with these cells; and stepped to its end.
+abbrev pub callView : Sizes → List ℕ → (workers c : ℕ) → View
+callView s file workers c = viewOf file (openedIn s file workers) c (callOfBlock file c)
+
+abbrev pub begunCall : Sizes → List ℕ → (workers c : ℕ) → List ℤ → Stepped
+begunCall s file workers c cells = more (begun (callView s file workers c) cells) cells
+
 abbrev pub wholeCall : Sizes → List ℕ → (workers c : ℕ) → List ℤ → Stepped
-wholeCall s file workers c cells =
-    let v : View = viewOf file (openedIn s file workers) c (callOfBlock file c) in stepsOf maxSteps v (more (begun v cells) cells)
+wholeCall s file workers c cells = stepsOf maxSteps (callView s file workers c) (begunCall s file workers c cells)
+
+-- The cells after k more steps of a call: a refused step changes nothing, and a call that has ended makes none.
+abbrev pub cellsLeft : (before : List ℤ) → Stepped → List ℤ
+cellsLeft before damaged = before
+cellsLeft before (more l cells) = cells
+cellsLeft before (done outcome count cells) = cells
+
+unfoldable pub cellsAfter : (k : ℕ) → View → (before : List ℤ) → Stepped → List ℤ
+cellsAfter zero v before s = cellsLeft before s
+cellsAfter (suc k) v before damaged = before
+cellsAfter (suc k) v before (more l cells) = cellsAfter k v cells (stepCall v l cells)
+cellsAfter (suc k) v before (done outcome count cells) = cells
 
 -- A register within the balance limit: its cells hold a state that is.
 pub record Register (s : Sizes) (file : List ℕ) (workers : ℕ) (cells : List ℤ) : Type 0 where
@@ -47,12 +78,9 @@ pub record Register (s : Sizes) (file : List ℕ) (workers : ℕ) (cells : List 
   pub hold : Hold (tableIn (openedIn s file workers)) state cells
   pub limit : stateWithinLimit state ≡ true
 
--- Whether the cell at a place of the table is in a set of call c.
-abbrev pub cellRead : Sizes → List ℕ → (workers c x : ℕ) → Bool
-cellRead s file workers c x = member (keyAt (openedIn s file workers .keys) x) (readSet (getD (allSets file (blockOf file)) c []))
-
-abbrev pub cellWritten : Sizes → List ℕ → (workers c x : ℕ) → Bool
-cellWritten s file workers c x = member (keyAt (openedIn s file workers .keys) x) (writeSet (getD (allSets file (blockOf file)) c []))
+-- Whether the cell at a place of the table is in the read set of call c.
+abbrev pub mayRead : List ℕ → Run → (call cell : ℕ) → Bool
+mayRead file r c x = member (keyAt (r .keys) x) (readSet (setsAt file c))
 
 -- What a call leaves of two registers: one receipt; and each cell that was alike is alike.
 abbrev pub EndsAlike : (cells : ℕ) (before before′ : List ℤ) (outcome count : ℕ) (after : List ℤ) → Stepped → Type 0
@@ -67,47 +95,52 @@ LeavesAlike n before before′ damaged b = ⊥
 LeavesAlike n before before′ (more l after) b = ⊥
 LeavesAlike n before before′ (done outcome count after) b = EndsAlike n before before′ outcome count after b
 
--- What a call leaves of a register: every cell outside its write set.
-abbrev pub Frames : (cells : ℕ) (written : ℕ → Bool) (before : List ℤ) → Stepped → Type 0
-Frames n written before damaged = ⊥
-Frames n written before (more l after) = ⊥
-Frames n written before (done outcome count after) = (x : ℕ) → x < n → written x ≡ false → cellAt after x ≡ cellAt before x
+-- The receipt of call c in the serial run is what the rule leaves of it.
+pub record Receives (s : Sizes) (file : List ℕ) (workers c : ℕ) : Type 0 where
+  pub left : Left
+  pub listed : getElem? (ruleLefts file) c ≡ some left
+  pub ended : stateOf (serially s file workers .status) c ≡ finished
+  pub outcome : statusWord (serially s file workers .status) c 1 ≡ left .outcome
+  pub count : statusWord (serially s file workers .status) c 2 ≡ left .count
 
 -- What holds of an accepted block, opened in any buffers.
 pub record Demand2 (s : Sizes) (file : List ℕ) (workers : ℕ) : Type 0 where
-  -- "One call .. leave[s] exactly what the published transaction rule gives over our instruction set": state, outcome and count; and the
-  -- balance limit is kept, whatever the outcome.
-  pub call : (c : ℕ) → c < length (blockOf file .calls) → (σ : State) → stateWithinLimit σ ≡ true → (cells : List ℤ)
+  -- "One call .. leave[s] exactly what the published transaction rule gives over our instruction set": state, outcome and count, in as many
+  -- steps as document 01 says; and the balance limit is kept, whatever the outcome.
+  pub call : (c : ℕ) → c < callCount file → (σ : State) → stateWithinLimit σ ≡ true → (cells : List ℤ)
       → Hold (tableIn (openedIn s file workers)) σ cells
       → Leaves (tableIn (openedIn s file workers)) (ruleFor file c σ) (wholeCall s file workers c cells)
-  pub limit : (c : ℕ) → c < length (blockOf file .calls) → (σ : State) → stateWithinLimit σ ≡ true
-      → stateWithinLimit (ruleFor file c σ .state) ≡ true
+  pub call-steps : (c : ℕ) → c < callCount file → (σ : State) → stateWithinLimit σ ≡ true → (cells : List ℤ)
+      → Hold (tableIn (openedIn s file workers)) σ cells
+      → stepsTaken maxSteps (callView s file workers c) (begunCall s file workers c cells) ≡ stepsFor (ruleFor file c σ)
+  pub limit : (c : ℕ) → c < callCount file → (σ : State) → stateWithinLimit σ ≡ true → stateWithinLimit (ruleFor file c σ .state) ≡ true
+  -- The rule's body of a function is its code, instruction by instruction.
+  pub bodies : (i : ℕ) (f : Function) → getElem? (blockOf file .functions) i ≡ some f → (p : ℕ) → p < f .size → InstrOf file f p
   -- ".. and a block run in order": the serial run has the receipt that the rule gives each call behind those before it, and the cells of the
   -- state that the last one leaves.
-  pub receipts : (c : ℕ) → c < length (blockOf file .calls)
-      → (stateOf (serially s file workers .status) c ≡ finished)
-      × (statusWord (serially s file workers .status) c 1
-      ≡ leftAt file (blockOf file .functions) (blockOf file .calls) (openingValue (blockOf file .cells)) c .outcome)
-      × (statusWord (serially s file workers .status) c 2
-      ≡ leftAt file (blockOf file .functions) (blockOf file .calls) (openingValue (blockOf file .cells)) c .count)
-  pub cells : Hold (tableIn (openedIn s file workers))
-      (stateAfter file (blockOf file .functions) (blockOf file .calls) (openingValue (blockOf file .cells)) (length (blockOf file .calls)))
-      (serially s file workers .cells)
-  -- "A call changes no cell outside its write set"
-  pub frame : (c : ℕ) → c < length (blockOf file .calls) → (cells : List ℤ) → Register s file workers cells
-      → Frames (openedIn s file workers .head .cells) (cellWritten s file workers c) cells (wholeCall s file workers c cells)
+  pub receipts : (c : ℕ) → c < callCount file → Receives s file workers c
+  pub cells : Hold (tableIn (openedIn s file workers)) (closingState file) (serially s file workers .cells)
+  -- A key that is not in the table keeps what it has through a call, and has 0 at the opening and behind the block.
+  pub call-elsewhere : (c : ℕ) → c < callCount file → (k : ℕ) → member k (tableIn (openedIn s file workers)) ≡ false
+      → (σ : State) → ruleFor file c σ .state k ≡ σ k
+  pub elsewhere : (k : ℕ) → member k (tableIn (openedIn s file workers)) ≡ false
+      → (openingState file k ≡ pos 0) × (closingState file k ≡ pos 0)
+  -- "A call's steps are its entry, its counted instructions, and one for reaching the end": the number that the tally takes for it.
+  pub steps : (c : ℕ) (l : Left) → getElem? (ruleLefts file) c ≡ some l → stepsIn file workers c ≡ stepsFor l
+  -- "A call changes no cell outside its write set": after any number of steps, from any cells.
+  pub frame : (c : ℕ) → c < callCount file → (cells : List ℤ) (k x : ℕ) → x < openedIn s file workers .head .cells
+      → mayWrite file (openedIn s file workers) c x ≡ false
+      → cellAt (cellsAfter k (callView s file workers c) cells (begunCall s file workers c cells)) x ≡ cellAt cells x
   -- ".. and its course depends on no other cell than those it reads: two registers alike there, both within the balance limit, give it one
   -- receipt and stay alike wherever they were."
-  pub alike : (c : ℕ) → c < length (blockOf file .calls) → (cells cells′ : List ℤ)
+  pub alike : (c : ℕ) → c < callCount file → (cells cells′ : List ℤ)
       → Register s file workers cells → Register s file workers cells′
-      → ((x : ℕ) → x < openedIn s file workers .head .cells → cellRead s file workers c x ≡ true → cellAt cells x ≡ cellAt cells′ x)
+      → ((x : ℕ) → x < openedIn s file workers .head .cells → mayRead file (openedIn s file workers) c x ≡ true → cellAt cells x ≡ cellAt cells′ x)
       → LeavesAlike (openedIn s file workers .head .cells) cells cells′ (wholeCall s file workers c cells) (wholeCall s file workers c cells′)
   -- "A later call waits for an earlier one exactly when the published strong-swap test fails on the sets of document 01."
-  pub waits : (i j : ℕ) → j < length (blockOf file .calls)
-      → inRow (rowIn (openedIn s file workers .plan) j) i
-      ≡ (ltb i j && not (strongSwap (getD (allSets file (blockOf file)) i []) (getD (allSets file (blockOf file)) j [])))
+  pub waits : (i j : ℕ) → j < callCount file
+      → inRow (rowIn (openedIn s file workers .plan) j) i ≡ (ltb i j && not (strongSwap (setsAt file i) (setsAt file j)))
 
 abbrev pub Demand2Holds : Type 0
 Demand2Holds =
-    (s : Sizes) (file : List ℕ) (workers : ℕ) → ((i : ℕ) → getD file i 0 < 256) → openingOf s file workers .answer ≡ verdict.Accepted
-    → Demand2 s file workers
+    (s : Sizes) (file : List ℕ) (workers : ℕ) → AreBytes file → openingOf s file workers .answer ≡ verdict.Accepted → Demand2 s file workers

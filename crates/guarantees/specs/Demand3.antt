@@ -3,10 +3,11 @@ use mathlib.Core.Path.{_≡_}
 use mathlib.Core.Bool.{true, false}
 use mathlib.Core.List.{List}
 use Prim.Native.Nat.{ℕ, _<_, _≤_}
-use lib.ListN.{length, getD}
+use lib.ListN.{getD}
 use Rattle.schedule.specs.Tally.{running, finished, holds, isFinished}
 use Rattle.schedule.specs.Confluence.{Forward}
 use Rattle.schedule.specs.declared.Move.{Move}
+use Rattle.block.specs.Encoding.{AreBytes}
 use Rattle.block.specs.declared.Verdict.the-variants as verdict
 use Rattle.machine.specs.Run.{Run, Sizes, seatOf, stateOf, statusWord}
 use Rattle.machine.specs.Opening.{openingOf}
@@ -14,8 +15,9 @@ use Rattle.machine.specs.Step.{cellAt}
 use Rattle.machine.specs.Moves.{localOf, moveOf, answersOf}
 use Rattle.machine.specs.declared.Answer.the-variants.{Accepted, CallUnfinished}
 use Rattle.sheet.specs.Sheet.{sheetBytes, unwritten, written, sheetOf}
-use Rattle.guarantees.specs.BlockTally.{fileSets, stepsIn, tallyAfter, tallyAnswers}
+use Rattle.guarantees.specs.BlockTally.{stepsIn, tallyAfter, tallyAnswers}
 use Rattle.guarantees.specs.Agreement.{stateNumber, seatNumber, openedIn, behind, stepsSince, mayWrite, serially, finishedAlone, seriallyAfter, SameSheet}
+use Rattle.analysis.specs.Laid.{callCount}
 
 -- The receipt of call c in two runs is one.
 pub record SameReceipt (r r′ : Run) (c : ℕ) : Type 0 where
@@ -42,7 +44,7 @@ pub record Forwards (s : Sizes) (file : List ℕ) (workers : ℕ) (ms : List Mov
 -- "cells, receipts and the closing sheet .. equal the serial ones byte for byte"
 pub record Closes (s : Sizes) (file : List ℕ) (workers : ℕ) (ms : List Move) : Type 0 where
   pub cells : behind s file workers ms .cells ≡ serially s file workers .cells
-  pub receipts : (c : ℕ) → c < length (fileSets file) → SameReceipt (behind s file workers ms) (serially s file workers) c
+  pub receipts : (c : ℕ) → c < callCount file → SameReceipt (behind s file workers ms) (serially s file workers) c
   pub sheet : SameSheet (behind s file workers ms) (serially s file workers)
   -- It is written, or, where the output is too short, refused by 28: "20 .. (none after an opening and moves alone ..)".
   pub written : (output : List ℕ) → sheetOf (behind s file workers ms) output ≡ written output (sheetBytes (serially s file workers))
@@ -52,39 +54,39 @@ pub record Demand3 (s : Sizes) (file : List ℕ) (workers : ℕ) (ms : List Move
   -- "Every answer, and the state of every call, is that of the tally in document 01": "every answer (accepted, or the number), each call's
   -- state (waiting, running or finished) and each worker's call".
   pub answers : answersOf file (openedIn s file workers) ms ≡ tallyAnswers file workers ms
-  pub states : (c : ℕ) → c < length (fileSets file)
+  pub states : (c : ℕ) → c < callCount file
       → stateOf (behind s file workers ms .status) c ≡ stateNumber (tallyAfter file workers ms .phase c)
   pub seats : (w : ℕ) → w < workers
       → seatOf (behind s file workers ms .head) w .call ≡ seatNumber (tallyAfter file workers ms .seat w)
   -- "(none after an opening and moves alone ..)": no answer is 20.
   pub whole : (i : ℕ) → getD (answersOf file (openedIn s file workers) ms) i 0 ≡ 20 → ⊥
   -- "Each finished call has its receipt of the serial run, in as many accepted steps, counted from its last begin."
-  pub receipts : (c : ℕ) → c < length (fileSets file) → tallyAfter file workers ms .phase c ≡ finished
+  pub receipts : (c : ℕ) → c < callCount file → tallyAfter file workers ms .phase c ≡ finished
       → SameReceipt (behind s file workers ms) (serially s file workers) c
-  pub steps : (c : ℕ) → c < length (fileSets file) → tallyAfter file workers ms .phase c ≡ finished
+  pub steps : (c : ℕ) → c < callCount file → tallyAfter file workers ms .phase c ≡ finished
       → stepsSince file workers ms c ≡ stepsIn file workers c
   -- "Each cell that no running call may write holds what the finished calls alone, run in block order, leave."
   pub quiet : (x : ℕ) → x < openedIn s file workers .head .cells
-      → ((c k : ℕ) → c < length (fileSets file) → tallyAfter file workers ms .phase c ≡ running k
+      → ((c k : ℕ) → c < callCount file → tallyAfter file workers ms .phase c ≡ running k
       → mayWrite file (openedIn s file workers) c x ≡ false)
       → cellAt (behind s file workers ms .cells) x ≡ cellAt (finishedAlone s file workers ms .cells) x
   -- "A running call, and the cells it may write, stand where the serial run has them after as many of its steps, counted likewise."
-  pub running-calls : (c k : ℕ) → c < length (fileSets file) → tallyAfter file workers ms .phase c ≡ running k
+  pub running-calls : (c k : ℕ) → c < callCount file → tallyAfter file workers ms .phase c ≡ running k
       → (stepsSince file workers ms c ≡ k) × Stands s file workers ms c k
   -- "While a call is unfinished, some begin or step would be accepted"
-  pub progress : (c : ℕ) → c < length (fileSets file) → isFinished (tallyAfter file workers ms .phase c) ≡ false
+  pub progress : (c : ℕ) → c < callCount file → isFinished (tallyAfter file workers ms .phase c) ≡ false
       → Forwards s file workers ms
   -- ".. and no call takes over 66 steps from its last begin."
-  pub bound : (c : ℕ) → c < length (fileSets file) → stepsSince file workers ms c ≤ 66
+  pub bound : (c : ℕ) → c < callCount file → stepsSince file workers ms c ≤ 66
   -- "27 sheet wanted with a call unfinished"
-  pub unfinished : (c : ℕ) → c < length (fileSets file) → isFinished (tallyAfter file workers ms .phase c) ≡ false
+  pub unfinished : (c : ℕ) → c < callCount file → isFinished (tallyAfter file workers ms .phase c) ≡ false
       → (output : List ℕ) → sheetOf (behind s file workers ms) output ≡ unwritten output CallUnfinished
   -- "When all are finished, cells, receipts and the closing sheet that document 01 describes equal the serial ones byte for byte."
-  pub close : ((c : ℕ) → c < length (fileSets file) → tallyAfter file workers ms .phase c ≡ finished) → Closes s file workers ms
+  pub close : ((c : ℕ) → c < callCount file → tallyAfter file workers ms .phase c ≡ finished) → Closes s file workers ms
 
 -- "Suppose a block is accepted and opened for 1 to 8 workers, and each move and the closing sheet are lent that block and that run": for
--- every file, number of workers and set of lent buffers. The numbers of a file are bytes.
+-- every file, number of workers and set of lent buffers.
 abbrev pub Demand3Holds : Type 0
 Demand3Holds =
-    (s : Sizes) (file : List ℕ) (workers : ℕ) → ((i : ℕ) → getD file i 0 < 256) → openingOf s file workers .answer ≡ verdict.Accepted
+    (s : Sizes) (file : List ℕ) (workers : ℕ) → AreBytes file → openingOf s file workers .answer ≡ verdict.Accepted
     → (ms : List Move) → Demand3 s file workers ms

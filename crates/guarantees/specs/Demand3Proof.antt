@@ -5,7 +5,6 @@ use mathlib.Core.List.{List}
 use Prim.Native.Nat.{ℕ, _≤_, _<_}
 use native.Mathlib.Omega.{arith}
 use lib.IntN.{ℤ}
-use lib.ListN.{length}
 use Rattle.schedule.specs.declared.Move.{Move}
 use Rattle.schedule.specs.Tally.{Phase, running, finished, Tally, isFinished, begun}
 use Rattle.schedule.specs.Calls as calls
@@ -20,27 +19,26 @@ use Rattle.machine.specs.Run.{Run, Sizes, seatOf, stateOf}
 use Rattle.machine.specs.Step.{cellAt}
 use Rattle.machine.specs.Moves.{moveOf}
 use Rattle.machine.specs.Serial.{serialRunOf}
-use Rattle.guarantees.specs.BlockTally.{fileSets, stepsIn, tallyAfter}
+use Rattle.guarantees.specs.BlockTally.{stepsIn, tallyAfter, isBefore}
 use Rattle.guarantees.specs.Agreement.{stateNumber, seatNumber, behind, stepsSince, mayWrite, serially, finishedAlone, seriallyAfter, SameSheet}
-use Rattle.guarantees.specs.Demand2.{Demand2}
-use Rattle.guarantees.specs.Demand2Proof.{demand-2}
 use Rattle.guarantees.specs.Demand3.{SameReceipt, Stands, Forwards, Closes, Demand3, Demand3Holds}
 use Rattle.guarantees.specs.RunMatches as matching
 use Rattle.guarantees.specs.AfterOpening.{AfterOpening, after-opening}
-use Rattle.guarantees.specs.OpenedRuns.{openedRun, callCount, conflicting, openedCalls, OpenedMatches}
+use Rattle.guarantees.specs.OpenedRuns.{openedRun, openedCalls, OpenedMatches}
 use Rattle.guarantees.specs.MoveMatches.{move-matches}
 use Rattle.guarantees.specs.ChosenRun.{ran, ran-is, underway, underway-is}
 use Rattle.guarantees.specs.Serially.{opened-laws, opened-good, serially-matches, alone-matches, stepped-matches}
-use Rattle.guarantees.specs.WriteSets.{calls-are, may-write}
+use Rattle.guarantees.specs.WriteSets.{may-write}
 use Rattle.guarantees.specs.BySizes.{steps-by-sizes}
 use Rattle.guarantees.specs.MoveLists.{whole-move}
 use Rattle.guarantees.specs.SheetLaws.{same-sheet}
 use Rattle.guarantees.specs.SheetWritten.{unfinished-refused, serial-written}
 use Rattle.guarantees.specs.StandLaws.{accepted-number, state-of-phase, same-receipt, same-cells, seat-holds, local-is}
 use Rattle.guarantees.specs.BehindMoves.{StepsBySizes, theTally, theMachine, confluent, agreed, finished-closed, behind-matches, no-twenty, steps-in, tally-is, answers-are, since-is}
+use Rattle.analysis.specs.Laid.{callCount}
 
 module _ (s : Sizes) (file : List ℕ) (workers : ℕ) (bytes : Bytes file) (after : AfterOpening s file workers)
-    (sized : StepsBySizes s file workers) (rule : Demand2 s file workers) (ms : List Move) where
+    (sized : StepsBySizes s file workers) (ms : List Move) where
   abbrev n : ℕ
   n = callCount file
 
@@ -88,13 +86,7 @@ module _ (s : Sizes) (file : List ℕ) (workers : ℕ) (bytes : Bytes file) (aft
   stands-serially : OpenedMatches s file workers serialMachine (serially s file workers)
   stands-serially = serially-matches s file workers bytes after
 
-  -- A call of the file is one of the run, and its phase is that of the tally.
-  known : (c : ℕ) → c < length (fileSets file) → c < n
-  known c l = let z : length (fileSets file) ≡ n = calls-are s file workers after in omega arith
-
-  listed : (c : ℕ) → c < n → c < length (fileSets file)
-  listed c l = let z : length (fileSets file) ≡ n = calls-are s file workers after in omega arith
-
+  -- The phases of calls are those of the tally.
   tallied : tallyAfter file workers ms ≡ T
   tallied = tally-is s file workers bytes after sized ms
 
@@ -111,7 +103,7 @@ module _ (s : Sizes) (file : List ℕ) (workers : ℕ) (bytes : Bytes file) (aft
 
   seats : (w : ℕ) → w < workers → seatOf (r .head) w .call ≡ seatNumber (tallyAfter file workers ms .seat w)
   seats w l =
-      seat-holds file workers n (conflicting file) r₀ M r stands w l
+      seat-holds file workers n (isBefore file) r₀ M r stands w l
       ∙ ap seatNumber (conf .same-seats w)
       ∙ sym (ap (λ (t : Tally). seatNumber (t .seat w)) tallied)
 
@@ -146,7 +138,7 @@ module _ (s : Sizes) (file : List ℕ) (workers : ℕ) (bytes : Bytes file) (aft
       closed n (omega arith) .cells
 
   quiet : (x : ℕ) → x < r₀ .head .cells
-      → ((c k : ℕ) → c < length (fileSets file) → tallyAfter file workers ms .phase c ≡ running k → mayWrite file r₀ c x ≡ false)
+      → ((c k : ℕ) → c < callCount file → tallyAfter file workers ms .phase c ≡ running k → mayWrite file r₀ c x ≡ false)
       → cellAt (r .cells) x ≡ cellAt (finishedAlone s file workers ms .cells) x
   quiet x h none =
       ap (λ (cells : List ℤ). cellAt cells x) (stands .cells)
@@ -156,7 +148,7 @@ module _ (s : Sizes) (file : List ℕ) (workers : ℕ) (bytes : Bytes file) (aft
       unwritten : (c k : ℕ) → T .phase c ≡ running k → Y .wr c x ≡ false
       unwritten c k e =
           let l : c < n = valid .known c (ap begun e) in
-          sym (may-write s file workers after c l x h) ∙ none c k (listed c l) (phase-is c ∙ e)
+          sym (may-write s file workers after c l x h) ∙ none c k l (phase-is c ∙ e)
 
   -- ---- running calls
 
@@ -174,10 +166,10 @@ module _ (s : Sizes) (file : List ℕ) (workers : ℕ) (bytes : Bytes file) (aft
           there = valid .there (w .0) c (w .1);
           held = ap (λ (t : Tally). t .seat (w .0)) tallied ∙ w .1;
           call =
-              local-is file workers n (conflicting file) r₀ M r stands (w .0) c (m .local) (Y .save c (calls.serial Y s₀ c))
+              local-is file workers n (isBefore file) r₀ M r stands (w .0) c (m .local) (Y .save c (calls.serial Y s₀ c))
               (conf .same-seats (w .0) ∙ w .1) (m .call)
               ∙ sym
-              (local-is file workers n (conflicting file) r₀ (underway Y s₀ (λ i. true) c k) (seriallyAfter s file workers c k) there 0 c (m .local)
+              (local-is file workers n (isBefore file) r₀ (underway Y s₀ (λ i. true) c k) (seriallyAfter s file workers c k) there 0 c (m .local)
               (Y .save c (calls.serial Y s₀ c)) (u .held (m .short))
               (u .call ∙ ap (activity (Y .save c (calls.serial Y s₀ c))) (m .serially)));
           cells = λ x h q.
@@ -227,30 +219,29 @@ module _ (s : Sizes) (file : List ℕ) (workers : ℕ) (bytes : Bytes file) (aft
     closes =
         record {
           cells = close-cells;
-          receipts = λ c l. receipts c (known c l) (all c (known c l));
+          receipts = λ c l. receipts c l (all c l);
           sheet = close-sheet;
-          written = λ output. close-sheet output ∙ serial-written s file workers bytes after rule output;
+          written = λ output. close-sheet output ∙ serial-written s file workers bytes after output;
         }
 
   demand : Demand3 s file workers ms
   demand =
       record {
         answers = answers-are s file workers bytes after sized ms;
-        states = λ c l. states c (known c l);
+        states = λ c l. states c l;
         seats = seats;
         whole = no-twenty s file workers bytes after sized ms;
-        receipts = λ c l e. receipts c (known c l) (phased c finished e);
-        steps = λ c l e. finished-steps c (known c l) (phased c finished e);
+        receipts = λ c l e. receipts c l (phased c finished e);
+        steps = λ c l e. finished-steps c l (phased c finished e);
         quiet = quiet;
-        running-calls = λ c k l e. running-call c k (known c l) (phased c (running k) e);
-        progress = λ c l u. progress c (known c l) (sym (ap isFinished (phase-is c)) ∙ u);
+        running-calls = λ c k l e. running-call c k l (phased c (running k) e);
+        progress = λ c l u. progress c l (sym (ap isFinished (phase-is c)) ∙ u);
         bound = λ c l. omega (arith, since-is s file workers bytes after sized ms c, conf .bounded c);
-        unfinished = λ c l. unfinished-refused s file workers after M r stands (tallyAfter file workers ms .phase) states c (known c l);
-        close = λ all. closes (λ c l. phased c finished (all c (listed c l)));
+        unfinished = λ c l. unfinished-refused s file workers after M r stands (tallyAfter file workers ms .phase) states c l;
+        close = λ all. closes (λ c l. phased c finished (all c l));
       }
 
 -- After every list of moves from an accepted opening, in buffers of any sizes.
 pub demand-3 : Demand3Holds
 demand-3 s file workers bytes accepted ms =
-    demand s file workers bytes (after-opening s file workers bytes accepted) (steps-by-sizes s file workers bytes accepted)
-    (demand-2 s file workers bytes accepted) ms
+    demand s file workers bytes (after-opening s file workers bytes accepted) (steps-by-sizes s file workers bytes accepted) ms

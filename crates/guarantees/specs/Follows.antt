@@ -19,7 +19,8 @@ use Rattle.machine.specs.Answer.{answerNumber}
 use Rattle.machine.specs.declared.Answer.{Answer}
 use Rattle.machine.specs.declared.Seat.{Seat}
 use Rattle.guarantees.specs.ViewCalls.{broken, receipt, Proper, Tidy, runView}
-use Rattle.guarantees.specs.OpeningLaws.{Large, large-sizes}
+use Rattle.guarantees.specs.Demand1.{Large}
+use Rattle.guarantees.specs.OpeningLaws.{large-sizes}
 use Rattle.guarantees.specs.RunMatches.{CallState, Stands, Base, callsIn, Held, Matches}
 
 -- ---- numbers and flags

@@ -9,10 +9,9 @@ use native.Mathlib.Omega.{arith}
 use borrow.Author.Tests.{le-ltb, eqb-true, ne-eqb}
 use lib.Dec.{eqb, ltb, lit<}
 use lib.ListN.{length, getD, drop}
-use Rattle.arith.specs.ChoiceLaws.{both}
-use Rattle.wire.specs.Bytes.{number, readLe}
-use Rattle.wire.specs.Laws.{number-lt}
 use Rattle.block.specs.Key.{firstContract, addressOf, keyOf, addressIn, fieldIn, aIn, bIn, accountBalance, contractBalance, keyAllowed}
+use Rattle.block.specs.BodyLaws.{cell-keeps}
+use Rattle.block.specs.Encoding.{CellKeeps}
 use Rattle.block.specs.KeyLaws.{address-of, field-of, a-of, b-of}
 use Rattle.block.specs.Limits.{maxCallKeys, maxKeys}
 use Rattle.block.specs.Instruction.{instrBytes, decode}
@@ -53,9 +52,6 @@ Holds K t = (k : ℕ) → member k t ≡ true → K k
 
 -- ---- keys by their parts
 
-pub key-parts : (k : ℕ) → keyOf (addressIn k) (fieldIn k) (aIn k) (bIn k) ≡ k
-key-parts k = omega arith
-
 module _ (address field a b : ℕ) (hn : address < 2 ^ 16) (hf : field < 2 ^ 16) (ha : a < 2 ^ 32) (hb : b < 2 ^ 32) where
   pub key-fits : keyAllowed (addressOf address) field a b ≡ true → KeyFits (keyOf address field a b)
   key-fits e =
@@ -81,11 +77,7 @@ balance-fits address h = key-fits address 0 0 0 h (lit< tt) (lit< tt) (lit< tt) 
 -- ---- keys of the opening
 
 opening-key : (s : List ℕ) → Bytes s → cellAllowed s ≡ true → KeyFits (cellOf s .key)
-unfolding cellAllowed
-opening-key s bytes e =
-    key-fits (number 2 s) (readLe 2 s 2) (readLe 4 s 4) (readLe 4 s 8) (number-lt 2 s bytes) (number-lt 2 (drop 2 s) (drop-bytes 2 s bytes))
-    (number-lt 4 (drop 4 s) (drop-bytes 4 s bytes)) (number-lt 4 (drop 8 s) (drop-bytes 8 s bytes))
-    (both (keyAllowed (addressOf (number 2 s)) (readLe 2 s 2) (readLe 4 s 4) (readLe 4 s 8)) _ e .0)
+opening-key s bytes e = let keeps : CellKeeps (cellOf s) = cell-keeps s bytes e in record { small = keeps .key; allowed = keeps .allowed }
 
 -- What holds of the first key and of the others holds of all.
 pub holds-cons : (K : ℕ → Type 0) (l : ℕ) (ls : List ℕ) → K l → Holds K ls → Holds K (l ∷ ls)

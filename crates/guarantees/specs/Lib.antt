@@ -14,6 +14,7 @@ pub mod AfterOpening
 pub mod KeyFits
 pub mod CellRecords
 pub mod NextCells
+pub mod NextFile
 pub mod NextDay
 pub mod RuleSteps
 pub mod SerialRule
@@ -36,6 +37,15 @@ pub mod Serially
 pub mod ViewKeys
 pub mod SerialAlike
 pub mod BySizes
+pub mod Demand1
+pub mod ExactTests
+pub mod BeginNumbers
+pub mod HeldNumbers
+pub mod SheetNumbers
+pub mod OpeningExact
+pub mod ReaderNumbers
+pub mod OpeningNumbers
+pub mod Demand1Proof
 pub mod Demand2
 pub mod RegisterLaws
 pub mod Demand2Proof
@@ -51,6 +61,7 @@ pub mod Demand3Proof
 pub mod RegisterByTally
 pub mod RegisterByTallyProof
 pub mod ClosedOpens
+pub mod ClosedOpensProof
 pub mod Blocks
 pub mod Joint
 pub mod Unstarred

@@ -17,10 +17,12 @@ use Rattle.machine.specs.Run.{Run, Sizes}
 use Rattle.machine.specs.Moves.{moveOf, runAfter, answersOf}
 use Rattle.guarantees.specs.ViewCalls.{Place}
 use Rattle.guarantees.specs.AfterOpening.{AfterOpening}
-use Rattle.guarantees.specs.OpenedRuns.{openedRun, callCount, conflicting, openedCalls, OpenedMatches, OpenedWhole}
+use Rattle.guarantees.specs.OpenedRuns.{openedRun, openedCalls, OpenedMatches, OpenedWhole}
 use Rattle.guarantees.specs.MoveMatches.{not-twenty, move-matches}
 use Rattle.guarantees.specs.SerialRun.{Sound}
 use Rattle.guarantees.specs.Serially.{sound-whole, opened-laws, opened-good, opened-whole}
+use Rattle.analysis.specs.Laid.{callCount}
+use Rattle.guarantees.specs.BlockTally.{isBefore}
 
 -- No answer is 20.
 pub none-twenty : (Y : Calls) (workers : ℕ) (M : Machine Y) (ms : List Move) (i : ℕ) → getD (responses Y workers M ms) i 0 ≡ 20 → ⊥
@@ -45,7 +47,7 @@ module _ (s : Sizes) (file : List ℕ) (workers : ℕ) (bytes : Bytes file) (aft
 
   -- A running call's next step goes as in the serial run, which no step finds damaged.
   sound-move : (t : Tally) (M : Machine Y) → Agreed t M → (m : Move)
-      → Sound file (callCount file) (conflicting file) (openedRun s file workers) M m
+      → Sound file (callCount file) (isBefore file) (openedRun s file workers) M m
   sound-move t M a (Begin w c) = tt
   sound-move t M a (Step w) = λ c l kept seat call e.
       let run = a .valid .runs w c (sym (a .seats w) ∙ seat) in

@@ -15,11 +15,13 @@ use Rattle.machine.specs.Answer.{answerNumber}
 use Rattle.machine.specs.declared.Answer.the-variants.{Damaged}
 use Rattle.guarantees.specs.RunMatches.{Base, callsIn, Whole, Matches}
 use Rattle.guarantees.specs.AfterOpening.{AfterOpening}
-use Rattle.guarantees.specs.OpenedRuns.{openedRun, callCount, conflicting, openedCalls, OpenedMatches, OpenedWhole, base}
+use Rattle.guarantees.specs.OpenedRuns.{openedRun, openedCalls, OpenedMatches, OpenedWhole, base}
 use Rattle.guarantees.specs.Follows.{Follows}
 use Rattle.guarantees.specs.BeginMatches.{begin-follows}
 use Rattle.guarantees.specs.StepMatches.{step-follows}
 use Rattle.guarantees.specs.CancelMatches.{cancel-follows}
+use Rattle.analysis.specs.Laid.{callCount}
+use Rattle.guarantees.specs.BlockTally.{isBefore}
 
 -- One move of a run that stands for a state of the machine.
 move-follows : (file : List ℕ) (workers n : ℕ) (before : ℕ → ℕ → Bool) (r₀ : Run) → Base file workers n before r₀
@@ -56,12 +58,12 @@ module _ (s : Sizes) (file : List ℕ) (workers : ℕ) (after : AfterOpening s f
       × OpenedMatches s file workers (make (openedCalls s file workers) workers M m) (moveOf file r m .run)
   unfolding make
   move-matches =
-      let f = move-follows file workers (callCount file) (conflicting file) (openedRun s file workers) (base s file workers after) M r m h whole in
+      let f = move-follows file workers (callCount file) (isBefore file) (openedRun s file workers) (base s file workers after) M r m h whole in
       (f .same, f .run)
 
   -- 20: "none after an opening and moves alone".
   pub never-damaged : moveOf file r m .answer ≡ Damaged → ⊥
   unfolding respond answerNumber
   never-damaged e =
-      not-twenty workers (callCount file) (conflicting file) (λ i. isReady (M .call i)) (λ i. isEnded (M .call i)) (M .seat) m
+      not-twenty workers (callCount file) (isBefore file) (λ i. isReady (M .call i)) (λ i. isEnded (M .call i)) (M .seat) m
       (sym (move-matches .0) ∙ ap answerNumber e)

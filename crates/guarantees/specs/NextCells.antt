@@ -1,22 +1,24 @@
--- The non-zero cells of a state over a table of keys: they open a block, and what they open is the state. Assumes nothing.
+-- The non-zero cells of a state over a table of keys: they keep the rules of opening cells, and what they open is the state. Assumes nothing.
 use mathlib.Core.Path.{_≡_, refl, sym, ap, subst, subst⁻¹, _∙_}
 use mathlib.Core.Bool.{Bool, true, false, _||_}
 use mathlib.Core.List.{List, [], _∷_, map}
 use Prim.Native.Nat.{ℕ, zero, suc, _+_, _-_, _^_, _≤_, _<_}
 use native.Mathlib.Nat.{le-refl}
 use native.Mathlib.Omega.{arith}
-use borrow.Author.Tests.{eqb-true, eq-eqb}
+use borrow.Author.Tests.{eqb-true, eqb-false, eq-eqb, lt-ltb}
 use lib.Dec.{eqb}
-use lib.IntN.{ℤ, pos}
+use lib.IntN.{ℤ, pos, negsuc}
 use lib.ListN.{length, getD, drop}
-use lib.Signed.{mag, nonNeg}
-use Rattle.arith.specs.Balance.{total, noneBelowZero, withinLimit}
+use lib.Signed.{mag, leZ, ltZ, nonNeg}
+use Rattle.arith.specs.Balance.{total, largest, noneBelowZero, withinLimit}
 use Rattle.arith.specs.BalanceLaws.{limit-within, within-limit}
 use Rattle.arith.specs.Choice.{if_then_else_}
 use Rattle.arith.specs.ChoiceLaws.{both}
 use Rattle.arith.specs.Compare.{eqZ}
-use Rattle.arith.specs.Laws.{P, eqZ-true}
+use Rattle.arith.specs.Laws.{P, clash, eqZ-true, eqZ-false}
 use Rattle.block.specs.Key.{addressOf, addressIn, fieldIn, aIn, bIn, isBalance, keyAllowed}
+use Rattle.block.specs.Encoding.{All, Ascending, CellKeeps, CellsKeep}
+use Rattle.block.specs.KeyLaws.{key-parts}
 use Rattle.block.specs.Limits.{maxCells}
 use Rattle.block.specs.Record.{Cell}
 use Rattle.block.specs.Reader.{balances}
@@ -27,8 +29,7 @@ use Rattle.footprint.specs.LimitLaws.{balanceKey, balances-at, limit-balance}
 use Rattle.footprint.specs.Plan.{openingValue}
 use Rattle.footprint.specs.Rule.{State, balancesIn, stateWithinLimit}
 use Rattle.analysis.specs.KeyTable.{Above, Rising}
-use Rattle.guarantees.specs.CellRecords.{AllFit, Opens}
-use Rattle.guarantees.specs.KeyFits.{KeyFits, key-parts, Holds, holds-none, holds-cons}
+use Rattle.guarantees.specs.KeyFits.{KeyFits, Holds, holds-none, holds-cons}
 use Rattle.guarantees.specs.OpeningLimit.{total-first}
 
 -- "all non-zero cells by key": those of a state, of the keys of a rising table.
@@ -123,23 +124,43 @@ pub record Kept (σ : State) (k : ℕ) : Type 0 where
   pub value : mag (σ k) < 2 ^ 63
   pub above : isBalance k ≡ true → nonNeg (σ k) ≡ true
 
-cells-fit : (σ : State) (table : List ℕ) → Holds (Kept σ) table → AllFit (cellsOf σ table)
-unfolding cellsOf
-cells-fit σ [] all = tt
-cells-fit σ (k ∷ ks) all =
-    let own : Kept σ k = holds-first (Kept σ) k ks all in
-    let rest : AllFit (cellsOf σ ks) = cells-fit σ ks (holds-later (Kept σ) k ks all) in
-    cells-cases AllFit σ k ks rest (λ e. (record { key = own .key; value = own .value; some = e; above = own .above }, rest))
+value-above : (z : ℤ) → nonNeg z ≡ true → eqZ z (pos 0) ≡ false → ltZ (pos 0) z ≡ true
+value-above (pos n) e f = let some : n ≡ 0 → ⊥ = eqb-false n 0 f in lt-ltb 0 n (omega arith)
+value-above (negsuc n) e f = clash e
 
--- The cells of a state open a block.
+kept-cell : (σ : State) (k : ℕ) → Kept σ k → eqZ (σ k) (pos 0) ≡ false → CellKeeps (record { key = k; value = σ k })
+kept-cell σ k own e =
+    record {
+      key = own .key .small;
+      allowed = own .key .allowed;
+      value = own .value;
+      some = eqZ-false (σ k) (pos 0) e;
+      above = λ balance. value-above (σ k) (own .above balance) e;
+    }
+
+cells-each : (σ : State) (table : List ℕ) → Holds (Kept σ) table → All CellKeeps (cellsOf σ table)
+unfolding cellsOf All
+cells-each σ [] all = tt
+cells-each σ (k ∷ ks) all =
+    let own : Kept σ k = holds-first (Kept σ) k ks all in
+    let rest : All CellKeeps (cellsOf σ ks) = cells-each σ ks (holds-later (Kept σ) k ks all) in
+    cells-cases (All CellKeeps) σ k ks rest (λ e. (kept-cell σ k own e, rest))
+
+rising-ascends : (ks : List ℕ) → Rising ks → Ascending ks
+unfolding Ascending
+rising-ascends [] r = tt
+rising-ascends (k ∷ []) r = tt
+rising-ascends (k ∷ l ∷ ks) r = (r .0 .0, rising-ascends (l ∷ ks) (r .1))
+
+-- The cells of a state keep the rules of opening cells.
 pub cells-open : (σ : State) (table : List ℕ) → Rising table → length table ≤ maxCells → Holds (Kept σ) table
-    → withinLimit (balances (cellsOf σ table)) ≡ true → Opens (cellsOf σ table)
+    → withinLimit (balances (cellsOf σ table)) ≡ true → CellsKeep (cellsOf σ table)
 cells-open σ table rising few kept limit =
     record {
-      fit = cells-fit σ table kept;
-      rising = cells-rising σ table rising;
+      each = cells-each σ table kept;
+      rising = rising-ascends (map (λ c. c .key) (cellsOf σ table)) (cells-rising σ table rising);
       few = let less : length (cellsOf σ table) ≤ length table = cells-few σ table in omega arith;
-      limit = limit;
+      sum = both (noneBelowZero (balances (cellsOf σ table))) (leZ (total (balances (cellsOf σ table))) largest) limit .1;
     }
 
 -- ---- the limit of a state is that of its cells

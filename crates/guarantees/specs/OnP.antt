@@ -23,7 +23,8 @@ use Rattle.block.specs.Worked.{P}
 use Rattle.console.specs.Examples.{movesP, printedP}
 use Rattle.machine.specs.Opening.{opened}
 use Rattle.footprint.specs.Rule.{Left, transactions, update, assignChecked, transfer, execute, executeAt, runBody, withInstr, bodyOf, settle, runFunction, transactionBy}
-use Rattle.guarantees.specs.BlockTally.{setsIn, tallyAnswers, stepsIn}
+use Rattle.analysis.specs.Laid.{blockIn}
+use Rattle.guarantees.specs.BlockTally.{tallyAnswers, stepsIn}
 use Rattle.guarantees.specs.RegisterByTally.{linesFrom, linesOf, movesOf, linesText, finishedBelow, registerByTally}
 
 -- The text of the sheet of a run whose calls are all finished.
@@ -74,7 +75,7 @@ pub record OnP : Type 0 where
   pub alone : take 4 (serialRunOf (λ c. ltb c 2) P (opened P) .cells) ≡ pos 1 ∷ pos 0 ∷ pos 1 ∷ pos 1 ∷ []
 
 pub onP : OnP
-unfolding console.computing tally.put tally.blocked tally.refusal tally.answer tally.next tally.place tally.step tally.cancel tally.accept tally.move tally.afterFrom tally.answersFrom tally.after tally.answers text joined P movesP printedP schedule scheduleAnswers ruleOn receipts valuesAfter setsIn transactions update assignChecked transfer execute executeAt runBody withInstr bodyOf settle runFunction transactionBy linesFrom movesOf linesText finishedBelow registerByTally
+unfolding console.computing tally.put tally.blocked tally.refusal tally.answer tally.next tally.place tally.step tally.cancel tally.accept tally.move tally.afterFrom tally.answersFrom tally.after tally.answers text joined P movesP printedP schedule scheduleAnswers ruleOn receipts valuesAfter blockIn transactions update assignChecked transfer execute executeAt runBody withInstr bodyOf settle runFunction transactionBy linesFrom movesOf linesText finishedBelow registerByTally
 onP =
     record {
       serial = refl;

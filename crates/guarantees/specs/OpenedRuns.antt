@@ -2,7 +2,7 @@
 -- are apart, and the run is one that moves start from. Assumes nothing.
 use mathlib.Core.Path.{_≡_, refl, sym, ap, ap₂, subst⁻¹, _∙_}
 use mathlib.Core.Bool.{Bool, false, _&&_}
-use mathlib.Core.List.{List, []}
+use mathlib.Core.List.{List}
 use mathlib.Core.Option.{Option, none, some}
 use Prim.Native.Nat.{ℕ, _+_, _*_, _≤_, _<_}
 use native.Mathlib.Omega.{arith}
@@ -22,7 +22,7 @@ use Rattle.schedule.specs.Machine.{Machine, opening}
 use Rattle.footprint.specs.Conflict.{conflict}
 use Rattle.footprint.specs.Sets.{functionOf, setsOf}
 use Rattle.footprint.specs.Plan.{entryWord, codeWords}
-use Rattle.analysis.specs.Laid.{blockOf, allSets}
+use Rattle.analysis.specs.Laid.{blockOf, callCount}
 use Rattle.analysis.specs.MaskLaws.{waits, waits-conflict}
 use Rattle.machine.specs.Run.{Run, Sizes, largeEnough, seatOf, idleSeat, stateOf}
 use Rattle.machine.specs.Moves.{ownEntries, viewOf}
@@ -34,26 +34,21 @@ use Rattle.guarantees.specs.OpenedCalls.{CallOpened}
 use Rattle.guarantees.specs.AfterOpening.{AfterOpening}
 use Rattle.guarantees.specs.EntryLaws.{entries-proper, left-apart, right-apart}
 use Rattle.guarantees.specs.RunMatches.{Base, callsIn, Whole, Matches}
+use Rattle.guarantees.specs.BlockTally.{isBefore}
 
--- The opened run, the number of its calls, and which calls conflict.
+-- The opened run, and its calls.
 abbrev pub openedRun : Sizes → List ℕ → ℕ → Run
 openedRun s file workers = openingOf s file workers .run
 
-abbrev pub callCount : List ℕ → ℕ
-callCount file = length (blockOf file .calls)
-
-abbrev pub conflicting : List ℕ → ℕ → ℕ → Bool
-conflicting file i j = conflict (getD (allSets file (blockOf file)) i []) (getD (allSets file (blockOf file)) j [])
-
 abbrev pub openedCalls : Sizes → List ℕ → ℕ → Calls
-openedCalls s file workers = callsIn file (callCount file) (conflicting file) (openedRun s file workers)
+openedCalls s file workers = callsIn file (callCount file) (isBefore file) (openedRun s file workers)
 
 -- After an opening and moves: the run r stands for the machine's state M; and the next move's step does not find it damaged.
 abbrev pub OpenedMatches : (s : Sizes) (file : List ℕ) (workers : ℕ) → Machine (openedCalls s file workers) → Run → Type 0
-OpenedMatches s file workers M r = Matches file workers (callCount file) (conflicting file) (openedRun s file workers) M r
+OpenedMatches s file workers M r = Matches file workers (callCount file) (isBefore file) (openedRun s file workers) M r
 
 abbrev pub OpenedWhole : (s : Sizes) (file : List ℕ) (workers : ℕ) → Machine (openedCalls s file workers) → Move → Type 0
-OpenedWhole s file workers M m = Whole file (callCount file) (conflicting file) (openedRun s file workers) M m
+OpenedWhole s file workers M m = Whole file (callCount file) (isBefore file) (openedRun s file workers) M m
 
 -- ---- one call
 
@@ -103,7 +98,7 @@ module _ (s : Sizes) (file : List ℕ) (workers : ℕ) (after : AfterOpening s f
   tidy j l = let o = after .opened .calls j l in tidy-is j (o .0) (o .1)
 
   -- "Call i is before j" where their sets conflict; calls that do not conflict share no cell that one of them writes.
-  pub apart : (i j : ℕ) → i < j → j < callCount file → conflicting file i j ≡ false → Apart (openedCalls s file workers) i j
+  pub apart : (i j : ℕ) → i < j → j < callCount file → isBefore file i j ≡ false → Apart (openedCalls s file workers) i j
   apart i j less l free =
       let below : i < callCount file = omega arith in
       let o = after .opened .calls i below in
@@ -118,7 +113,7 @@ module _ (s : Sizes) (file : List ℕ) (workers : ℕ) (after : AfterOpening s f
       }
 
   -- The opened run is one that moves start from.
-  pub base : Base file workers (callCount file) (conflicting file) r₀
+  pub base : Base file workers (callCount file) (isBefore file) r₀
   base =
       record {
         large = ap largeEnough (after .opened .sizes) ∙ after .opened .large;
@@ -130,7 +125,7 @@ module _ (s : Sizes) (file : List ℕ) (workers : ℕ) (after : AfterOpening s f
         inside = λ c l.
             let o = after .opened .calls c l in
             subst⁻¹ (λ (at : ℕ). at + 34 * c + 34 ≤ length file) first (o .1 .within);
-        row = λ i c less l. after .opened .waits i c l ∙ ap (λ (t : Bool). t && conflicting file i c) (lt-ltb i c less);
+        row = λ i c less l. after .opened .waits i c l ∙ ap (λ (t : Bool). t && isBefore file i c) (lt-ltb i c less);
       }
 
   -- "At the opening every call waits and no worker holds one."

@@ -1,29 +1,31 @@
 -- What an accepted opening went through: its tests passed, the file is a block, the analysis refused nothing, and the run is the one made
--- of them. Assumes nothing.
-use mathlib.Core.Path.{_≡_, refl, ap}
+-- of them. The other way, what passes them is accepted; and what a refused opening leaves. Assumes nothing.
+use mathlib.Core.Path.{_≡_, refl, sym, ap}
 use mathlib.Core.Bool.{Bool, true, false, _||_, not, false≢true}
 use mathlib.Core.List.{List, [], map}
-use Prim.Native.Nat.{ℕ, _*_, _≤_, _<_}
+use Prim.Native.Nat.{ℕ, _≤_, _<_}
 use native.Mathlib.Omega.{arith}
-use borrow.Author.Tests.{ltb-false, leb-true, eqb-false, not-false}
+use borrow.Author.Tests.{ltb-false, le-ltb, leb-true, le-leb, eqb-false, ne-eqb, not-false}
 use lib.Dec.{eqb, leb, ltb}
 use lib.IntN.{pos}
 use lib.ListN.{length}
 use Rattle.arith.specs.ChoiceLaws.{both, if-all, neither}
 use Rattle.wire.specs.Bytes.{repeated, padded}
-use Rattle.block.specs.Limits.{maxCalls, maxKeys, maxCallKeys, maxWorkers}
+use Rattle.block.specs.Limits.{maxWorkers}
 use Rattle.block.specs.Record.{Block}
 use Rattle.block.specs.Reader.{Read, accepted, refused, readBlock}
 use Rattle.block.specs.declared.Refusal.{Refusal}
+use Rattle.block.specs.declared.Refusal.the-variants.{Workers, Buffers}
 use Rattle.block.specs.declared.Verdict.{Verdict}
 use Rattle.block.specs.declared.Verdict.the-variants as verdict
 use Rattle.footprint.specs.Access.{Access}
 use Rattle.footprint.specs.Table as table
 use Rattle.footprint.specs.Table.{Analysis}
-use Rattle.footprint.specs.Plan.{Room, Prepared, unprepared, roomEnough, prepareAnalysed, prepareRead, preparedOf, planWords, plans, keyWords, openingValue}
+use Rattle.footprint.specs.Plan.{Room, Prepared, unprepared, roomEnough, prepareAnalysed, prepareRead, plans, keyWords, openingValue}
 use Rattle.analysis.specs.Laid.{analysisOf}
-use Rattle.machine.specs.Run.{Run, Sizes, fixedSizes, largeEnough, statusWords}
+use Rattle.machine.specs.Run.{Run, Sizes, fixedSizes, roomIn, largeEnough}
 use Rattle.machine.specs.Opening.{Opened, headOf, refusedRun, openPrepared, openingOf}
+use Rattle.guarantees.specs.Demand1.{Large, Cleared}
 
 -- ---- the tests
 
@@ -36,15 +38,8 @@ unfolding accepts
 never e = absurd (false≢true (ap accepts e))
 
 -- What the test of the buffers' sizes says.
-pub record Large (s : Sizes) : Type 0 where
-  pub plan : maxCalls * planWords ≤ s .plan
-  pub keys : maxKeys * 2 ≤ s .keys
-  pub cells : maxKeys ≤ s .cells
-  pub status : maxCalls * statusWords ≤ s .status
-  pub olds : maxWorkers * maxCallKeys ≤ s .olds
-
 pub large-sizes : (s : Sizes) → largeEnough s ≡ true → Large s
-unfolding largeEnough
+unfolding largeEnough roomEnough
 large-sizes s e =
     let a = both _ (leb (fixedSizes .olds) (s .olds)) e in
     let b = both _ (leb (fixedSizes .status) (s .status)) (a .0) in
@@ -57,6 +52,17 @@ large-sizes s e =
       status = leb-true (fixedSizes .status) (s .status) (b .1);
       olds = leb-true (fixedSizes .olds) (s .olds) (a .1);
     }
+
+pub sizes-large : (s : Sizes) → Large s → largeEnough s ≡ true
+unfolding largeEnough roomEnough
+sizes-large s l =
+    rw (
+      le-leb (fixedSizes .plan) (s .plan) (l .plan),
+      le-leb (fixedSizes .keys) (s .keys) (l .keys),
+      le-leb (fixedSizes .cells) (s .cells) (l .cells),
+      le-leb (fixedSizes .status) (s .status) (l .status),
+      le-leb (fixedSizes .olds) (s .olds) (l .olds),
+    )
 
 -- ---- what was prepared
 
@@ -93,13 +99,6 @@ unfolding prepareRead unprepared
 ready-read r file (refused why) e h = never h
 ready-read r file (accepted b) e h = ready-analysed r file b e (analysisOf file b) refl h
 
-ready : (r : Room) (file : List ℕ) → preparedOf r file .verdict ≡ verdict.Accepted → Ready r file (preparedOf r file)
-unfolding preparedOf unprepared
-ready r file =
-    if-all (λ (p : Prepared). p .verdict ≡ verdict.Accepted → Ready r file p) (roomEnough r)
-    (λ e. ready-read r file (readBlock file) refl)
-    (λ e h. never h)
-
 -- ---- what was made of it
 
 -- The run of a block as the opening makes it.
@@ -125,16 +124,13 @@ pub record Made (s : Sizes) (file : List ℕ) (workers : ℕ) (o : Opened) : Typ
   pub analysis : analysisOf file block ≡ table.analysed sets keys
   pub is : o .run ≡ runWith s workers block sets keys
 
-abbrev roomOf : Sizes → Room
-roomOf s = record { plan = s .plan; keys = s .keys; cells = s .cells }
-
-made-prepared : (s : Sizes) (file : List ℕ) (workers : ℕ) (p : Prepared) → (p .verdict ≡ verdict.Accepted → Ready (roomOf s) file p)
+made-prepared : (s : Sizes) (file : List ℕ) (workers : ℕ) (p : Prepared) → (p .verdict ≡ verdict.Accepted → Ready (roomIn s) file p)
     → largeEnough s ≡ true → 0 < workers → workers ≤ maxWorkers → (v : Verdict) → p .verdict ≡ v
     → openPrepared s workers p v .answer ≡ verdict.Accepted → Made s file workers (openPrepared s workers p v)
 unfolding openPrepared refusedRun
 made-prepared s file workers p given large low high (verdict.Refused why) e h = never h
 made-prepared s file workers p given large low high verdict.Accepted e h =
-    let q : Ready (roomOf s) file p = given e in
+    let q : Ready (roomIn s) file p = given e in
     record {
       large = large;
       low = low;
@@ -150,9 +146,53 @@ made-prepared s file workers p given large low high verdict.Accepted e h =
 pub opening-made : (s : Sizes) (file : List ℕ) (workers : ℕ) → openingOf s file workers .answer ≡ verdict.Accepted → Made s file workers (openingOf s file workers)
 unfolding openingOf refusedRun
 opening-made s file workers =
-    let p : Prepared = preparedOf (roomOf s) file in
+    let p : Prepared = prepareRead (roomIn s) file (readBlock file) in
     if-all (λ (o : Opened). o .answer ≡ verdict.Accepted → Made s file workers o) (not (largeEnough s)) (λ e h. never h) λ large.
     if-all (λ (o : Opened). o .answer ≡ verdict.Accepted → Made s file workers o) (eqb workers 0 || ltb maxWorkers workers) (λ e h. never h) λ few.
     let n : (eqb workers 0 ≡ false) × (ltb maxWorkers workers ≡ false) = neither (eqb workers 0) (ltb maxWorkers workers) few in
     let some : workers ≡ 0 → ⊥ = eqb-false workers 0 (n .0) in
-    made-prepared s file workers p (ready (roomOf s) file) (not-false (largeEnough s) large) (omega arith) (ltb-false maxWorkers workers (n .1)) (p .verdict) refl
+    made-prepared s file workers p (ready-read (roomIn s) file (readBlock file) refl) (not-false (largeEnough s) large) (omega arith) (ltb-false maxWorkers workers (n .1)) (p .verdict) refl
+
+-- ---- the other way
+
+-- What passes every test is prepared and opened.
+prepared-accepted : (s : Sizes) (file : List ℕ) (b : Block) (sets : List (List Access)) (keys : List ℕ) → Large s
+    → readBlock file ≡ accepted b → analysisOf file b ≡ table.analysed sets keys
+    → prepareRead (roomIn s) file (readBlock file) .verdict ≡ verdict.Accepted
+unfolding prepareRead prepareAnalysed
+prepared-accepted s file b sets keys large read analysis = rw (read, analysis)
+
+pub opening-accepted : (s : Sizes) (file : List ℕ) (workers : ℕ) (b : Block) (sets : List (List Access)) (keys : List ℕ) → Large s
+    → 0 < workers → workers ≤ maxWorkers → readBlock file ≡ accepted b → analysisOf file b ≡ table.analysed sets keys
+    → openingOf s file workers .answer ≡ verdict.Accepted
+unfolding openingOf openPrepared
+opening-accepted s file workers b sets keys large low high read analysis =
+    rw (
+      sizes-large s large,
+      ne-eqb workers 0 (omega arith),
+      le-ltb maxWorkers workers high,
+      prepared-accepted s file b sets keys large read analysis,
+    )
+
+-- What a refusal leaves.
+record Zeroed (s : Sizes) (why : Refusal) (o : Opened) : Type 0 where
+  cleared : o .answer ≡ verdict.Refused why → Cleared s (o .run)
+
+zeroed-refused : (s : Sizes) (why because : Refusal) → Zeroed s why (refusedRun s because)
+unfolding refusedRun
+zeroed-refused s why because = record { cleared = λ e. record { head = refl; plan = refl; keys = refl; cells = refl; status = refl; olds = refl } }
+
+zeroed-prepared : (s : Sizes) (workers : ℕ) (why : Refusal) (p : Prepared) (v : Verdict) → Zeroed s why (openPrepared s workers p v)
+unfolding openPrepared
+zeroed-prepared s workers why p (verdict.Refused because) = zeroed-refused s why because
+zeroed-prepared s workers why p verdict.Accepted = record { cleared = λ e. never (sym e) }
+
+opening-zeroed : (s : Sizes) (file : List ℕ) (workers : ℕ) (why : Refusal) → Zeroed s why (openingOf s file workers)
+unfolding openingOf
+opening-zeroed s file workers why =
+    if-all (Zeroed s why) (not (largeEnough s)) (λ e. zeroed-refused s why Buffers) λ e.
+    if-all (Zeroed s why) (eqb workers 0 || ltb maxWorkers workers) (λ f. zeroed-refused s why Workers) λ f. zeroed-prepared s workers why _ _
+
+pub opening-cleared : (s : Sizes) (file : List ℕ) (workers : ℕ) (why : Refusal) → openingOf s file workers .answer ≡ verdict.Refused why
+    → Cleared s (openingOf s file workers .run)
+opening-cleared s file workers why = opening-zeroed s file workers why .cleared

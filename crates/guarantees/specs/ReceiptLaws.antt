@@ -30,7 +30,8 @@ use Rattle.footprint.specs.Access.{targetOf}
 use Rattle.footprint.specs.Rule.{State, Result, ends, fails, Course, before, over, assignChecked, transfer, execute, executeAt, runBody, Left, settle, runFunction, transactionBy}
 use Rattle.footprint.specs.SetsExact.{instructionsOf}
 use Rattle.machine.specs.Action.{notPaid}
-use Rattle.machine.specs.CodeLaws.{InstrOf, instr-of, function-end}
+use Rattle.machine.specs.CodeLaws.{instr-of, function-end}
+use Rattle.machine.specs.Made.{InstrOf}
 
 -- A receipt with one of the outcomes 0 to 5, and a count of at most 64.
 pub record Bounded (l : Left) : Type 0 where
@@ -39,7 +40,7 @@ pub record Bounded (l : Left) : Type 0 where
 
 -- The same of a body's end in a code of that length; and of a body that is before an instruction: its count is at most the instruction's index.
 abbrev EndBounded : ℕ → Result → Type 0
-EndBounded size (ends σ n) = n ≤ size
+EndBounded size (ends σ n behind) = n ≤ size
 EndBounded size (fails outcome n) = (outcome ≤ notPaid) × (n ≤ size)
 
 abbrev CourseBounded : ℕ → Course → Type 0
@@ -128,7 +129,7 @@ module _ (file : List ℕ) (c : Call) (g : Function) (sound : Sound file g) wher
 
   settle-bounded : (σ : State) (r : Result) → EndBounded (g .size) r → Bounded (settle σ r)
   unfolding settle
-  settle-bounded σ (ends τ n) h = let few : g .size ≤ 64 = sound .few in record { outcome = omega arith; count = omega arith }
+  settle-bounded σ (ends τ n behind) h = let few : g .size ≤ 64 = sound .few in record { outcome = omega arith; count = omega arith }
   settle-bounded σ (fails outcome n) h = let few : g .size ≤ 64 = sound .few in record { outcome = h .0; count = omega (arith, h .1) }
 
 -- A call of a function that is sound, if there is one.

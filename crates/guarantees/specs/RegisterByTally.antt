@@ -4,37 +4,33 @@ use mathlib.Core.Path.{_≡_}
 use mathlib.Core.Bool.{Bool, true, false, _&&_}
 use mathlib.Core.List.{List, [], _∷_, _++_}
 use mathlib.Core.Option.{Option, none, some}
-use Prim.Native.Nat.{ℕ, zero, suc, _<_}
+use Prim.Native.Nat.{ℕ, zero, suc}
 use lib.Dec.{eqb}
-use lib.ListN.{length, getD, take}
+use lib.ListN.{take}
 use Rattle.arith.specs.Choice.{if_then_else_}
 use Rattle.wire.specs.Decimal.{lineFeed}
 use Rattle.block.specs.Limits.{maxWorkers}
+use Rattle.block.specs.Encoding.{AreBytes}
 use Rattle.block.specs.declared.Verdict.the-variants as verdict
 use Rattle.text.specs.Lines.{refusedText}
 use Rattle.schedule.specs.Tally.{Tally, isFinished}
 use Rattle.schedule.specs.declared.Move.{Move}
 use Rattle.machine.specs.Run.{fixedSizes}
 use Rattle.machine.specs.Opening.{openingOf}
-use Rattle.console.specs.Line.{readByte, lineMove}
+use Rattle.console.specs.Line.{readByte, isEmpty, lineMove}
 use Rattle.sheet.specs.Sheet.{sheetBytes}
 use Rattle.console.specs.Text.{sheetText}
 use Rattle.console.specs.Register.{answerText, nextNumber, maxInput, registerOf}
 use Rattle.console.specs.declared.Line.{Line}
-use Rattle.console.specs.declared.Line.the-variants.{Empty, Named, Spaced, First, Between, Second, Malformed}
-use Rattle.guarantees.specs.BlockTally.{fileSets, tallyAfter, tallyAnswers}
+use Rattle.console.specs.declared.Line.the-variants.{Empty}
+use Rattle.guarantees.specs.BlockTally.{tallyAfter, tallyAnswers}
 use Rattle.guarantees.specs.Agreement.{serially}
+use Rattle.analysis.specs.Laid.{callCount}
 
 -- The lines of an input, each by its move; none for "a line in no such form". "A line ends at a line feed or, unless empty, at the input's
 -- end".
 abbrev pub lastLine : Line → List (Option Move)
-lastLine Empty = []
-lastLine (Named l) = lineMove (Named l) ∷ []
-lastLine (Spaced l) = lineMove (Spaced l) ∷ []
-lastLine (First l digits n) = lineMove (First l digits n) ∷ []
-lastLine (Between w) = lineMove (Between w) ∷ []
-lastLine (Second w digits n) = lineMove (Second w digits n) ∷ []
-lastLine Malformed = lineMove Malformed ∷ []
+lastLine l = if isEmpty l then [] else lineMove l ∷ []
 
 unfoldable pub linesFrom : Line → List ℕ → List (Option Move)
 linesFrom l [] = lastLine l
@@ -66,12 +62,12 @@ finishedBelow t (suc n) = isFinished (t .phase n) && finishedBelow t n
 unfoldable pub registerByTally : List ℕ → List (Option Move) → List ℕ
 registerByTally file ls =
     linesText 1 ls (tallyAnswers file maxWorkers (movesOf ls))
-    ++ (if finishedBelow (tallyAfter file maxWorkers (movesOf ls)) (length (fileSets file))
+    ++ (if finishedBelow (tallyAfter file maxWorkers (movesOf ls)) (callCount file)
     then sheetText (sheetBytes (serially fixedSizes file maxWorkers))
     else refusedText 0 27)
 
 -- For every accepted block and every input: whatever the order of the moves, REGISTER prints what the tally and the serial run say.
 abbrev pub RegisterByTally : Type 0
 RegisterByTally =
-    (file input : List ℕ) → ((i : ℕ) → getD file i 0 < 256) → openingOf fixedSizes file maxWorkers .answer ≡ verdict.Accepted
+    (file input : List ℕ) → AreBytes file → openingOf fixedSizes file maxWorkers .answer ≡ verdict.Accepted
     → registerOf file input ≡ registerByTally file (linesOf input)

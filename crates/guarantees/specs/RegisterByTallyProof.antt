@@ -11,9 +11,9 @@ use lib.IntN.{ℤ}
 use lib.ListN.{length, getD, take, drop, length-append, length-replicate}
 use lib.Seq.{take-append-seam}
 use Rattle.arith.specs.Choice.{if_then_else_}
-use Rattle.arith.specs.ChoiceLaws.{both, if-all}
+use Rattle.arith.specs.ChoiceLaws.{by-test, both, if-all}
 use Rattle.arith.specs.Exact.{unsigned}
-use Rattle.wire.specs.Bytes.{bytesOf, repeated, stored}
+use Rattle.wire.specs.Bytes.{bytesOf, repeated}
 use Rattle.wire.specs.Decimal.{lineFeed}
 use Rattle.wire.specs.Laws.{stored-inside}
 use Rattle.block.specs.Limits.{maxCalls, maxKeys, maxWorkers}
@@ -28,23 +28,22 @@ use Rattle.machine.specs.Opening.{openingOf}
 use Rattle.machine.specs.Moves.{runAfter, answersOf}
 use Rattle.machine.specs.Step.{cellAt}
 use Rattle.machine.specs.declared.Answer.the-variants.{SheetTooLong}
-use Rattle.block.specs.Record.{endKind}
-use Rattle.sheet.specs.Sheet.{recordOf, cellRecords, receiptRecords, sheetBytes, Closed, unwritten, written, sheetOf}
-use Rattle.sheet.specs.declared.Closing.the-variants.{Written}
+use Rattle.block.specs.Record.{recordOf, endKind}
+use Rattle.sheet.specs.Sheet.{cellRecords, receiptRecords, sheetBytes, Closed, unwritten, filled, writtenIf, written, sheetOf}
 use Rattle.console.specs.Text.{sheetText}
-use Rattle.console.specs.Line.{readByte, lineMove}
+use Rattle.console.specs.Line.{readByte, isEmpty, lineMove}
 use Rattle.console.specs.Register.{Session, playMove, playByte, playBytes, playEnd, playInput, registerOpened, registerOf, closingText, closeRun, maxInput, maxSheet}
 use Rattle.console.specs.declared.Line.{Line}
-use Rattle.console.specs.declared.Line.the-variants.{Empty, Named, Spaced, First, Between, Second, Malformed}
-use Rattle.guarantees.specs.BlockTally.{fileSets, tallyAfter, tallyAnswers}
+use Rattle.console.specs.declared.Line.the-variants.{Empty}
+use Rattle.guarantees.specs.BlockTally.{tallyAfter, tallyAnswers}
 use Rattle.guarantees.specs.Agreement.{openedIn, behind, serially}
 use Rattle.guarantees.specs.AfterOpening.{AfterOpening, after-opening}
 use Rattle.guarantees.specs.Serially.{serially-matches}
 use Rattle.guarantees.specs.SheetWritten.{few-calls, few-cells, serial-written}
-use Rattle.guarantees.specs.Demand2Proof.{demand-2}
 use Rattle.guarantees.specs.Demand3.{Demand3}
 use Rattle.guarantees.specs.Demand3Proof.{demand-3}
 use Rattle.guarantees.specs.RegisterByTally.{linesFrom, linesOf, movesOf, linesText, finishedBelow, registerByTally, RegisterByTally}
+use Rattle.analysis.specs.Laid.{callCount}
 
 -- ---- a session and the lines of its input
 
@@ -64,20 +63,16 @@ none-comes : (block : List ℕ) (s : Session) → Comes block s s []
 unfolding movesOf linesText runAfter answersOf
 none-comes block s = record { run = refl; output = sym (append-nil (s .output)) }
 
-last-comes : (block : List ℕ) (s : Session) (l : Line) → s .line ≡ l → Comes block s (playMove block s (lineMove (s .line))) (lineMove l ∷ [])
-last-comes block s l e =
-    subst (λ (k : Line). Comes block s (playMove block s (lineMove (s .line))) (lineMove k ∷ [])) e
-    (line-comes block s (lineMove (s .line)) (playMove block s (lineMove (s .line))) [] (none-comes block (playMove block s (lineMove (s .line)))))
-
-end-comes : (block : List ℕ) (s : Session) (l : Line) → s .line ≡ l → Comes block s (playEnd block s l) (linesFrom l [])
+-- The rest of the input is a line unless it is empty.
+end-comes : (block : List ℕ) (s : Session) → Comes block s (playEnd block s) (linesFrom (s .line) [])
 unfolding playEnd linesFrom
-end-comes block s Empty e = none-comes block s
-end-comes block s (Named l) e = last-comes block s (Named l) e
-end-comes block s (Spaced l) e = last-comes block s (Spaced l) e
-end-comes block s (First l digits n) e = last-comes block s (First l digits n) e
-end-comes block s (Between w) e = last-comes block s (Between w) e
-end-comes block s (Second w digits n) e = last-comes block s (Second w digits n) e
-end-comes block s Malformed e = last-comes block s Malformed e
+end-comes block s =
+    by-test (λ (t : Bool). Comes block s (if t then s else last) (if t then [] else lineMove (s .line) ∷ [])) (isEmpty (s .line))
+    (λ e. none-comes block s)
+    (λ e. line-comes block s (lineMove (s .line)) last [] (none-comes block last))
+  where
+    last : Session
+    last = playMove block s (lineMove (s .line))
 
 -- Behind a whole line nothing of the next is read.
 next-empty : (block : List ℕ) (s : Session) (m : Option Move) → playMove block s m .line ≡ Empty
@@ -87,11 +82,11 @@ next-empty block s (some m) = refl
 
 -- The session behind the rest of the input.
 abbrev ended : List ℕ → Session → List ℕ → Session
-ended block s xs = playEnd block (playBytes block s xs) (playBytes block s xs .line)
+ended block s xs = playEnd block (playBytes block s xs)
 
 input-comes : (block : List ℕ) (s : Session) (xs : List ℕ) → Comes block s (ended block s xs) (linesFrom (s .line) xs)
 unfolding playBytes playByte playEnd linesFrom
-input-comes block s [] = end-comes block s (s .line) refl
+input-comes block s [] = end-comes block s
 input-comes block s (x ∷ xs) = go (eqb x lineFeed) refl (λ v. input-comes block v xs)
   where
     t : Session
@@ -172,14 +167,14 @@ cleared-length n = length-replicate {A = ℕ} n 0
 -- A sheet that is written into an output as long as REGISTER's is printed whole.
 sheet-printed : (r : Run) → ((output : List ℕ) → sheetOf r output ≡ written output (sheetBytes r)) → length (sheetBytes r) ≤ maxSheet
     → closeRun r ≡ sheetText (sheetBytes r)
-unfolding written closingText
+unfolding writtenIf closingText
 sheet-printed r is-written fits =
     let bytes : List ℕ = sheetBytes r in
     let out : List ℕ = repeated maxSheet 0 in
     let room : length out ≡ maxSheet = cleared-length maxSheet in
     let passes : ltb (length out) (length bytes) ≡ false = le-ltb (length out) (length bytes) (omega arith) in
     ap (λ (c : Closed). closingText c (c .answer))
-    (is-written out ∙ ap (λ (long : Bool). if long then unwritten out SheetTooLong else record { answer = Written (length bytes); output = stored out 0 bytes }) passes)
+    (is-written out ∙ ap (λ (long : Bool). if long then unwritten out SheetTooLong else filled out bytes) passes)
     ∙ ap sheetText
     (ap (take (length bytes)) (stored-inside bytes out 0 (omega arith)) ∙ take-append-seam bytes (drop (0 + length bytes) out))
 
@@ -193,26 +188,26 @@ module _ (file : List ℕ) (bytes : (i : ℕ) → getD file i 0 < 256) (accepted
   serial-printed =
       let after : AfterOpening fixedSizes file maxWorkers = after-opening fixedSizes file maxWorkers bytes accepted in
       let stands = serially-matches fixedSizes file maxWorkers bytes after in
-      sheet-printed serial (serial-written fixedSizes file maxWorkers bytes after (demand-2 fixedSizes file maxWorkers bytes accepted))
+      sheet-printed serial (serial-written fixedSizes file maxWorkers bytes after)
       (sheet-length serial (few-calls fixedSizes file maxWorkers after _ serial stands) (few-cells fixedSizes file maxWorkers after _ serial stands))
 
   -- What is printed behind a list of moves.
   closes : (ms : List Move) → closeRun (behind fixedSizes file maxWorkers ms)
-      ≡ (if finishedBelow (tallyAfter file maxWorkers ms) (length (fileSets file)) then sheetText (sheetBytes serial) else refusedText 0 27)
+      ≡ (if finishedBelow (tallyAfter file maxWorkers ms) (callCount file) then sheetText (sheetBytes serial) else refusedText 0 27)
   unfolding closingText answerNumber
-  closes ms = go (finishedBelow (tallyAfter file maxWorkers ms) (length (fileSets file))) refl
+  closes ms = go (finishedBelow (tallyAfter file maxWorkers ms) (callCount file)) refl
     where
       d : Demand3 fixedSizes file maxWorkers ms
       d = demand-3 fixedSizes file maxWorkers bytes accepted ms
 
-      go : (b : Bool) → finishedBelow (tallyAfter file maxWorkers ms) (length (fileSets file)) ≡ b
+      go : (b : Bool) → finishedBelow (tallyAfter file maxWorkers ms) (callCount file) ≡ b
           → closeRun (behind fixedSizes file maxWorkers ms) ≡ (if b then sheetText (sheetBytes serial) else refusedText 0 27)
       go true e =
           ap (λ (c : Closed). closingText c (c .answer))
-          (d .close (all-finished (tallyAfter file maxWorkers ms) (length (fileSets file)) e) .sheet (repeated maxSheet 0))
+          (d .close (all-finished (tallyAfter file maxWorkers ms) (callCount file) e) .sheet (repeated maxSheet 0))
           ∙ serial-printed
       go false e =
-          let u = some-unfinished (tallyAfter file maxWorkers ms) (length (fileSets file)) e in
+          let u = some-unfinished (tallyAfter file maxWorkers ms) (callCount file) e in
           ap (λ (c : Closed). closingText c (c .answer)) (d .unfinished (u .0) (u .1) (u .2) (repeated maxSheet 0))
 
   module _ (input : List ℕ) where
@@ -233,7 +228,7 @@ module _ (file : List ℕ) (bytes : (i : ℕ) → getD file i 0 < 256) (accepted
     output-is = comes .output ∙ ap (linesText 1 (linesOf input)) (demand-3 fixedSizes file maxWorkers bytes accepted ms .answers)
 
     closing-is : closeRun (s .run)
-        ≡ (if finishedBelow (tallyAfter file maxWorkers ms) (length (fileSets file)) then sheetText (sheetBytes serial) else refusedText 0 27)
+        ≡ (if finishedBelow (tallyAfter file maxWorkers ms) (callCount file) then sheetText (sheetBytes serial) else refusedText 0 27)
     closing-is = ap closeRun (comes .run) ∙ closes ms
 
     prints : s .output ++ closeRun (s .run) ≡ registerByTally file (linesOf input)

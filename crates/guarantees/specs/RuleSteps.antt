@@ -1,5 +1,5 @@
--- The steps of one call to its end, against its run in the theorem on schedules: the same receipt, the same cells, and no damaged step.
--- Assumes nothing.
+-- The steps of one call to its end, against its run in the theorem on schedules: the same receipt, the same cells, as many steps,
+-- and none of them damaged. Assumes nothing.
 use mathlib.Core.Path.{_≡_, refl, sym, ap, subst, _∙_}
 use mathlib.Core.Bool.{Bool, _&&_, not}
 use mathlib.Core.List.{List}
@@ -95,6 +95,7 @@ pub record Runs (view : ℕ → View) (n : ℕ) (before : ℕ → ℕ → Bool) 
   pub course : whole (viewCalls view n before) c s .course ≡ done (receipt outcome count)
   pub state : whole (viewCalls view n before) c s .state ≡ cells
   pub unbroken : (k : ℕ) → ¬ (trace (viewCalls view n before) c s k .course ≡ done broken)
+  pub steps : stepsOf (viewCalls view n before) c s ≡ made.stepsTaken maxSteps (view c) (machine.more (begun (view c) s) s)
 
 module _ (view : ℕ → View) (n : ℕ) (before : ℕ → ℕ → Bool) (c : ℕ) (s : List ℤ) where
   abbrev Y : Calls
@@ -175,6 +176,21 @@ module _ (view : ℕ → View) (n : ℕ) (before : ℕ → ℕ → Bool) (c : �
       (reaches f cells (stepCall (view c) l cells) (subst (λ (o : List ℤ). Saves o (stepCall (view c) l cells)) same (step-saves (view c) l cells)))
   reaches (suc f) t (machine.done outcome count cells) same = ended (suc f) outcome count cells
 
+  -- It takes as many steps.
+  steps-same : (f : ℕ) (t : List ℤ) (r : Stepped) → Saves olds r → stepsFrom Y f c olds (pointOf t r) ≡ made.stepsTaken f (view c) r
+  unfolding pointOf made.stepsTaken stepsFrom
+  steps-same zero t r same = refl
+  steps-same (suc f) t machine.damaged same = refl
+  steps-same (suc f) t (machine.more l cells) same =
+      ap suc
+      (subst
+      (λ (o : List ℤ).
+      stepsFrom Y f c olds (pointOf cells (stepCall (view c) (withOlds (record { place = l .place; count = l .count; regs = l .regs }) o) cells))
+      ≡ made.stepsTaken f (view c) (stepCall (view c) l cells))
+      same
+      (steps-same f cells (stepCall (view c) l cells) (subst (λ (o : List ℤ). Saves o (stepCall (view c) l cells)) same (step-saves (view c) l cells))))
+  steps-same (suc f) t (machine.done outcome count cells) same = refl
+
   -- Where the steps of a made run end, so does the call in the theorem's run, with what they leave.
   pub rule-steps : (outcome count : ℕ) (cells : List ℤ) → made.stepsOf maxSteps (view c) (machine.more (begun (view c) s) s) ≡ machine.done outcome count cells
       → Runs view n before c s outcome count cells
@@ -187,4 +203,5 @@ module _ (view : ℕ → View) (n : ℕ) (before : ℕ → ℕ → Bool) (c : �
         course = ap (λ (p : Here Y). p .course) last;
         state = ap (λ (p : Here Y). p .state) last;
         unbroken = λ k f. h .unbroken k (ap (λ (p : Here Y). p .course) (sym (from-begin k)) ∙ f);
+        steps = steps-same maxSteps s (machine.more (begun (view c) s) s) refl;
       }

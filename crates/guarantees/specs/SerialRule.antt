@@ -10,6 +10,7 @@ use borrow.Author.Tests.{eqb-true}
 use lib.Dec.{eqb}
 use lib.IntN.{ℤ}
 use lib.ListN.{length, getD, getElem?, take, drop}
+use Rattle.schedule.specs.Calls as calls
 use Rattle.schedule.specs.Calls.{Calls, done, trace, whole, alone, serial}
 use Rattle.block.specs.Record.{Function, Block, headBytes, callBytes, callOf}
 use Rattle.block.specs.declared.Call.{Call}
@@ -21,7 +22,7 @@ use Rattle.footprint.specs.Sets.{setsOf}
 use Rattle.footprint.specs.SetLaws.{keysOf}
 use Rattle.footprint.specs.Conflict.{member}
 use Rattle.footprint.specs.Plan.{openingValue}
-use Rattle.footprint.specs.Rule.{State, stateWithinLimit, Left, transaction, transactions}
+use Rattle.footprint.specs.Rule.{State, stateWithinLimit, Left, stepsFor, transaction, transactions, stateLeft}
 use Rattle.footprint.specs.RuleLimit.{CallFits, call-fits, limit-kept}
 use Rattle.analysis.specs.Laid.{blockOf}
 use Rattle.analysis.specs.Masks.{AllListed}
@@ -35,7 +36,7 @@ use Rattle.machine.specs.Made.{madeView, begun, stepsOf, Hold}
 use Rattle.machine.specs.Serial.{maxSteps}
 use Rattle.machine.specs.LookupLaws.{InTable}
 use Rattle.machine.specs.StepRule.{Leaves}
-use Rattle.machine.specs.CallRule.{call-rule}
+use Rattle.machine.specs.CallRule.{CallCompletes, call-rule}
 use Rattle.guarantees.specs.ViewCalls.{broken, receipt, viewCalls, bodyCall, runView}
 use Rattle.guarantees.specs.OpenedCalls.{CallOpened}
 use Rattle.guarantees.specs.AfterOpening.{AfterOpening}
@@ -43,7 +44,7 @@ use Rattle.guarantees.specs.RuleSteps.{Runs, rule-steps}
 
 -- ---- the transactions of a block, one by one
 
--- The call at a place; behind the last, one that does nothing.
+-- The call at a place of a block's calls; behind the last, some call, which nothing is asked of.
 abbrev pub callIn : List Call → ℕ → Call
 callIn calls c = getD calls c (bodyCall OutOfRange)
 
@@ -76,11 +77,6 @@ module _ (file : List ℕ) (functions : List Function) where
   left-listed [] σ c h = absurd (omega arith)
   left-listed (x ∷ xs) σ zero h = refl
   left-listed (x ∷ xs) σ (suc c) h = left-listed xs (transaction file functions x σ .state) c (omega arith)
-
--- The state that a list of transactions leaves, begun in σ.
-unfoldable pub stateLeft : State → List Left → State
-stateLeft σ [] = σ
-stateLeft σ (l ∷ ls) = stateLeft (l .state) ls
 
 module _ (file : List ℕ) (functions : List Function) where
   -- The state after c transactions is what the first c of the fold leave, and after all of them what the fold leaves.
@@ -123,12 +119,13 @@ abbrev pub blockCalls : List ℕ → Block → Run → (before : ℕ → ℕ →
 blockCalls file b r before = viewCalls (runView file r) (length (b .calls)) before
 
 -- Call c, begun in these cells and stepped to its end, has the receipt that the rule leaves, and its cells hold the state that the rule
--- leaves, which is within the limit; none of its steps finds the run damaged.
+-- leaves, which is within the limit; none of its steps finds the run damaged, and they are as many as the rule says.
 pub record CallFollows (file : List ℕ) (b : Block) (table : List ℕ) (r : Run) (before : ℕ → ℕ → Bool) (c : ℕ) (cells : List ℤ) (left : Left) : Type 0 where
   pub course : whole (blockCalls file b r before) c cells .course ≡ done (receipt (left .outcome) (left .count))
   pub hold : Hold table (left .state) (whole (blockCalls file b r before) c cells .state)
   pub limit : stateWithinLimit (left .state) ≡ true
   pub unbroken : (k : ℕ) → ¬ (trace (blockCalls file b r before) c cells k .course ≡ done broken)
+  pub steps : calls.stepsOf (blockCalls file b r before) c cells ≡ stepsFor left
 
 -- The rule's state after the first c calls of the block, and what its call c leaves.
 abbrev pub ruleState : List ℕ → Block → ℕ → State
@@ -149,6 +146,8 @@ pub record SerialFollows (file : List ℕ) (b : Block) (table : List ℕ) (r : R
       → whole (blockCalls file b r before) c (serialCells file b r before c) .course ≡ done (receipt (ruleLeft file b c .outcome) (ruleLeft file b c .count))
   pub unbroken : (c : ℕ) → c < length (b .calls) → (k : ℕ)
       → ¬ (trace (blockCalls file b r before) c (serialCells file b r before c) k .course ≡ done broken)
+  pub steps : (c : ℕ) → c < length (b .calls)
+      → calls.stepsOf (blockCalls file b r before) c (serialCells file b r before c) ≡ stepsFor (ruleLeft file b c)
 
 -- ---- an opened run
 
@@ -183,18 +182,21 @@ module _ (s : Sizes) (file : List ℕ) (bytes : Bytes file) (workers : ℕ) (aft
   opened-fits c x o = call-fits (drop (b .first + 34 * c + 4) file) (drop-bytes (b .first + 34 * c + 4) file bytes) x (o .body)
 
   -- Its steps, by its view in the run.
-  steps-leave : (c : ℕ) (x : Call) → Opened c x → (σ : State) → stateWithinLimit σ ≡ true → (cells : List ℤ) → Hold table σ cells
-      → Leaves table (rule x σ) (stepsOf maxSteps (runView file r c) (machine.more (begun (runView file r c) cells) cells))
-  steps-leave c x o σ within cells hold =
-      subst⁻¹ (λ (v : View). Leaves table (rule x σ) (stepsOf maxSteps v (machine.more (begun v cells) cells))) (view-made c x o)
+  completes : (c : ℕ) (x : Call) → Opened c x → (σ : State) → stateWithinLimit σ ≡ true → (cells : List ℤ) → Hold table σ cells
+      → CallCompletes table (rule x σ) (runView file r c) cells
+  completes c x o σ within cells hold =
+      subst⁻¹ (λ (v : View). CallCompletes table (rule x σ) v cells) (view-made c x o)
       (call-rule file bytes (b .functions) (after .whole .laws .codes) x (opened-fits c x o)
       table (after .opened .fewKeys) (listed-in table (setsOf file (b .functions) x) (o .listed)) (o .few) (s .keys) σ within cells hold)
 
   opened-follows : (c : ℕ) (x : Call) → Opened c x → (σ : State) → stateWithinLimit σ ≡ true → (cells : List ℤ) → Hold table σ cells
       → Follows c cells (rule x σ)
   opened-follows c x o σ within cells hold =
-      go (stepsOf maxSteps (runView file r c) (machine.more (begun (runView file r c) cells) cells)) refl (steps-leave c x o σ within cells hold)
+      go (stepsOf maxSteps (runView file r c) (machine.more (begun (runView file r c) cells) cells)) refl (whole-call .leaves)
     where
+      whole-call : CallCompletes table (rule x σ) (runView file r c) cells
+      whole-call = completes c x o σ within cells hold
+
       limit : stateWithinLimit (rule x σ .state) ≡ true
       limit =
           limit-kept x (opened-fits c x o) file bytes (b .functions) σ within
@@ -211,6 +213,7 @@ module _ (s : Sizes) (file : List ℕ) (bytes : Bytes file) (workers : ℕ) (aft
             hold = subst⁻¹ (Hold table (rule x σ .state)) (run .state) (h .hold);
             limit = limit;
             unbroken = run .unbroken;
+            steps = run .steps ∙ whole-call .steps;
           }
 
   -- A call of the block, from any state within the limit and any cells that hold it.
@@ -255,4 +258,5 @@ module _ (s : Sizes) (file : List ℕ) (bytes : Bytes file) (workers : ℕ) (aft
         hold = λ c h. upto c h .hold;
         course = λ c h. next-follows c h (upto c (omega arith)) .course;
         unbroken = λ c h. next-follows c h (upto c (omega arith)) .unbroken;
+        steps = λ c h. next-follows c h (upto c (omega arith)) .steps;
       }

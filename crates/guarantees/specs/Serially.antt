@@ -18,16 +18,18 @@ use Rattle.machine.specs.Serial.{runCalls, serialRun, serialRunOf, serialSteps}
 use Rattle.guarantees.specs.ViewCalls.{withOlds, runView}
 use Rattle.guarantees.specs.ViewLaws.{view-lawful}
 use Rattle.guarantees.specs.AfterOpening.{AfterOpening}
-use Rattle.guarantees.specs.OpenedRuns.{openedRun, callCount, conflicting, openedCalls, OpenedMatches, OpenedWhole, tidy, apart, base, opening-matches}
+use Rattle.guarantees.specs.OpenedRuns.{openedRun, openedCalls, OpenedMatches, OpenedWhole, tidy, apart, base, opening-matches}
 use Rattle.guarantees.specs.MoveMatches.{move-matches}
 use Rattle.guarantees.specs.Agreement.{seriallyAfter}
 use Rattle.guarantees.specs.ChosenRun.{ran, underway}
 use Rattle.guarantees.specs.SerialRule.{serial-follows}
 use Rattle.guarantees.specs.SerialRun.{Sound, SeriallyWhole, MovesMatch, undamaged, serial-run, serial-stepped, serial-steps, serial-run-all, chosen-run-all}
+use Rattle.analysis.specs.Laid.{callCount}
+use Rattle.guarantees.specs.BlockTally.{isBefore}
 
 -- A move whose step is not broken in the machine does not find the run damaged.
 pub sound-whole : (s : Sizes) (file : List ℕ) (workers : ℕ) (M : Machine (openedCalls s file workers)) (m : Move)
-    → Sound file (callCount file) (conflicting file) (openedRun s file workers) M m → OpenedWhole s file workers M m
+    → Sound file (callCount file) (isBefore file) (openedRun s file workers) M m → OpenedWhole s file workers M m
 sound-whole s file workers M (Begin w c) sound = tt
 sound-whole s file workers M (Step w) sound =
     λ c l olds seat call.
@@ -46,23 +48,23 @@ module _ (s : Sizes) (file : List ℕ) (workers : ℕ) (bytes : Bytes file) (aft
   opened-laws =
       record {
         apart = apart s file workers after;
-        call = λ c l. view-lawful (runView file r₀) n (conflicting file) c (tidy s file workers after c l);
+        call = λ c l. view-lawful (runView file r₀) n (isBefore file) c (tidy s file workers after c l);
       }
 
   pub opened-good : openedCalls s file workers .Good (openedRun s file workers .cells)
   opened-good = after .opened .hold .room
 
-  pub opened-moves : MovesMatch file workers (callCount file) (conflicting file) (openedRun s file workers)
+  pub opened-moves : MovesMatch file workers (callCount file) (isBefore file) (openedRun s file workers)
   opened-moves M r m match sound = move-matches s file workers after M r m match (sound-whole s file workers M m sound)
 
-  pub opened-whole : SeriallyWhole file (callCount file) (conflicting file) (openedRun s file workers)
-  opened-whole = serial-follows s file bytes workers after (conflicting file) .unbroken
+  pub opened-whole : SeriallyWhole file (callCount file) (isBefore file) (openedRun s file workers)
+  opened-whole = serial-follows s file bytes workers after (isBefore file) .unbroken
 
   -- The serial run: every call has run.
   pub serially-matches : OpenedMatches s file workers (ran (openedCalls s file workers) (openedRun s file workers .cells) (λ i. true) (callCount file))
       (serialRun file (openedRun s file workers))
   serially-matches =
-      serial-run-all file workers n (conflicting file) r₀ (base s file workers after) opened-laws opened-good (opening-matches s file workers after)
+      serial-run-all file workers n (isBefore file) r₀ (base s file workers after) opened-laws opened-good (opening-matches s file workers after)
       opened-moves opened-whole
 
   -- The serial run of the calls below c.
@@ -70,7 +72,7 @@ module _ (s : Sizes) (file : List ℕ) (workers : ℕ) (bytes : Bytes file) (aft
       → OpenedMatches s file workers (ran (openedCalls s file workers) (openedRun s file workers .cells) (λ i. true) c)
       (runCalls file (openedRun s file workers) (below c))
   partly-matches =
-      serial-run file workers n (conflicting file) r₀ (base s file workers after) opened-laws opened-good (opening-matches s file workers after)
+      serial-run file workers n (isBefore file) r₀ (base s file workers after) opened-laws opened-good (opening-matches s file workers after)
       opened-moves opened-whole
 
   -- "only they are begun": the picked calls, which hold with each of them its earlier conflicting calls.
@@ -78,7 +80,7 @@ module _ (s : Sizes) (file : List ℕ) (workers : ℕ) (bytes : Bytes file) (aft
       → OpenedMatches s file workers (ran (openedCalls s file workers) (openedRun s file workers .cells) pick (callCount file))
       (serialRunOf pick file (openedRun s file workers))
   alone-matches =
-      chosen-run-all file workers n (conflicting file) r₀ (base s file workers after) opened-laws opened-good (opening-matches s file workers after)
+      chosen-run-all file workers n (isBefore file) r₀ (base s file workers after) opened-laws opened-good (opening-matches s file workers after)
       opened-moves opened-whole
 
   -- Call c of the serial run after k of its steps.
@@ -87,12 +89,12 @@ module _ (s : Sizes) (file : List ℕ) (workers : ℕ) (bytes : Bytes file) (aft
       → OpenedMatches s file workers (underway (openedCalls s file workers) (openedRun s file workers .cells) (λ i. true) c k)
       (seriallyAfter s file workers c k)
   stepped-matches =
-      serial-stepped file workers n (conflicting file) r₀ (base s file workers after) opened-laws opened-good (opening-matches s file workers after)
+      serial-stepped file workers n (isBefore file) r₀ (base s file workers after) opened-laws opened-good (opening-matches s file workers after)
       opened-moves opened-whole
 
   -- "the number of steps that the serial run takes for that call"
   pub steps-are : (c : ℕ) → c < callCount file
       → serialSteps file (openedRun s file workers) c ≡ calls.serialSteps (openedCalls s file workers) (openedRun s file workers .cells) c
   steps-are =
-      serial-steps file workers n (conflicting file) r₀ (base s file workers after) opened-laws opened-good (opening-matches s file workers after)
+      serial-steps file workers n (isBefore file) r₀ (base s file workers after) opened-laws opened-good (opening-matches s file workers after)
       opened-moves opened-whole

@@ -10,11 +10,11 @@ use lib.Dec.{eqb, leb, ltb}
 use Rattle.arith.specs.Choice.{if_then_else_}
 use Rattle.wire.specs.Bytes.{bytesOf}
 use Rattle.block.specs.Limits.{maxCalls, maxCode, maxKeys}
-use Rattle.block.specs.Record.{receiptKind, endKind}
+use Rattle.block.specs.Record.{recordOf, receiptKind, endKind}
 use Rattle.machine.specs.Run.{Run, Sizes, sizesOf, largeEnough, statusWord, stateOf, isState, finished}
 use Rattle.machine.specs.Action.{notPaid}
 use Rattle.machine.specs.declared.Answer.the-variants.{Damaged, CallUnfinished}
-use Rattle.sheet.specs.Sheet.{Closed, recordOf, cellRecords, receiptRecords, sheetBytes, statesAllowed, allFinished, receiptsAllowed, balancesAllowed, unwritten, written, sheetOf}
+use Rattle.sheet.specs.Sheet.{Closed, cellRecords, receiptRecords, sheetBytes, statesAllowed, allFinished, receiptsAllowed, balancesAllowed, unwritten, sheetOf, writtenIf}
 use Rattle.guarantees.specs.Agreement.{SameSheet}
 use Rattle.guarantees.specs.Demand3.{SameReceipt}
 
@@ -52,19 +52,19 @@ module _ (status status′ : List ℕ) (n : ℕ) (same : (c : ℕ) → c < n
 -- ---- the sheet
 
 -- The sheet by its tests and its bytes.
-unfoldable closingOf : (damaged states finished receipts balances : Bool) → List ℕ → List ℕ → Closed
-closingOf damaged states finished receipts balances bytes output =
+unfoldable closingOf : (damaged states finished cells balances receipts : Bool) → List ℕ → List ℕ → Closed
+closingOf damaged states finished cells balances receipts bytes output =
     if damaged
     then unwritten output Damaged
     else if not states
     then unwritten output Damaged
     else if not finished
     then unwritten output CallUnfinished
-    else if receipts
+    else if cells
     then unwritten output Damaged
     else if not balances
     then unwritten output Damaged
-    else written output bytes
+    else writtenIf receipts output bytes
 
 abbrev recordsOf : List ℕ → (calls : ℕ) → List ℕ
 recordsOf status calls = receiptRecords status calls 0
@@ -75,8 +75,8 @@ numbered keys cells n receipts = cellRecords keys cells n 0 ++ receipts ++ recor
 sheet-parts : (r : Run) (output : List ℕ)
     → sheetOf r output
     ≡ closingOf (not (largeEnough (sizesOf r)) || ltb maxCalls (r .head .calls)) (statesAllowed (r .status) (r .head .calls))
-    (allFinished (r .status) (r .head .calls)) (not (receiptsAllowed (r .status) (r .head .calls)) || ltb maxKeys (r .head .cells))
-    (balancesAllowed (r .keys) (r .cells) (r .head .cells))
+    (allFinished (r .status) (r .head .calls)) (ltb maxKeys (r .head .cells)) (balancesAllowed (r .keys) (r .cells) (r .head .cells))
+    (receiptsAllowed (r .status) (r .head .calls))
     (numbered (r .keys) (r .cells) (r .head .cells) (recordsOf (r .status) (r .head .calls))) output
 unfolding sheetOf closingOf sheetBytes
 sheet-parts r output = refl
@@ -100,23 +100,22 @@ same-sheet r r′ sizes calls cells keys values receipts output =
 
     parts :
         closingOf (not (largeEnough (sizesOf r)) || ltb maxCalls (r .head .calls)) (statesAllowed (r .status) (r .head .calls))
-        (allFinished (r .status) (r .head .calls)) (not (receiptsAllowed (r .status) (r .head .calls)) || ltb maxKeys (r .head .cells))
-        (balancesAllowed (r .keys) (r .cells) (r .head .cells))
+        (allFinished (r .status) (r .head .calls)) (ltb maxKeys (r .head .cells)) (balancesAllowed (r .keys) (r .cells) (r .head .cells))
+        (receiptsAllowed (r .status) (r .head .calls))
         (numbered (r .keys) (r .cells) (r .head .cells) (recordsOf (r .status) (r .head .calls))) output
         ≡ closingOf (not (largeEnough (sizesOf r′)) || ltb maxCalls (r′ .head .calls)) (statesAllowed (r′ .status) (r′ .head .calls))
-        (allFinished (r′ .status) (r′ .head .calls)) (not (receiptsAllowed (r′ .status) (r′ .head .calls)) || ltb maxKeys (r′ .head .cells))
-        (balancesAllowed (r′ .keys) (r′ .cells) (r′ .head .cells))
+        (allFinished (r′ .status) (r′ .head .calls)) (ltb maxKeys (r′ .head .cells)) (balancesAllowed (r′ .keys) (r′ .cells) (r′ .head .cells))
+        (receiptsAllowed (r′ .status) (r′ .head .calls))
         (numbered (r′ .keys) (r′ .cells) (r′ .head .cells) (recordsOf (r′ .status) (r′ .head .calls))) output
     parts =
         let d = ap₂ (λ (s : Sizes) (k : ℕ). not (largeEnough s) || ltb maxCalls k) sizes calls in
         let a = counted statesAllowed (states-same (r .status) (r′ .status) n same n (omega arith)) in
         let f = counted allFinished (finished-same (r .status) (r′ .status) n same n (omega arith)) in
-        let o =
-        ap₂ (λ (b : Bool) (k : ℕ). not b || ltb maxKeys k)
-        (counted receiptsAllowed (receipts-same (r .status) (r′ .status) n same n (omega arith))) cells in
+        let k = ap (λ (m : ℕ). ltb maxKeys m) cells in
         let b = balances keys values cells in
+        let o = counted receiptsAllowed (receipts-same (r .status) (r′ .status) n same n (omega arith)) in
         let t = records (counted recordsOf (records-same (r .status) (r′ .status) n same n 0 (omega arith))) keys values cells in
-        λ i. closingOf (d i) (a i) (f i) (o i) (b i) (t i) output
+        λ i. closingOf (d i) (a i) (f i) (k i) (b i) (o i) (t i) output
       where
         balances : r .keys ≡ r′ .keys → r .cells ≡ r′ .cells → r .head .cells ≡ r′ .head .cells
             → balancesAllowed (r .keys) (r .cells) (r .head .cells) ≡ balancesAllowed (r′ .keys) (r′ .cells) (r′ .head .cells)

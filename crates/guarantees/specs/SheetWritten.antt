@@ -1,17 +1,14 @@
 -- The closing sheet after an opening and moves: no test of 20 fails, so it is refused by 27 while a call is unfinished, and of the serial run it is
 -- written, or refused by 28 where the output is too short. Assumes nothing.
-use mathlib.Core.Path.{_≡_, refl, sym, ap, subst, subst⁻¹, _∙_}
-use mathlib.Core.Bool.{Bool, true, false, _&&_, _||_, not, and-false, true≢false}
+use mathlib.Core.Path.{_≡_, sym, ap, subst, subst⁻¹, _∙_}
+use mathlib.Core.Bool.{true, false, true≢false}
 use mathlib.Core.List.{List}
-use Prim.Native.Nat.{ℕ, zero, suc, _-_, _/_, _%_, _^_, _≤_, _<_}
-use native.Mathlib.Decide.{ℕ-discrete}
+use Prim.Native.Nat.{ℕ, _-_, _/_, _%_, _^_, _≤_, _<_}
 use native.Mathlib.Omega.{arith}
-use borrow.Author.Tests.{le-ltb, le-leb, eq-eqb, ne-eqb}
-use lib.Dec.{eqb, leb}
+use borrow.Author.Tests.{eq-eqb}
 use lib.IntN.{ℤ}
 use lib.ListN.{length, getD}
 use lib.Signed.{nonNeg}
-use Rattle.arith.specs.ChoiceLaws.{by-test}
 use Rattle.wire.specs.Bytes.{repeated, padded}
 use Rattle.block.specs.Key.{isBalance}
 use Rattle.block.specs.Limits.{maxCalls, maxCode, maxKeys}
@@ -27,125 +24,47 @@ use Rattle.footprint.specs.Plan.{highWord, keyWords}
 use Rattle.footprint.specs.Rule.{State, stateWithinLimit, Left}
 use Rattle.footprint.specs.Sets.{functionOf}
 use Rattle.analysis.specs.KeyTable.{Rising}
-use Rattle.analysis.specs.Laid.{blockOf}
+use Rattle.analysis.specs.Laid.{blockOf, callCount}
 use Rattle.analysis.specs.TableLaws.{member-at, cell-at}
-use Rattle.machine.specs.Run.{Run, Sizes, sizesOf, largeEnough, statusWord, stateOf, isState, finished}
+use Rattle.machine.specs.Run.{Run, Sizes, sizesOf, largeEnough, statusWord, stateOf, finished}
 use Rattle.machine.specs.Action.{notPaid}
 use Rattle.machine.specs.Made.{Hold}
 use Rattle.machine.specs.Step.{cellAt}
 use Rattle.machine.specs.declared.Answer.the-variants.{CallUnfinished}
 use Rattle.machine.specs.declared.Head.{Head}
-use Rattle.sheet.specs.Sheet.{keyHigh, sheetBytes, statesAllowed, allFinished, receiptsAllowed, balancesAllowed, unwritten, written, sheetOf}
+use Rattle.sheet.specs.Sheet.{keyHigh, sheetBytes, unwritten, written, sheetOf}
 use Rattle.guarantees.specs.Agreement.{stateNumber, serially}
 use Rattle.guarantees.specs.AfterOpening.{AfterOpening}
+use Rattle.guarantees.specs.Demand1.{Large}
+use Rattle.guarantees.specs.OpeningLaws.{large-sizes}
+use Rattle.guarantees.specs.SheetNumbers.{sheet-unfinished, sheet-written}
 use Rattle.guarantees.specs.ChosenRun.{ran}
-use Rattle.guarantees.specs.Demand2.{Demand2}
-use Rattle.guarantees.specs.Demand2Proof.{table-is}
+use Rattle.guarantees.specs.Demand2Proof.{serial-receipt, serial-cells}
 use Rattle.guarantees.specs.KeyFits.{KeyFits, Holds, table-fits}
 use Rattle.guarantees.specs.NextCells.{balance-above}
 use Rattle.guarantees.specs.NextDay.{words-at}
-use Rattle.guarantees.specs.OpenedRuns.{openedRun, callCount, conflicting, openedCalls, OpenedMatches, base}
+use Rattle.guarantees.specs.OpenedRuns.{openedRun, openedCalls, OpenedMatches, base}
 use Rattle.guarantees.specs.ReceiptLaws.{Bounded, receipt-bounded}
 use Rattle.guarantees.specs.SerialRule.{callIn, found-in, ruleState, ruleLeft, serial-follows}
 use Rattle.guarantees.specs.Serially.{serially-matches}
 use Rattle.guarantees.specs.ViewCalls.{bodyCall}
-
--- ---- a test of every number below n
-
--- It passes where each of them does, and fails where one does.
-module _ (all test : ℕ → Bool) (none : all 0 ≡ true) (next : (n : ℕ) → all (suc n) ≡ (test n && all n)) where
-  all-pass : (n : ℕ) → ((i : ℕ) → i < n → test i ≡ true) → all n ≡ true
-  all-pass zero h = none
-  all-pass (suc n) h = next n ∙ rw (h n (omega arith)) (all-pass n (λ i l. h i (omega arith)))
-
-  one-fails : (n i : ℕ) → i < n → test i ≡ false → all n ≡ false
-  one-fails zero i l e = absurd (omega arith)
-  one-fails (suc n) i l e = next n ∙ go (ℕ-discrete i n) (λ h. one-fails n i h e)
-    where
-      go : Dec (i ≡ n) → (i < n → all n ≡ false) → (test n && all n) ≡ false
-      go (yes s) later = rw (sym (ap test s) ∙ e)
-      go (no d) later = rw (later (omega arith)) (and-false (test n))
-
--- ---- the tests of the sheet
-
--- Of n calls by their status words.
-module _ (status : List ℕ) (n : ℕ) where
-  states-allowed : ((c : ℕ) → c < n → stateOf status c ≤ finished) → statesAllowed status n ≡ true
-  unfolding statesAllowed
-  states-allowed h =
-      all-pass (statesAllowed status) (λ c. isState (stateOf status c)) refl (λ m. refl) n (λ c l. le-leb (stateOf status c) finished (h c l))
-
-  all-finished : ((c : ℕ) → c < n → stateOf status c ≡ finished) → allFinished status n ≡ true
-  unfolding allFinished
-  all-finished h =
-      all-pass (allFinished status) (λ c. eqb (stateOf status c) finished) refl (λ m. refl) n (λ c l. eq-eqb (stateOf status c) finished (h c l))
-
-  one-unfinished : (c : ℕ) → c < n → ¬ (stateOf status c ≡ finished) → allFinished status n ≡ false
-  unfolding allFinished
-  one-unfinished c l h =
-      one-fails (allFinished status) (λ i. eqb (stateOf status i) finished) refl (λ m. refl) n c l (ne-eqb (stateOf status c) finished h)
-
-  receipts-allowed : ((c : ℕ) → c < n → (statusWord status c 1 ≤ notPaid) × (statusWord status c 2 ≤ maxCode)) → receiptsAllowed status n ≡ true
-  unfolding receiptsAllowed
-  receipts-allowed h =
-      all-pass (receiptsAllowed status) (λ c. leb (statusWord status c 1) notPaid && leb (statusWord status c 2) maxCode) refl (λ m. refl) n
-      (λ c l. rw (le-leb (statusWord status c 1) notPaid (h c l .0), le-leb (statusWord status c 2) maxCode (h c l .1)))
-
--- The field of the key at a place of a buffer, as the sheet reads it.
-abbrev fieldAt : List ℕ → ℕ → ℕ
-fieldAt keys x = keyHigh keys x / 2 ^ 32 % 2 ^ 16
-
--- Of n cells by their keys.
-balances-allowed : (keys : List ℕ) (cells : List ℤ) (n : ℕ) → ((x : ℕ) → x < n → eqb (fieldAt keys x) 0 ≡ true → nonNeg (cellAt cells x) ≡ true)
-    → balancesAllowed keys cells n ≡ true
-unfolding balancesAllowed
-balances-allowed keys cells n h =
-    all-pass (balancesAllowed keys cells) (λ x. not (eqb (fieldAt keys x) 0) || nonNeg (cellAt cells x)) refl (λ m. refl) n
-    (λ x l. by-test (λ (t : Bool). (not t || nonNeg (cellAt cells x)) ≡ true) (eqb (fieldAt keys x) 0) (h x l) (λ e. refl))
-
--- ---- the sheet of a run, by its tests
-
--- Sizes and number of calls are allowed: 27 where a call is not finished, and no refusal but 28 where all are and the rest is allowed.
-module _ (r : Run) (large : largeEnough (sizesOf r) ≡ true) (fewCalls : r .head .calls ≤ maxCalls) (output : List ℕ) where
-  sheet-unfinished : ((c : ℕ) → c < r .head .calls → stateOf (r .status) c ≤ finished)
-      → (c : ℕ) → c < r .head .calls → ¬ (stateOf (r .status) c ≡ finished) → sheetOf r output ≡ unwritten output CallUnfinished
-  unfolding sheetOf
-  sheet-unfinished states c l other =
-      rw (
-        large,
-        le-ltb maxCalls (r .head .calls) fewCalls,
-        states-allowed (r .status) (r .head .calls) states,
-        one-unfinished (r .status) (r .head .calls) c l other,
-      )
-
-  sheet-written : ((c : ℕ) → c < r .head .calls → stateOf (r .status) c ≡ finished)
-      → ((c : ℕ) → c < r .head .calls → (statusWord (r .status) c 1 ≤ notPaid) × (statusWord (r .status) c 2 ≤ maxCode))
-      → r .head .cells ≤ maxKeys
-      → ((x : ℕ) → x < r .head .cells → eqb (fieldAt (r .keys) x) 0 ≡ true → nonNeg (cellAt (r .cells) x) ≡ true)
-      → sheetOf r output ≡ written output (sheetBytes r)
-  unfolding sheetOf
-  sheet-written over receipts fewCells balances =
-      rw (
-        large,
-        le-ltb maxCalls (r .head .calls) fewCalls,
-        states-allowed (r .status) (r .head .calls) (λ c l. omega (arith, over c l)),
-        all-finished (r .status) (r .head .calls) over,
-        receipts-allowed (r .status) (r .head .calls) receipts,
-        le-ltb maxKeys (r .head .cells) fewCells,
-        balances-allowed (r .keys) (r .cells) (r .head .cells) balances,
-      )
+use Rattle.guarantees.specs.BlockTally.{isBefore}
 
 -- ---- balances
 
+-- The field of the key at a place of a buffer, as the sheet reads it.
+abbrev fieldIn : List ℕ → ℕ → ℕ
+fieldIn keys x = keyHigh keys x / 2 ^ 32 % 2 ^ 16
+
 -- Cells that hold a state within the limit, at the keys of a rising table, have no balance below zero.
 balances-above : (table : List ℕ) (σ : State) (room : ℕ) (cells : List ℤ) → Rising table → Holds KeyFits table → Hold table σ cells
-    → stateWithinLimit σ ≡ true → (x : ℕ) → x < length table → eqb (fieldAt (padded room 0 (keyWords table)) x) 0 ≡ true → nonNeg (cellAt cells x) ≡ true
+    → stateWithinLimit σ ≡ true → (x : ℕ) → x < length table → fieldIn (padded room 0 (keyWords table)) x ≡ 0 → nonNeg (cellAt cells x) ≡ true
 balances-above table σ room cells rising fit hold within x l e =
     let k : ℕ = getD table x 0 in
     let known : member k table ≡ true = member-at table x l in
     let high : keyHigh (padded room 0 (keyWords table)) x ≡ highWord k = words-at table (repeated (room - length (keyWords table)) 0) x l .0 in
     let field : k / 2 ^ 32 / 2 ^ 32 % 2 ^ 16 ≡ k / 2 ^ 64 % 2 ^ 16 = omega arith in
-    let own : isBalance k ≡ true = rw (← field, ← high) e in
+    let own : isBalance k ≡ true = eq-eqb _ 0 (sym field ∙ ap (λ (h : ℕ). h / 2 ^ 32 % 2 ^ 16) (sym high) ∙ e) in
     let value : cellAt cells x ≡ σ k = ap (cellAt cells) (sym (cell-at table x rising l)) ∙ hold .same k known in
     rw value (balance-above σ within k (fit k known) own)
 
@@ -167,8 +86,8 @@ state-unfinished tally.finished u e = true≢false u
 -- A run that stands for a state of the machine has the opening's sizes, numbers and keys.
 module _ (s : Sizes) (file : List ℕ) (workers : ℕ) (after : AfterOpening s file workers) (M : Machine (openedCalls s file workers)) (r : Run)
     (stands : OpenedMatches s file workers M r) where
-  large : largeEnough (sizesOf r) ≡ true
-  large = ap largeEnough (stands .sizes) ∙ base s file workers after .large
+  large : Large (sizesOf r)
+  large = large-sizes (sizesOf r) (ap largeEnough (stands .sizes) ∙ base s file workers after .large)
 
   pub few-calls : r .head .calls ≤ maxCalls
   few-calls = subst⁻¹ (λ (n : ℕ). n ≤ maxCalls) (stands .callCount) (after .opened .fewCalls)
@@ -186,9 +105,14 @@ module _ (s : Sizes) (file : List ℕ) (workers : ℕ) (after : AfterOpening s f
   pub unfinished-refused : (phase : ℕ → Phase) → ((c : ℕ) → c < callCount file → stateOf (r .status) c ≡ stateNumber (phase c))
       → (c : ℕ) → c < callCount file → isFinished (phase c) ≡ false → (output : List ℕ) → sheetOf r output ≡ unwritten output CallUnfinished
   unfinished-refused phase states c l u output =
-      sheet-unfinished r large few-calls output (λ i h. subst⁻¹ (λ (q : ℕ). q ≤ finished) (states i (ours i h)) (state-allowed (phase i)))
-      c (let z : r .head .calls ≡ callCount file = stands .callCount in omega arith)
-      (λ e. state-unfinished (phase c) u (sym (states c l) ∙ e))
+      let known : c < r .head .calls = let z : r .head .calls ≡ callCount file = stands .callCount in omega arith in
+      sheet-unfinished r output
+      (record {
+        large = large;
+        calls = few-calls;
+        states = λ i h. subst⁻¹ (λ (q : ℕ). q ≤ finished) (states i (ours i h)) (state-allowed (phase i));
+      })
+      (c, known, λ e. state-unfinished (phase c) u (sym (states c l) ∙ e))
 
   -- The cells hold a state within the limit, and each call has the bounded receipt that a rule leaves.
   all-written : (σ : State) → Holds KeyFits (after .table) → Hold (after .table) σ (r .cells) → stateWithinLimit σ ≡ true
@@ -197,25 +121,29 @@ module _ (s : Sizes) (file : List ℕ) (workers : ℕ) (after : AfterOpening s f
       → (stateOf (r .status) c ≡ finished) × (statusWord (r .status) c 1 ≡ left c .outcome) × (statusWord (r .status) c 2 ≡ left c .count))
       → (output : List ℕ) → sheetOf r output ≡ written output (sheetBytes r)
   all-written σ fit hold within left bounded receipts output =
-      sheet-written r large few-calls output (λ c l. receipts c (ours c l) .0)
+      sheet-written r output
+      (record {
+        so-far = record { large = large; calls = few-calls; states = λ c l. omega (arith, receipts c (ours c l) .0) };
+        finished = λ c l. receipts c (ours c l) .0;
+        cells = few-cells;
+        balances = λ x l e.
+            balances-above (after .table) σ (s .keys) (r .cells) (after .opened .rising) fit hold within x (subst (λ (n : ℕ). x < n) cell-count l)
+            (subst (λ (keys : List ℕ). fieldIn keys x ≡ 0) (stands .keys ∙ after .opened .keys) e);
+      })
       (λ c l.
       let q = receipts c (ours c l) in
       let b = bounded c (ours c l) in
       (subst⁻¹ (λ (o : ℕ). o ≤ notPaid) (q .1) (b .outcome), subst⁻¹ (λ (n : ℕ). n ≤ maxCode) (q .2) (b .count)))
-      few-cells
-      (λ x l e.
-      balances-above (after .table) σ (s .keys) (r .cells) (after .opened .rising) fit hold within x (subst (λ (n : ℕ). x < n) cell-count l)
-      (subst (λ (keys : List ℕ). eqb (fieldAt keys x) 0 ≡ true) (stands .keys ∙ after .opened .keys) e))
 
 -- Of the serial run, by the rule that it follows.
-pub serial-written : (s : Sizes) (file : List ℕ) (workers : ℕ) → Bytes file → AfterOpening s file workers → Demand2 s file workers
+pub serial-written : (s : Sizes) (file : List ℕ) (workers : ℕ) → Bytes file → AfterOpening s file workers
     → (output : List ℕ) → sheetOf (serially s file workers) output ≡ written output (sheetBytes (serially s file workers))
-serial-written s file workers bytes after rule =
+serial-written s file workers bytes after =
     all-written s file workers after (ran (openedCalls s file workers) (openedRun s file workers .cells) (λ i. true) (callCount file))
     (serially s file workers) (serially-matches s file workers bytes after) (ruleState file b (callCount file)) (table-fits s file workers bytes after)
-    (subst (λ (t : List ℕ). Hold t (ruleState file b (callCount file)) (serially s file workers .cells)) (table-is s file workers bytes after) (rule .cells))
-    (serial-follows s file bytes workers after (conflicting file) .limit (callCount file) (omega arith))
-    (ruleLeft file b) bounded (rule .receipts)
+    (serial-cells s file workers bytes after)
+    (serial-follows s file bytes workers after (isBefore file) .limit (callCount file) (omega arith))
+    (ruleLeft file b) bounded (serial-receipt s file workers bytes after)
   where
     b : Block
     b = blockOf file

@@ -80,7 +80,7 @@ pub record Tidy (v : View) : Type 0 where
   pub entries : Proper (v .entries)
   pub code : v .code ≤ maxCode + 1
 
--- A call as its record in the block has it; a record out of range stands for one that does nothing.
+-- A call as its record in the block has it; for a record out of range, which no opened block has, some call.
 unfoldable pub bodyCall : CallBody → Call
 bodyCall (InRange c) = c
 bodyCall OutOfRange =

@@ -1,10 +1,10 @@
--- The calls of an opened run and their sets are those of its file, and the cells that a call may write are those of its write set. Assumes nothing.
+-- The cells that a call of an opened run may write are those of its write set. Assumes nothing.
 use mathlib.Core.Path.{_≡_, sym, ap, ap₂, _∙_}
 use mathlib.Core.Bool.{true}
-use mathlib.Core.List.{List, [], map}
+use mathlib.Core.List.{List, map}
 use Prim.Native.Nat.{ℕ, _<_}
 use native.Mathlib.Omega.{arith}
-use lib.ListN.{length, getD, length-map}
+use lib.ListN.{length, getD}
 use Rattle.wire.specs.Bytes.{padded}
 use Rattle.footprint.specs.Access.{Access}
 use Rattle.footprint.specs.Sets.{setsOf, writeSet}
@@ -16,15 +16,14 @@ use Rattle.analysis.specs.TableLaws.{member-at, cell-at}
 use Rattle.analysis.specs.TableWords.{keys-at, keys-padded}
 use Rattle.analysis.specs.Masks.{AllListed}
 use Rattle.analysis.specs.MaskLaws.{listed-keys, uses-writes}
-use Rattle.analysis.specs.Laid.{blockOf, allSets}
+use Rattle.analysis.specs.Laid.{blockOf, callCount}
 use Rattle.machine.specs.Run.{Run, Sizes, entryWrites}
 use Rattle.machine.specs.declared.Head.{Head}
-use Rattle.guarantees.specs.BlockTally.{setsIn, fileSets}
 use Rattle.guarantees.specs.Agreement.{mayWrite}
 use Rattle.guarantees.specs.ViewCalls.{anyEntry}
 use Rattle.guarantees.specs.ViewEntries.{any-uses}
 use Rattle.guarantees.specs.AfterOpening.{AfterOpening}
-use Rattle.guarantees.specs.OpenedRuns.{openedRun, callCount, openedCalls}
+use Rattle.guarantees.specs.OpenedRuns.{openedRun, openedCalls}
 
 -- ---- the cells of a table
 
@@ -45,14 +44,6 @@ module _ (s : Sizes) (file : List ℕ) (workers : ℕ) (after : AfterOpening s f
   abbrev r₀ : Run
   r₀ = openedRun s file workers
 
-  -- The sets of the file's calls are those that the opening found.
-  pub sets-are : fileSets file ≡ allSets file (blockOf file)
-  unfolding setsIn
-  sets-are = ap (setsIn file) (after .read)
-
-  pub calls-are : length (fileSets file) ≡ callCount file
-  calls-are = ap length sets-are ∙ length-map (blockOf file .calls) (setsOf file (blockOf file .functions))
-
   cells-are : r₀ .head .cells ≡ length (after .table)
   cells-are = ap (λ (h : Head). h .cells) (after .opened .head)
 
@@ -63,9 +54,7 @@ module _ (s : Sizes) (file : List ℕ) (workers : ℕ) (after : AfterOpening s f
       let inside : x < length (after .table) = omega (arith, cells-are) in
       let key : keyAt (r₀ .keys) x ≡ getD (after .table) x 0 =
       ap (λ (ks : List ℕ). keyAt ks x) (after .opened .keys) ∙ key-at (s .keys) (after .table) x inside in
-      let own : getD (fileSets file) c [] ≡ setsOf file (blockOf file .functions) (o .0) =
-      ap (λ (ls : List (List Access)). getD ls c []) sets-are ∙ o .1 .own in
-      ap₂ (λ (k : ℕ) (es : List Access). member k (writeSet es)) key own
+      ap₂ (λ (k : ℕ) (es : List Access). member k (writeSet es)) key (o .1 .own)
       ∙ sym
       (entries-write (after .table) (getD (after .table) x 0) (member-at (after .table) x inside)
       (setsOf file (blockOf file .functions) (o .0)) (o .1 .listed))

@@ -1,5 +1,5 @@
 -- A call of a made run, stepped to its end, leaves what the published transaction rule gives: the outcome, the count, and cells that
--- hold the rule's state. "A call's steps are .. at most 66." Assumes nothing.
+-- hold the rule's state. "A call's steps are its entry, its counted instructions, and one for reaching the end, so at most 66." Assumes nothing.
 use mathlib.Core.Path.{_≡_, refl, sym, _∙_, subst}
 use mathlib.Core.Bool.{Bool, true, false}
 use mathlib.Core.List.{List, [], _∷_, map}
@@ -30,20 +30,21 @@ use Rattle.footprint.specs.AccessLaws.{Bytes, drop-bytes, decode-sound, sets-us
 use Rattle.footprint.specs.Sets.{functionOf, functionSets, setsOf, writeSet}
 use Rattle.footprint.specs.SetLaws.{Each}
 use Rattle.footprint.specs.Plan.{entryWord, codeWords, keyWords}
-use Rattle.footprint.specs.Rule.{State, update, credit, debit, stateWithinLimit, Result, Course, before, over, executeAt, runBody, bodyOf, settle, runFunction, transactionBy, transaction}
+use Rattle.footprint.specs.Rule.{State, update, credit, debit, stateWithinLimit, Result, Course, before, over, executeAt, runBody, bodyOf, settle, Left, stepsFor, unbegun, runFunction, transactionBy, transaction}
 use Rattle.footprint.specs.LimitLaws.{update-same, update-other, balanceKey, limit-balance, limit-move}
 use Rattle.footprint.specs.RuleLimit.{CallFits}
 use Rattle.footprint.specs.SafeSets.{no-amount}
+use Rattle.footprint.specs.StepLaws.{bodySteps, OneMore, turn-one}
 use Rattle.machine.specs.Run.{zeroRegisters}
 use Rattle.machine.specs.Action.{instrAction, entryAction}
 use Rattle.machine.specs.Step.{View, Local, Stepped, damaged, more, done, finish, perform, performAction, stepEntry, stepDecoded, stepInstr, stepCall}
-use Rattle.machine.specs.Made.{madeView, begun, stepsOf, Hold}
+use Rattle.machine.specs.Made.{InstrOf, madeView, begun, stepsOf, stepsTaken, Hold}
 use Rattle.machine.specs.Serial.{maxSteps}
-use Rattle.machine.specs.CodeLaws.{InstrOf, instr-of, function-length, function-end}
+use Rattle.machine.specs.CodeLaws.{instr-of, function-length, function-end}
 use Rattle.machine.specs.LookupLaws.{Covered, entry-covered, instr-covered, sets-distinct, lookup-covered, InTable}
 use Rattle.machine.specs.RestoreLaws.{made-restorable}
 use Rattle.machine.specs.HoldLaws.{Now, movedCells, hold-alike}
-use Rattle.machine.specs.StepRule.{Leaves, MadeOf, localAt, Match, transfer-short, transfer-moves, transfer-now, instr-match}
+use Rattle.machine.specs.StepRule.{Leaves, Completes, MadeOf, localAt, Match, transfer-short, transfer-moves, transfer-now, instr-match}
 
 -- ---- nothing moves
 
@@ -74,10 +75,26 @@ unfolding runBody
 body-over zero c body r = refl
 body-over (suc turns) c body r = refl
 
+none-taken : (fuel : ℕ) (v : View) (outcome count : ℕ) (cells : List ℤ) → stepsTaken fuel v (done outcome count cells) ≡ 0
+unfolding stepsTaken
+none-taken zero v outcome count cells = refl
+none-taken (suc fuel) v outcome count cells = refl
+
 steps-done : (fuel : ℕ) (v : View) (outcome count : ℕ) (cells : List ℤ) → stepsOf fuel v (done outcome count cells) ≡ done outcome count cells
 unfolding stepsOf
 steps-done zero v outcome count cells = refl
 steps-done (suc fuel) v outcome count cells = refl
+
+-- A call begun in these cells comes to its end in at most 66 steps, with what the rule leaves, in as many steps as the rule says.
+pub record CallCompletes (table : List ℕ) (left : Left) (v : View) (cells : List ℤ) : Type 0 where
+  pub leaves : Leaves table left (stepsOf maxSteps v (more (begun v cells) cells))
+  pub steps : stepsTaken maxSteps v (more (begun v cells) cells) ≡ stepsFor left
+
+-- The entry is one step.
+by-entry : (table : List ℕ) (left : Left) (v : View) (cells : List ℤ) → Completes table left 65 v (stepCall v (begun v cells) cells) 0
+    → CallCompletes table left v cells
+unfolding stepsOf stepsTaken
+by-entry table left v cells h = record { leaves = h .leaves; steps = omega (arith, h .steps) }
 
 -- A view with the entries and the keys of a call's sets and table finds and restores its cells.
 made-of : (file : List ℕ) (c : Call) (o : Option Function) (table : List ℕ) (room : ℕ) (v : View) → length table ≤ maxKeys
@@ -189,24 +206,30 @@ module _ (file : List ℕ) (bytes : Bytes file) (c : Call) (fits : CallFits c) (
 
   -- Each turn of the rule is one step, and jumps go forward, so the turns that are left suffice.
   run : (turns fuel p : ℕ) (ρ : List ℤ) (n : ℕ) (σ : State) (cells : List ℤ) → f .size + 1 ≤ turns + p → turns ≤ fuel → p ≤ f .size → Here σ cells
-      → Leaves table (settle start (runBody turns c body (before p ρ n σ))) (stepsOf fuel view (more (at (p + 1) ρ n) cells))
-  unfolding runBody stepsOf
+      → Completes table (settle start (runBody turns c body (before p ρ n σ))) fuel view (more (at (p + 1) ρ n) cells) n
+  unfolding runBody stepsOf stepsTaken
   run zero fuel p ρ n σ cells enough more′ l now = absurd (omega arith)
   run (suc turns) zero p ρ n σ cells enough more′ l now = absurd (omega arith)
   run (suc turns) (suc fuel) p ρ n σ cells enough more′ l now =
-      go (executeAt c p ρ n σ (getElem? body p)) (stepCall view (at (p + 1) ρ n) cells) (any-step p ρ n σ cells l now) (run turns fuel)
+      let next =
+      go (executeAt c p ρ n σ (getElem? body p)) (stepCall view (at (p + 1) ρ n) cells) (any-step p ρ n σ cells l now)
+      (turn-one start c p ρ n σ (getElem? body p)) (run turns fuel) in
+      record { leaves = next .0; steps = next .1 }
     where
-      go : (t : Course) (s : Stepped) → Matches p t s
+      go : (t : Course) (s : Stepped) → Matches p t s → OneMore start n t
           → ((q : ℕ) (ρ′ : List ℤ) (m : ℕ) (τ : State) (cells′ : List ℤ) → f .size + 1 ≤ turns + q → turns ≤ fuel → q ≤ f .size → Here τ cells′
-          → Leaves table (settle start (runBody turns c body (before q ρ′ m τ))) (stepsOf fuel view (more (at (q + 1) ρ′ m) cells′)))
-          → Leaves table (settle start (runBody turns c body t)) (stepsOf fuel view s)
-      go (before q ρ′ m τ) damaged match ih = absurd match
-      go (before q ρ′ m τ) (more l′ cells′) match ih =
-          rw (match .here) (ih q ρ′ m τ cells′ (omega (arith, match .forward)) (le-of-suc-le-suc more′) (match .inside) (match .now))
-      go (before q ρ′ m τ) (done outcome count cells′) match ih = absurd match
-      go (over r) damaged match ih = absurd match
-      go (over r) (more l′ cells′) match ih = absurd match
-      go (over r) (done outcome count cells′) match ih = rw (body-over turns c body r, steps-done fuel view outcome count cells′) match
+          → Completes table (settle start (runBody turns c body (before q ρ′ m τ))) fuel view (more (at (q + 1) ρ′ m) cells′) m)
+          → (Leaves table (settle start (runBody turns c body t)) (stepsOf fuel view s))
+          × (n + suc (stepsTaken fuel view s) ≡ bodySteps (settle start (runBody turns c body t)))
+      go (before q ρ′ m τ) damaged match one ih = absurd match
+      go (before q ρ′ m τ) (more l′ cells′) match one ih =
+          let rest = ih q ρ′ m τ cells′ (omega (arith, match .forward)) (le-of-suc-le-suc more′) (match .inside) (match .now) in
+          rw (match .here) (rest .leaves, omega (arith, rest .steps, one))
+      go (before q ρ′ m τ) (done outcome count cells′) match one ih = absurd match
+      go (over r) damaged match one ih = absurd match
+      go (over r) (more l′ cells′) match one ih = absurd match
+      go (over r) (done outcome count cells′) match one ih =
+          rw (body-over turns c body r, steps-done fuel view outcome count cells′, none-taken fuel view outcome count cells′) (match, omega (arith, one))
 
   -- ---- the entry
 
@@ -294,25 +317,28 @@ module _ (file : List ℕ) (bytes : Bytes file) (c : Call) (fits : CallFits c) (
   -- ---- the call
 
   -- The body behind the entry, in the 65 steps that are left.
-  body-run : (cells : List ℤ) → Here entered cells → Leaves table (runFunction file c start f) (stepsOf 65 view (more (at 1 zeroRegisters 0) cells))
+  body-run : (cells : List ℤ) → Here entered cells → Completes table (runFunction file c start f) 65 view (more (at 1 zeroRegisters 0) cells) 0
   unfolding runFunction
   body-run cells now =
       let size : length body ≡ f .size = function-length file f sound in
       let few′ : f .size ≤ 64 = sound .few in
       run (length body + 1) 65 0 zeroRegisters 0 entered cells (omega arith) (omega arith) (omega arith) now
 
-  known-function : Leaves table (transactionBy file c start (some f)) (stepsOf maxSteps view (more (begun view old) old))
-  unfolding transactionBy stepsOf
-  known-function = go (ltZ (pos 0) (c .value)) refl (ltZ (start (balanceKey payer)) (c .value)) refl
+  entered-completes : Completes table (transactionBy file c start (some f)) 65 view (stepCall view (at 0 zeroRegisters 0) old) 0
+  unfolding transactionBy stepsOf stepsTaken
+  entered-completes = go (ltZ (pos 0) (c .value)) refl (ltZ (start (balanceKey payer)) (c .value)) refl
     where
       go : (t : Bool) → ltZ (pos 0) (c .value) ≡ t → (u : Bool) → ltZ (start (balanceKey payer)) (c .value) ≡ u
-          → Leaves table (if u then record { outcome = 2; count = 0; state = start } else runFunction file c start f)
-          (stepsOf 65 view (stepCall view (at 0 zeroRegisters 0) old))
-      go true above true less = rw (entry-short above less) (record { same-outcome = refl; same-count = refl; hold = first })
+          → Completes table (if u then unbegun start 2 else runFunction file c start f) 65 view (stepCall view (at 0 zeroRegisters 0) old) 0
+      go true above true less =
+          rw (entry-short above less) (record { leaves = record { same-outcome = refl; same-count = refl; hold = first }; steps = refl })
       go true above false enough =
           rw (entry-moves above enough) (body-run (movedCells table old (balanceKey payer) (balanceKey paid) (c .value)) (entry-now above enough))
       go false none′ true less = absurd (never-short none′ less)
       go false none′ false enough = rw (entry-passes none′) (body-run old (passes-now none′ enough))
+
+  known-function : CallCompletes table (transactionBy file c start (some f)) view old
+  known-function = by-entry table (transactionBy file c start (some f)) view old entered-completes
 
 -- ---- the functions of a block
 
@@ -332,17 +358,19 @@ found-sound file (f ∷ fs) c all = go (eqb (functionId f) (callId c)) (found-so
 
 -- "unknown function, outcome 1"
 unknown-function : (file : List ℕ) (c : Call) (table : List ℕ) (σ : State) (v : View) (cells : List ℤ) → v .code ≡ 0 → Hold table σ cells
-    → Leaves table (transactionBy file c σ none) (stepsOf maxSteps v (more (begun v cells) cells))
-unfolding transactionBy stepsOf stepCall stepEntry
-unknown-function file c table σ v cells e first = rw e (record { same-outcome = refl; same-count = refl; hold = first })
+    → CallCompletes table (transactionBy file c σ none) v cells
+unfolding transactionBy stepsOf stepsTaken stepCall stepEntry
+unknown-function file c table σ v cells e first =
+    by-entry table (transactionBy file c σ none) v cells
+    (rw e (record { leaves = record { same-outcome = refl; same-count = refl; hold = first }; steps = refl }))
 
 -- A call of any accepted block, begun in cells that hold a state within the balance limit and stepped at most 66 times, has ended: its
--- outcome and count are those of the published rule at that state, and its cells hold the state that the rule leaves.
+-- outcome and count are those of the published rule at that state, its cells hold the state that the rule leaves, and its steps are as many
+-- as the rule says.
 pub call-rule : (file : List ℕ) → Bytes file → (functions : List Function) → reader.Each (λ i f. Sound file f) functions → (c : Call) → CallFits c
     → (table : List ℕ) → length table ≤ maxKeys → InTable table (setsOf file functions c) → length (setsOf file functions c) ≤ maxCallKeys → (room : ℕ)
     → (σ : State) → stateWithinLimit σ ≡ true → (cells : List ℤ) → Hold table σ cells
-    → Leaves table (transaction file functions c σ)
-    (stepsOf maxSteps (madeView file room functions table c) (more (begun (madeView file room functions table c) cells) cells))
+    → CallCompletes table (transaction file functions c σ) (madeView file room functions table c) cells
 unfolding codeWords
 call-rule file bytes functions all c fits table few known small room σ within cells first =
     go (functionOf functions c) (found-sound file functions c all) known small
@@ -360,6 +388,6 @@ call-rule file bytes functions all c fits table few known small room σ within c
         }
 
     go : (o : Option Function) → OfSound file o → InTable table (functionSets file c o) → length (functionSets file c o) ≤ maxCallKeys
-        → Leaves table (transactionBy file c σ o) (stepsOf maxSteps (viewBy o) (more (begun (viewBy o) cells) cells))
+        → CallCompletes table (transactionBy file c σ o) (viewBy o) cells
     go none sound known′ small′ = unknown-function file c table σ (viewBy none) cells refl first
     go (some f) sound known′ small′ = known-function file bytes c fits f sound table few known′ small′ room σ within cells first

@@ -18,6 +18,7 @@ use Rattle.block.specs.declared.Decoded.{Decoded}
 use Rattle.block.specs.declared.Decoded.the-variants.{Valid, Invalid}
 use Rattle.block.specs.declared.Instr.{Instr}
 use Rattle.footprint.specs.Rule.{withInstr, bodyOf}
+use Rattle.machine.specs.Made.{InstrOf}
 
 -- ---- the same bytes are the same instruction
 
@@ -114,12 +115,6 @@ past-end : {A : Type 0} (l : List A) (n : ℕ) → length l ≡ n → getElem? l
 past-end [] n e = refl
 past-end (a ∷ l) zero e = absurd (omega arith)
 past-end (a ∷ l) (suc n) e = past-end l n (omega arith)
-
--- The instruction at an index of a function: a step decodes it from the file, the rule's body has it from the stretch.
-pub record InstrOf (file : List ℕ) (f : Function) (p : ℕ) : Type 0 where
-  pub instr : Instr
-  pub decoded : decode p (f .size) (drop (f .start + instrBytes * p) file) ≡ Valid instr
-  pub listed : getElem? (bodyOf (f .size) 0 (f .size) (codeAt file (f .start) (f .size))) p ≡ some instr
 
 module _ (file : List ℕ) (f : Function) where
   stretch-agrees : Agree (instrBytes * f .size) (codeAt file (f .start) (f .size)) (drop (f .start) file)

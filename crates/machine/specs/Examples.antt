@@ -5,12 +5,13 @@ use Prim.Native.Nat.{ℕ, _+_, _-_, _^_}
 use lib.IntN.{pos, negsuc}
 use lib.ListN.{take, set}
 use Rattle.schedule.specs.declared.Move.the-variants.{Begin, Step, Cancel}
-use Rattle.block.specs.Assemble.{text, joined, THROW, PUT, function, cell, call, end}
+use Rattle.block.specs.Assemble.{text, joined, STOP, THROW, SET, PUT, function, cell, call, end}
 use Rattle.block.specs.Worked.{P}
 use Rattle.machine.specs.Answer.{answerNumber}
 use Rattle.machine.specs.Run.{Run}
 use Rattle.machine.specs.Opening.{opened}
 use Rattle.machine.specs.Moves.{beginOf, stepOf, cancelOf, runAfter, answersOf}
+use Rattle.machine.specs.Serial.{serialSteps}
 use Rattle.machine.specs.Damage.{tooShort, planAt, keyAt, valueAt, statusAt, oldAt, workersAs, callsAs, firstAs, seatAs}
 use Rattle.machine.specs.Computing.{computing}
 
@@ -45,6 +46,18 @@ thrower =
 unfoldable pub atThrow : Run
 atThrow = runAfter thrower (opened thrower) (Begin 0 0 ∷ Step 0 ∷ Step 0 ∷ [])
 
+-- Calls that end by STOP, behind an instruction, by THROW and in a code of none; of an unknown function; and of an account without the value.
+unfoldable pub endings : List ℕ
+endings =
+    joined
+    (function 32768 0 (STOP ∷ [])
+    ∷ function 32768 1 (SET 0 (pos 1) ∷ [])
+    ∷ function 32768 2 (THROW ∷ [])
+    ∷ function 32768 3 []
+    ∷ call 5 32768 0 (pos 0)
+    ∷ call 5 32768 1 (pos 0)
+    ∷ call 5 32768 2 (pos 0) ∷ call 5 32768 3 (pos 0) ∷ call 5 32768 4 (pos 0) ∷ call 5 32768 0 (pos 1) ∷ end ∷ [])
+
 -- The answers of one move in several runs.
 abbrev begins : ℕ → ℕ → List Run → List ℕ
 begins w c rs = map (λ r. answerNumber (beginOf r w c .answer)) rs
@@ -65,10 +78,12 @@ pub record Moves-P : Type 0 where
   -- PUT then THROW: the cell is as before, outcome 3, count 2.
   pub thrown : take 2 (runAfter thrower atThrow (Step 0 ∷ []) .cells) ≡ pos 9 ∷ pos 0 ∷ []
   pub receipt : take 3 (runAfter thrower atThrow (Step 0 ∷ []) .status) ≡ 2 ∷ 3 ∷ 2 ∷ []
+  -- "A call's steps are its entry, its counted instructions, and one for reaching the end": there is none behind STOP.
+  pub stepped : map (serialSteps endings (opened endings)) (0 ∷ 1 ∷ 2 ∷ 3 ∷ 4 ∷ 5 ∷ []) ≡ 2 ∷ 3 ∷ 2 ∷ 2 ∷ 1 ∷ 1 ∷ []
 
 pub moves-of-p : Moves-P
-unfolding computing text joined P thrower start begun atPut atThrow
-moves-of-p = record { answered = refl; cancelled = refl; restored = refl; thrown = refl; receipt = refl }
+unfolding computing text joined P thrower endings start begun atPut atThrow
+moves-of-p = record { answered = refl; cancelled = refl; restored = refl; thrown = refl; receipt = refl; stepped = refl }
 
 pub record Damaged : Type 0 where
   -- BEGIN: the sizes, the workers (then 21), the calls (then 22), the held call (then 23), the call's state (then 24), the states of

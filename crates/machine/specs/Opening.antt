@@ -7,12 +7,13 @@ use lib.Dec.{eqb, ltb}
 use Rattle.arith.specs.Choice.{if_then_else_}
 use Rattle.wire.specs.Bytes.{repeated}
 use Rattle.block.specs.Limits.{maxWorkers}
+use Rattle.block.specs.Reader.{readBlock}
 use Rattle.block.specs.declared.Refusal.{Refusal}
 use Rattle.block.specs.declared.Refusal.the-variants.{Workers, Buffers}
 use Rattle.block.specs.declared.Verdict.{Verdict}
 use Rattle.block.specs.declared.Verdict.the-variants as verdict
-use Rattle.footprint.specs.Plan.{Prepared, preparedOf}
-use Rattle.machine.specs.Run.{Run, Sizes, fixedSizes, largeEnough, idleSeat}
+use Rattle.footprint.specs.Plan.{Prepared, prepareRead}
+use Rattle.machine.specs.Run.{Run, Sizes, fixedSizes, roomIn, largeEnough, idleSeat}
 use Rattle.machine.specs.declared.Head.{Head}
 
 pub record Opened : Type 0 where
@@ -59,7 +60,7 @@ openPrepared s workers p verdict.Accepted =
 -- "Order: 20 (below; here with offset 0 and buffers zero), 13, 1; by record ..; after the end 8; then by call 11, 12."
 unfoldable pub openingOf : Sizes → List ℕ → (workers : ℕ) → Opened
 openingOf s file workers =
-    let p : Prepared = preparedOf (record { plan = s .plan; keys = s .keys; cells = s .cells }) file in
+    let p : Prepared = prepareRead (roomIn s) file (readBlock file) in
     if not (largeEnough s)
     then refusedRun s Buffers
     else if eqb workers 0 || ltb maxWorkers workers

@@ -5,8 +5,8 @@ use Prim.Native.Nat.{ℕ, _+_, _*_, _/_, _%_}
 use lib.IntN.{ℤ, pos}
 use lib.Dec.{eqb, leb}
 use lib.ListN.{length, getD, take, drop, set}
-use Rattle.block.specs.Limits.{maxCalls, maxCallKeys, maxKeys, maxWorkers}
-use Rattle.footprint.specs.Plan.{planWords, highWord, lowWord}
+use Rattle.block.specs.Limits.{maxCalls, maxCallKeys, maxWorkers}
+use Rattle.footprint.specs.Plan.{planWords, highWord, lowWord, Room, fixedRoom, roomEnough}
 use Rattle.machine.specs.declared.Seat.{Seat}
 use Rattle.machine.specs.declared.Head.{Head}
 
@@ -37,21 +37,20 @@ sizesOf r = record { plan = length (r .plan); keys = length (r .keys); cells = l
 abbrev pub fixedSizes : Sizes
 fixedSizes =
     record {
-      plan = maxCalls * planWords;
-      keys = maxKeys * 2;
-      cells = maxKeys;
+      plan = fixedRoom .plan;
+      keys = fixedRoom .keys;
+      cells = fixedRoom .cells;
       status = maxCalls * statusWords;
       olds = maxWorkers * maxCallKeys;
     }
 
+-- The three buffers that an opening prepares.
+abbrev pub roomIn : Sizes → Room
+roomIn s = record { plan = s .plan; keys = s .keys; cells = s .cells }
+
 -- 20: "a lent buffer .. shorter than the fixed size"
 unfoldable pub largeEnough : Sizes → Bool
-largeEnough s =
-    leb (fixedSizes .plan) (s .plan)
-    && leb (fixedSizes .keys) (s .keys)
-    && leb (fixedSizes .cells) (s .cells)
-    && leb (fixedSizes .status) (s .status)
-    && leb (fixedSizes .olds) (s .olds)
+largeEnough s = roomEnough (roomIn s) && leb (fixedSizes .status) (s .status) && leb (fixedSizes .olds) (s .olds)
 
 -- "A worker's eight registers start at zero at each BEGIN."
 abbrev pub zeroRegisters : List ℤ

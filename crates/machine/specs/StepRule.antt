@@ -36,10 +36,11 @@ use Rattle.footprint.specs.Rule as rule
 use Rattle.footprint.specs.Rule.{State, update, credit, debit, ends, fails, Course, before, over, transfer, execute, Left, settle}
 use Rattle.footprint.specs.LimitLaws.{balanceKey, cell-is-not, limit-balance, limit-sum}
 use Rattle.footprint.specs.RuleLimit.{CallFits}
+use Rattle.footprint.specs.StepLaws.{bodySteps}
 use Rattle.machine.specs.Action as action
 use Rattle.machine.specs.Action.{thrown, payAction, instrAction}
 use Rattle.machine.specs.Step.{View, Local, Stepped, damaged, more, done, cellAt, lookup, restorable, savedOf, restored, finish, goOn, loadCell, storeCell, depositCell, transferCells, perform, performAction}
-use Rattle.machine.specs.Made.{Hold}
+use Rattle.machine.specs.Made.{stepsOf, stepsTaken, Hold}
 use Rattle.machine.specs.LookupLaws.{Covered, InTable}
 use Rattle.machine.specs.RestoreLaws.{back}
 use Rattle.machine.specs.HoldLaws.{Now, movedCells, now-store, now-move, hold-back}
@@ -56,6 +57,11 @@ abbrev pub Leaves : List ℕ → Left → Stepped → Type 0
 Leaves table left damaged = ⊥
 Leaves table left (more l cells) = ⊥
 Leaves table left (done outcome count cells) = Settled table left outcome count cells
+
+-- At most `fuel` steps from here lead to the call's end, with what the rule leaves; and they are the steps of the rule's body beyond a count of n.
+pub record Completes (table : List ℕ) (left : Left) (fuel : ℕ) (v : View) (s : Stepped) (n : ℕ) : Type 0 where
+  pub leaves : Leaves table left (stepsOf fuel v s)
+  pub steps : n + stepsTaken fuel v s ≡ bodySteps left
 
 -- What a view is made of: a table of at most 1,024 keys and sets whose keys are all in it, found and restored by its entries.
 pub record MadeOf (v : View) (table : List ℕ) (es : List Access) : Type 0 where
@@ -171,7 +177,7 @@ module _ (v : View) (table : List ℕ) (es : List Access) (made : MadeOf v table
     end-match : (outcome : ℕ) → ltb outcome thrown ≡ false → Matches p (over (fails outcome n)) (finish v here n outcome cells)
     end-match outcome high = fails-match σ cells now here refl p n outcome high
 
-    stop-match : Matches p (over (ends σ n)) (finish v here n 0 cells)
+    stop-match : Matches p (over (ends σ n false)) (finish v here n 0 cells)
     unfolding finish settle
     stop-match = record { same-outcome = refl; same-count = refl; hold = now .hold }
 

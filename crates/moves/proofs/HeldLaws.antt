@@ -12,7 +12,8 @@ use lib.Seq.{set-getD}
 use native.Mathlib.Nat.{not-suc-le-zero, le-of-suc-le-suc}
 use Rattle.arith.specs.Choice.{if_then_else_}
 use Rattle.block.specs.Limits.{maxCalls, maxWorkers}
-use Rattle.machine.specs.Run.{Sizes, fixedSizes, idleSeat, largeEnough, seatOf, sizesOf, withSeat}
+use Rattle.footprint.specs.Plan.{roomEnough}
+use Rattle.machine.specs.Run.{Sizes, fixedSizes, idleSeat, roomIn, largeEnough, seatOf, sizesOf, withSeat}
 use Rattle.machine.specs.Moves.{Moved, stay, answered, holds, heldBy}
 use Rattle.machine.specs.declared.Head.{Head}
 use Rattle.machine.specs.declared.Seat.{Seat}
@@ -48,14 +49,14 @@ or-left false b e = refl
 
 module _ (s : Sizes) (large : true ≡ largeEnough s) where
   pub large-plan : fixedSizes .plan ≤ s .plan
-  unfolding largeEnough
+  unfolding largeEnough roomEnough
   large-plan = leb-true _ _ (sym (and-left _ _ (and-left _ _ (and-left _ _ (and-left _ _ large)))))
 
   pub large-olds : fixedSizes .olds ≤ s .olds
   unfolding largeEnough
   large-olds =
       leb-true _ _
-      (sym (and-right (leb (fixedSizes .plan) (s .plan) && leb (fixedSizes .keys) (s .keys) && leb (fixedSizes .cells) (s .cells) && leb (fixedSizes .status) (s .status)) _ large))
+      (sym (and-right (roomEnough (roomIn s) && leb (fixedSizes .status) (s .status)) _ large))
 
 -- ---- the seats
 

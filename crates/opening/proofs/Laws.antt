@@ -4,10 +4,11 @@ use mathlib.Core.Bool.{Bool, true, false, _||_, not}
 use mathlib.Core.List.{List}
 use Prim.Native.Nat.{ℕ}
 use native.Mathlib.Omega.{arith}
-use lib.Dec.{eqb, ltb}
+use lib.Dec.{eqb, leb, ltb}
 use lib.IntN.{ℤ, pos}
 use lib.ListN.{length}
 use Rattle.arith.specs.Choice.{if_then_else_}
+use Rattle.arith.specs.ChoiceLaws.{both}
 use Rattle.wire.specs.Bytes.{repeated}
 use Rattle.block.specs.Limits.{maxWorkers}
 use Rattle.block.specs.Reader as reading
@@ -24,7 +25,7 @@ use Rattle.analysis.specs.declared.Prepared.{Prepared}
 use Rattle.analysis.specs.Preparing.{preparing, roomOf}
 use Rattle.machine.specs.Opening as machine
 use Rattle.machine.specs.Opening.{headOf, refusedRun, openPrepared, openingOf}
-use Rattle.machine.specs.Run.{Sizes, largeEnough}
+use Rattle.machine.specs.Run.{Sizes, fixedSizes, roomIn, largeEnough}
 use Rattle.opening.specs.declared.Opened.{Opened}
 use Rattle.opening.specs.Opened.{sizesFor, opening, testedFor, openedBy, noneOf}
 
@@ -47,7 +48,7 @@ tests-pass false b s x e = let z : _≡_ {A = ℕ} 0 1 = cc in absurd (omega ari
 
 -- The block as it is prepared in the room of these sizes.
 abbrev preparedIn : Sizes → List ℕ → footprint.Prepared
-preparedIn s file = preparedOf (roomOf (s .plan) (s .keys) (s .cells)) file
+preparedIn s file = prepareRead (roomIn s) file (readBlock file)
 
 module _ (s : Sizes) (file : List ℕ) (workers : ℕ) where
   opening-refused : (why : Refusal) → testedFor (largeEnough s) workers ≡ verdict.Refused why → openingOf s file workers ≡ refusedRun s why
@@ -83,14 +84,16 @@ unfolding prepareRead
 read-zero r file (reading.refused why) = unprepared-zero r why
 read-zero r file (reading.accepted b) = analysed-zero r b _
 
-either-zero : (r : Room) (a : Bool) (p q : footprint.Prepared) → Zeroed r p → Zeroed r q → Zeroed r (if a then p else q)
-either-zero r true p q x y = x
-either-zero r false p q x y = y
+-- In buffers that are large enough the sizes are not what a block is refused by.
+large-tested : (large : Bool) (workers : ℕ) → testedFor large workers ≡ verdict.Accepted → large ≡ true
+unfolding testedFor
+large-tested true workers e = refl
+large-tested false workers e = let z : _≡_ {A = ℕ} 0 1 = cc in absurd (omega arith)
 
-prepared-zero : (r : Room) (file : List ℕ) → Zeroed r (preparedOf r file)
-unfolding preparedOf
-prepared-zero r file =
-    either-zero r (roomEnough r) (prepareRead r file (readBlock file)) (unprepared r Buffers) (read-zero r file (readBlock file)) (unprepared-zero r Buffers)
+prepared-large : (s : Sizes) (file : List ℕ) → largeEnough s ≡ true → preparedOf (roomIn s) file ≡ preparedIn s file
+unfolding largeEnough preparedOf
+prepared-large s file large =
+    rw (both (roomEnough (roomIn s)) (leb (fixedSizes .status) (s .status)) (both _ (leb (fixedSizes .olds) (s .olds)) large .0) .0)
 
 -- A head and five lists that are equal, part by part.
 same-run : (v : Verdict) (w c n f c′ n′ f′ : ℕ) (x x′ y y′ : List ℕ) (z z′ : List ℤ) (t t′ : List ℕ) (o o′ : List ℤ)
@@ -174,10 +177,18 @@ module _ (n m k t o : ℕ) (file : List ℕ) (workers : ℕ) (plan keys : List �
       → opening r plan′ keys′ cells′ status olds ≡ openingOf (sizesFor n m k t o) file workers
   open-passed p plan′ keys′ cells′ r h e made =
       ap (λ (x : Opened). opening x plan′ keys′ cells′ status olds) made
-      ∙ prepared-run (sizesFor n m k t o) workers p plan′ keys′ cells′ status olds (preparedOf (roomOf n m k) file)
-      (e ∙ ap (λ (x : Room). preparedOf x file) (same n m k (length plan) (length keys) (length cells) (z .plan-kept) (z .keys-kept) (z .cells-kept)))
-      (prepared-zero (roomOf n m k) file) (z .status-zero) (z .olds-zero)
-      ∙ sym (opening-passed (sizesFor n m k t o) file workers (sym tested-as ∙ h))
+      ∙ prepared-run (sizesFor n m k t o) workers p plan′ keys′ cells′ status olds (preparedIn (sizesFor n m k t o) file)
+      (e
+      ∙ ap (λ (x : Room). preparedOf x file) (same n m k (length plan) (length keys) (length cells) (z .plan-kept) (z .keys-kept) (z .cells-kept))
+      ∙ prepared-large (sizesFor n m k t o) file large-is)
+      (read-zero (roomOf n m k) file (readBlock file)) (z .status-zero) (z .olds-zero)
+      ∙ sym (opening-passed (sizesFor n m k t o) file workers passed)
     where
+      passed : testedFor (largeEnough (sizesFor n m k t o)) workers ≡ verdict.Accepted
+      passed = sym tested-as ∙ h
+
+      large-is : largeEnough (sizesFor n m k t o) ≡ true
+      large-is = large-tested (largeEnough (sizesFor n m k t o)) workers passed
+
       same : (n m k n′ m′ k′ : ℕ) → n′ ≡ n → m′ ≡ m → k′ ≡ k → roomOf n′ m′ k′ ≡ roomOf n m k
       same n m k n′ m′ k′ a b c = rw (a, b, c)

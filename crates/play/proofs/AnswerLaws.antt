@@ -1,5 +1,6 @@
 -- A whole line played, its answer written, over plain variables. Assumes nothing.
 use mathlib.Core.Path.{_≡_, refl, sym, ap, _∙_}
+use mathlib.Core.Bool.{false}
 use mathlib.Core.List.{List, [], _∷_}
 use mathlib.Core.Option.{Option, none, some}
 use Prim.Native.Nat.{ℕ, zero, suc}
@@ -15,8 +16,8 @@ use Rattle.machine.specs.declared.Answer.{Answer}
 use Rattle.moves.specs.Lent.{moved}
 use Rattle.text.specs.Lines.{refusedText}
 use Rattle.text.specs.Written.{Written}
-use Rattle.console.specs.Line.{lineMove}
-use Rattle.console.specs.Register.{Session, answerText, nextNumber, afterMove, playMove, playLine, playEnd}
+use Rattle.console.specs.Line.{isEmpty, lineMove}
+use Rattle.console.specs.Register.{answerText, nextNumber, afterMove, playMove, playLine, playEnd}
 use Rattle.console.specs.declared.Line.{Line}
 use Rattle.console.specs.declared.Line.the-variants.{Empty, Named, Spaced, First, Between, Second, Malformed}
 use Rattle.console.proofs.Line
@@ -60,22 +61,23 @@ module _ (block : List ℕ) (number : ℕ) (line : Line) (run : Run) (out after 
 abbrev some-read : List ℕ
 some-read = 1 ∷ 2 ∷ 3 ∷ 4 ∷ 5 ∷ 6 ∷ []
 
-end-played : (block : List ℕ) (s : Session) (line : Line) → OneOf some-read (tagOf Line.the-type line) → playLine block s ≡ playEnd block s line
-unfolding playEnd
-end-played block s Empty h = absurd (miss some-read 0 tt h)
-end-played block s (Named l) h = refl
-end-played block s (Spaced l) h = refl
-end-played block s (First l digits n) h = refl
-end-played block s (Between w) h = refl
-end-played block s (Second w digits n) h = refl
-end-played block s Malformed h = refl
+not-empty : (line : Line) → OneOf some-read (tagOf Line.the-type line) → isEmpty line ≡ false
+unfolding isEmpty
+not-empty Empty h = absurd (miss some-read 0 tt h)
+not-empty (Named l) h = refl
+not-empty (Spaced l) h = refl
+not-empty (First l digits n) h = refl
+not-empty (Between w) h = refl
+not-empty (Second w digits n) h = refl
+not-empty Malformed h = refl
 
 -- An empty rest is no line.
 pub end-empty : (block : List ℕ) (number : ℕ) (line : Line) (run : Run) (out : List ℕ) → line ≡ Empty
-    → told number line run out 0 ≡ shown out 0 (playEnd block (begun number line run) line)
-unfolding playEnd stored
+    → told number line run out 0 ≡ shown out 0 (playEnd block (begun number line run))
+unfolding playEnd isEmpty stored
 end-empty block number line run out e = rw e refl
 
 pub end-line : (block : List ℕ) (number : ℕ) (line : Line) (run : Run) (out : List ℕ) → OneOf some-read (tagOf Line.the-type line)
-    → {w : Shown} → w ≡ shown out 0 (playLine block (begun number line run)) → w ≡ shown out 0 (playEnd block (begun number line run) line)
-end-line block number line run out h e = e ∙ ap (shown out 0) (end-played block (begun number line run) line h)
+    → {w : Shown} → w ≡ shown out 0 (playLine block (begun number line run)) → w ≡ shown out 0 (playEnd block (begun number line run))
+unfolding playEnd
+end-line block number line run out h e = rw (not-empty line h) e

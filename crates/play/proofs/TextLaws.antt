@@ -8,16 +8,15 @@ use native.Mathlib.Omega.{arith}
 use lib.Dec.{eqb}
 use lib.IntN.{ℤ}
 use lib.ListN.{length, length-append}
+use Rattle.arith.specs.ChoiceLaws.{if-all}
 use Rattle.wire.specs.Decimal.{lineFeed, decimal, signedDecimal, parts}
 use Rattle.schedule.specs.declared.Move.{Move}
 use Rattle.machine.specs.Answer.{answerNumber}
 use Rattle.machine.specs.Moves.{moveOf}
 use Rattle.text.specs.Lines.{refusedText, cellText, receiptText}
 use Rattle.text.proofs.Laws.{digits-length, signed-length}
-use Rattle.console.specs.Line.{lineMove}
+use Rattle.console.specs.Line.{isEmpty, lineMove}
 use Rattle.console.specs.Register.{Session, answerText, playMove, playLine, playByte, playBytes, playEnd}
-use Rattle.console.specs.declared.Line.{Line}
-use Rattle.console.specs.declared.Line.the-variants.{Empty, Named, Spaced, First, Between, Second, Malformed}
 use Rattle.play.specs.Passed.{maxAnswer}
 use Rattle.play.specs.Printed.{maxRecordText}
 
@@ -57,15 +56,10 @@ unfolding playBytes
 bytes-grow block s [] = omega arith
 bytes-grow block s (x ∷ xs) = omega (arith, byte-grows block s x, bytes-grow block (playByte block s x) xs)
 
-pub end-grows : (block : List ℕ) (s : Session) (line : Line) → length (playEnd block s line .output) ≤ length (s .output) + maxAnswer
+pub end-grows : (block : List ℕ) (s : Session) → length (playEnd block s .output) ≤ length (s .output) + maxAnswer
 unfolding playEnd
-end-grows block s Empty = omega arith
-end-grows block s (Named l) = line-grows block s
-end-grows block s (Spaced l) = line-grows block s
-end-grows block s (First l digits n) = line-grows block s
-end-grows block s (Between w) = line-grows block s
-end-grows block s (Second w digits n) = line-grows block s
-end-grows block s Malformed = line-grows block s
+end-grows block s =
+    if-all (λ (t : Session). length (t .output) ≤ length (s .output) + maxAnswer) (isEmpty (s .line)) (λ e. omega arith) (λ e. line-grows block s)
 
 pub cell-short : (address field a b : ℕ) (z : ℤ) → length (cellText address field a b z) ≤ maxRecordText
 unfolding parts

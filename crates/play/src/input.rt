@@ -233,7 +233,7 @@ pub fn play_end(
     olds: &mut [i64],
     out: &mut [u8],
 ) -> Played
-    ensures { λ r. ⌜ told (r .session .number) (r .session .line) (lent (r .session .head) (now (plan .entry)) (now (keys .entry)) (now (cells .exit)) (now (status .exit)) (now (olds .exit))) (now (out .exit)) (r .length) ≡ shown (now (out .entry)) 0 (playEnd (now (block .entry)) (begun (s .number) (s .line) (lent (s .head) (now (plan .entry)) (now (keys .entry)) (now (cells .entry)) (now (status .entry)) (now (olds .entry)))) (s .line)) ⌝ }
+    ensures { λ r. ⌜ told (r .session .number) (r .session .line) (lent (r .session .head) (now (plan .entry)) (now (keys .entry)) (now (cells .exit)) (now (status .exit)) (now (olds .exit))) (now (out .exit)) (r .length) ≡ shown (now (out .entry)) 0 (playEnd (now (block .entry)) (begun (s .number) (s .line) (lent (s .head) (now (plan .entry)) (now (keys .entry)) (now (cells .entry)) (now (status .entry)) (now (olds .entry))))) ⌝ }
 {
     let number = s.number;
     let line = s.line;

@@ -4,13 +4,14 @@ use mathlib.Core.List.{List, [], _∷_, _++_, map}
 use Prim.Native.Nat.{ℕ}
 use lib.IntN.{pos, negsuc}
 use Rattle.wire.specs.Bytes.{repeated}
-use Rattle.block.specs.Assemble.{joined, recordOf, cell, end}
+use Rattle.block.specs.Record.{recordOf}
+use Rattle.block.specs.Assemble.{joined, cell, end}
 use Rattle.block.specs.Worked.{P}
 use Rattle.machine.specs.Run.{Run}
 use Rattle.machine.specs.Opening.{opened}
 use Rattle.machine.specs.Serial.{serialRun}
 use Rattle.machine.specs.Damage.{tooShort, valueAt, statusAt, callsAs, cellsAs, workersAs}
-use Rattle.sheet.specs.Sheet.{closingNumber, sheetOf, sheetBytes, nextBlock}
+use Rattle.sheet.specs.Sheet.{closingNumber, sheetOf, sheetBytes, nextFile}
 use Rattle.sheet.specs.Computing.{computing}
 
 -- Block P with all its calls finished, and its sheet: three cells, three receipts and the end, of 100 bytes.
@@ -26,14 +27,17 @@ sheetP =
     ∷ recordOf 5 (0 ∷ 0 ∷ 2 ∷ 0 ∷ [])
     ∷ recordOf 5 (0 ∷ 0 ∷ 3 ∷ 0 ∷ []) ∷ recordOf 5 (0 ∷ 0 ∷ 2 ∷ 0 ∷ []) ∷ end ∷ [])
 
--- The answers to several runs, with room for the sheet.
+-- The answers to several runs, with room for the sheet, and with one byte too few.
 abbrev closings : List Run → List ℕ
 closings rs = map (λ r. closingNumber (sheetOf r (repeated 100 0) .answer)) rs
+
+abbrev shortClosings : List Run → List ℕ
+shortClosings rs = map (λ r. closingNumber (sheetOf r (repeated 99 0) .answer)) rs
 
 pub record Sheet-P : Type 0 where
   pub bytes : sheetBytes closed ≡ sheetP
   -- The next day opens from its cells, in which account 5 has none left.
-  pub next-day : sheetBytes (opened (nextBlock closed)) ≡ nextBlock closed
+  pub next-day : sheetBytes (opened (nextFile closed [] [])) ≡ nextFile closed [] []
   -- 28 with one byte too few, where the output is unchanged; a sheet of exactly the output's length fits; bytes behind it are unchanged.
   pub too-long : closingNumber (sheetOf closed (repeated 99 7) .answer) ≡ 28
   pub unchanged : sheetOf closed (repeated 99 7) .output ≡ repeated 99 7
@@ -42,13 +46,18 @@ pub record Sheet-P : Type 0 where
   -- 27 with a call unfinished; 27 comes before 28.
   pub unfinished : closings (opened P ∷ statusAt 8 1 closed ∷ closed ∷ []) ≡ 27 ∷ 27 ∷ 0 ∷ []
   pub order : closingNumber (sheetOf (opened P) [] .answer) ≡ 27
-  -- 20: the sizes, the number of calls, the states (before 27), the receipts, the number of cells, a balance below zero; the number of
+  -- 20: the sizes, the number of calls, the states (before 27), the number of cells, a balance below zero, the receipts; the number of
   -- workers is not looked at.
   pub sizes : closings (tooShort closed) ≡ 20 ∷ 20 ∷ 20 ∷ 20 ∷ 20 ∷ []
   pub numbers : closings (callsAs 257 closed ∷ cellsAs 1025 closed ∷ workersAs 0 closed ∷ []) ≡ 20 ∷ 20 ∷ 0 ∷ []
   pub states : closings (statusAt 0 3 closed ∷ statusAt 0 3 (opened P) ∷ []) ≡ 20 ∷ 20 ∷ []
-  pub receipts : closings (statusAt 1 6 closed ∷ statusAt 2 65 closed ∷ statusAt 2 64 closed ∷ []) ≡ 20 ∷ 20 ∷ 0 ∷ []
   pub balances : closings (valueAt 1 (negsuc 0) closed ∷ valueAt 3 (negsuc 0) closed ∷ []) ≡ 20 ∷ 0 ∷ []
+  pub receipts : closings (statusAt 1 6 closed ∷ statusAt 2 65 closed ∷ statusAt 2 64 closed ∷ []) ≡ 20 ∷ 20 ∷ 0 ∷ []
+  -- With an output too short, what 28 uses is still 20, and what only the writing uses is not looked at: the number of cells and a balance
+  -- come before 28, an outcome and a count behind it.
+  pub before-28 : shortClosings (cellsAs 1025 closed ∷ valueAt 1 (negsuc 0) closed ∷ closed ∷ []) ≡ 20 ∷ 20 ∷ 28 ∷ []
+  pub behind-28 : shortClosings (statusAt 1 6 closed ∷ statusAt 2 65 closed ∷ []) ≡ 28 ∷ 28 ∷ []
+  pub both : shortClosings (valueAt 1 (negsuc 0) (statusAt 1 6 closed) ∷ []) ≡ 20 ∷ []
 
 pub sheet-of-p : Sheet-P
 unfolding computing joined P closed sheetP tooShort
@@ -65,6 +74,9 @@ sheet-of-p =
       sizes = refl;
       numbers = refl;
       states = refl;
-      receipts = refl;
       balances = refl;
+      receipts = refl;
+      before-28 = refl;
+      behind-28 = refl;
+      both = refl;
     }

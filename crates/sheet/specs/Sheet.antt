@@ -10,7 +10,9 @@ use Rattle.arith.specs.Choice.{if_then_else_}
 use Rattle.arith.specs.Exact.{unsigned}
 use Rattle.wire.specs.Bytes.{bytesOf, stored}
 use Rattle.block.specs.Limits.{maxCalls, maxCode, maxKeys}
-use Rattle.block.specs.Record.{cellKind, receiptKind, endKind}
+use Rattle.block.specs.Record.{recordOf, cellKind, receiptKind, endKind}
+use Rattle.block.specs.Encoding.{Routine, functionRecord, callRecord, records}
+use Rattle.block.specs.declared.Call.{Call}
 use Rattle.machine.specs.Answer.{answerNumber}
 use Rattle.machine.specs.Run.{Run, sizesOf, largeEnough, statusWord, stateOf, isState, finished}
 use Rattle.machine.specs.Action.{notPaid}
@@ -24,10 +26,6 @@ use Rattle.sheet.specs.declared.Closing.the-variants.{Written, Refused}
 unfoldable pub closingNumber : Closing → ℕ
 closingNumber (Written n) = 0
 closingNumber (Refused a) = answerNumber a
-
--- A record: "length (2 bytes, of the body), kind (2), body".
-abbrev pub recordOf : ℕ → List ℕ → List ℕ
-recordOf kind body = bytesOf 2 (length body) ++ bytesOf 2 kind ++ body
 
 -- The two words of a cell's key: address, field and a; then b.
 abbrev pub keyHigh : List ℕ → ℕ → ℕ
@@ -60,9 +58,11 @@ unfoldable pub sheetBytes : Run → List ℕ
 sheetBytes r =
     cellRecords (r .keys) (r .cells) (r .head .cells) 0 ++ receiptRecords (r .status) (r .head .calls) 0 ++ recordOf endKind []
 
--- "Its kind 2 records open the next block": those records and an end.
-abbrev pub nextBlock : Run → List ℕ
-nextBlock r = cellRecords (r .keys) (r .cells) (r .head .cells) 0 ++ recordOf endKind []
+-- "Its kind 2 records open the next block": the file of the next day, of some functions, these records and some calls.
+abbrev pub nextFile : Run → List Routine → List Call → List ℕ
+nextFile r functions calls =
+    records functionRecord functions
+    ++ cellRecords (r .keys) (r .cells) (r .head .cells) 0 ++ records callRecord calls ++ recordOf endKind []
 
 -- The states, and the receipts, of the first n calls; the balances of the first n cells.
 unfoldable pub statesAllowed : List ℕ → ℕ → Bool
@@ -92,15 +92,26 @@ pub record Closed : Type 0 where
 abbrev pub unwritten : List ℕ → Answer → Closed
 unwritten output a = record { answer = Refused a; output = output }
 
--- 28: "sheet longer than the output buffer".
-unfoldable pub written : List ℕ → List ℕ → Closed
-written output bytes =
+abbrev pub filled : List ℕ → List ℕ → Closed
+filled output bytes = record { answer = Written (length bytes); output = stored output 0 bytes }
+
+-- The last answers, of a run whose calls are finished and whose cells are in their ranges: 28, "sheet longer than the output buffer"; 20 for the
+-- receipts, which only the writing uses; or the sheet.
+unfoldable pub writtenIf : (receipts : Bool) → List ℕ → List ℕ → Closed
+writtenIf receipts output bytes =
     if ltb (length output) (length bytes)
     then unwritten output SheetTooLong
-    else record { answer = Written (length bytes); output = stored output 0 bytes }
+    else if receipts
+    then filled output bytes
+    else unwritten output Damaged
 
--- The sheet of a run: 20 for the sizes, the number of calls and their states; 27; 20 for receipts, the number of cells and
--- balances; 28.
+-- The same where the receipts are in their ranges.
+abbrev pub written : List ℕ → List ℕ → Closed
+written output bytes = writtenIf true output bytes
+
+-- The sheet of a run. "20 for a value is tested where the test or the change first uses that value": the sizes, the number of calls and
+-- their states; 27; the number of cells, and which of them are not zero, so the balances; 28; outcomes and counts, which only the
+-- writing uses.
 unfoldable pub sheetOf : Run → List ℕ → Closed
 sheetOf r output =
     if not (largeEnough (sizesOf r)) || ltb maxCalls (r .head .calls)
@@ -109,8 +120,8 @@ sheetOf r output =
     then unwritten output Damaged
     else if not (allFinished (r .status) (r .head .calls))
     then unwritten output CallUnfinished
-    else if not (receiptsAllowed (r .status) (r .head .calls)) || ltb maxKeys (r .head .cells)
+    else if ltb maxKeys (r .head .cells)
     then unwritten output Damaged
     else if not (balancesAllowed (r .keys) (r .cells) (r .head .cells))
     then unwritten output Damaged
-    else written output (sheetBytes r)
+    else writtenIf (receiptsAllowed (r .status) (r .head .calls)) output (sheetBytes r)

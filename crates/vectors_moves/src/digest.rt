@@ -1,4 +1,4 @@
-// A hash of a lent run: FNV-1a with words of 64 bits in the place of bytes, over the head and the five buffers.
+// A hash of a lent run: FNV-1a with words of 64 bits in the place of bytes, over the head and the five buffers; and of an output.
 use machine::Head;
 use machine::Seat;
 
@@ -25,6 +25,18 @@ fn words(start: u64, s: &[u64]) -> u64 {
     let mut i = 0;
     while i < s.len() {
         hash = mix(hash, s[i]);
+        i += 1;
+    }
+    hash
+}
+
+// The bytes of an output, each as a word.
+pub(crate) fn bytes(s: &[u8]) -> u64 {
+    let mut hash = BASIS;
+    let mut i = 0;
+    while i < s.len() {
+        let x = wire::byte(s, i);
+        hash = mix(hash, x as u64);
         i += 1;
     }
     hash

@@ -1,7 +1,8 @@
-// Opens blocks and makes moves on lent runs, damaged between the moves, as the records of standard input say, and writes what each answers
-// with a hash of the run as it stands then. tools/runner/src/vectors/stream.rs has the form of the records.
+// Opens blocks, makes moves on lent runs and asks for their sheets, with damages in between, as the records of standard input say, and
+// writes what each answers with a hash of the run as it stands then, or of the sheet's output. tools/runner/src/vectors/stream.rs has the form of the records.
 mod answer;
 mod change;
+mod close;
 mod digest;
 mod play;
 
@@ -19,7 +20,9 @@ const CANCEL: u64 = 7;
 
 const WORD: u64 = 8;
 
-// One record: a change of the block, of a buffer, or of what is lent; or an opening or a move.
+const SEAT: u64 = 10;
+
+// One record: a change of the block, of a buffer, or of what is lent; or an opening, a move or a sheet.
 fn turn(
     lent: Lent,
     record: &[u8],
@@ -43,7 +46,9 @@ fn turn(
         return change::lend(lent, record);
     }
     if CANCEL < kind {
-        return change::damage(lent, record);
+        if kind <= SEAT {
+            return change::damage(lent, record);
+        }
     }
     play::play(lent, record, block, plan, keys, cells, status, olds)
 }

@@ -1,4 +1,4 @@
-// Openings and moves on the lent parts of the buffers.
+// Openings, moves and sheets on the lent parts of the buffers.
 use crate::answer::number;
 use crate::answer::text;
 use crate::answer::verdict;
@@ -6,6 +6,7 @@ use crate::change::Lent;
 use crate::change::part_1;
 use crate::change::part_2;
 use crate::change::with_head;
+use crate::close::close;
 use crate::digest::digest;
 use machine::Head;
 use machine::numbers::answer_number;
@@ -17,6 +18,8 @@ const OPEN: u64 = 4;
 const BEGIN: u64 = 5;
 
 const STEP: u64 = 6;
+
+const SHEET: u64 = 11;
 
 // A move of a record.
 fn make(
@@ -87,7 +90,7 @@ fn move_on(
     next
 }
 
-// An opening or a move on what is lent: the head behind it.
+// An opening, a move or a sheet on what is lent: the head behind it.
 fn act(
     head: Head,
     record: &[u8],
@@ -100,6 +103,10 @@ fn act(
 ) -> Head {
     if wire::get64(record, 0) == OPEN {
         return open(record, block, plan, keys, cells, status, olds);
+    }
+    if wire::get64(record, 0) == SHEET {
+        close(head, record, plan, keys, cells, status, olds);
+        return head;
     }
     move_on(head, record, block, plan, keys, cells, status, olds)
 }

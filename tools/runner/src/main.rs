@@ -28,8 +28,11 @@ const USAGE: &str = "usage:
   runner vectors open SEED DIR      stdin and stdout of a program that lists many blocks
   runner vectors register SEED DIR  the same for one that runs many blocks
   runner vectors moves SEED COUNT DIR
-                                    moves on damaged runs as DIR/stdin, DIR/stdout
+                                    moves and sheets on damaged runs as DIR/stdin, DIR/stdout
 ";
+
+/// How many cases of moves there are for one of sheets.
+const MOVES_TO_SHEETS: usize = 10;
 
 type Failure = Box<dyn std::error::Error>;
 
@@ -137,7 +140,8 @@ fn write_stream(stream: &Stream, directory: &str) -> Result<(), Failure> {
 }
 
 fn write_vectors(seed: u64, count: usize, directory: &Path) -> Result<(), Failure> {
-    let (cases, _) = vectors::moves::cases(seed, count);
+    let (mut cases, _) = vectors::moves::cases(seed, count);
+    cases.extend(vectors::sheets::cases(seed, count / MOVES_TO_SHEETS));
     fs::create_dir_all(directory)?;
     fs::write(directory.join("stdin"), vectors::stream::input(&cases))?;
     fs::write(directory.join("stdout"), vectors::stream::output(&cases))?;

@@ -87,6 +87,9 @@ impl MoveRefusal {
 /// Why the closing sheet is refused.
 #[derive(Clone, Copy, Debug, PartialEq, Eq)]
 pub enum SheetRefusal {
+    /// A lent buffer is too short, or a value that the sheet needs is outside
+    /// its range. Only a lent run has such values.
+    Damaged = 20,
     /// A call is unfinished.
     Unfinished = 27,
     /// The sheet is longer than the output buffer.

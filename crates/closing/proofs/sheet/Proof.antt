@@ -31,23 +31,16 @@ returns-4 : tie.Need-returns-4
 unfolding sheetOf
 returns-4 c = simp (sym (c .before .all-finished .ensures) ∙ not-true _ (c .if4 .taken), sym (c .before .before .before .states-allowed .ensures) ∙ not-false _ (c .before .before .if3 .left), le-ltb _ _ (c .before .before .before .before .if2 .left), sym (c .before .before .before .before .before .before .large-enough .ensures) ∙ not-false _ (c .before .before .before .before .before .if1 .left))
 
-receipts-allowed-requires : tie.Need-receipts-allowed-requires
-receipts-allowed-requires c κs = search needs
-
 returns-5 : tie.Need-returns-5
 unfolding sheetOf
-returns-5 c = simp (sym (c .before .receipts-allowed .ensures) ∙ not-true _ (c .if5 .taken), sym (c .before .before .before .all-finished .ensures) ∙ not-false _ (c .before .before .if4 .left), sym (c .before .before .before .before .before .states-allowed .ensures) ∙ not-false _ (c .before .before .before .before .if3 .left), le-ltb _ _ (c .before .before .before .before .before .before .if2 .left), sym (c .before .before .before .before .before .before .before .before .large-enough .ensures) ∙ not-false _ (c .before .before .before .before .before .before .before .if1 .left))
-
-returns-6 : tie.Need-returns-6
-unfolding sheetOf
-returns-6 c = simp (lt-ltb _ _ (c .if6 .taken), sym (c .before .before .receipts-allowed .ensures) ∙ not-false _ (c .before .if5 .left), sym (c .before .before .before .before .all-finished .ensures) ∙ not-false _ (c .before .before .before .if4 .left), sym (c .before .before .before .before .before .before .states-allowed .ensures) ∙ not-false _ (c .before .before .before .before .before .if3 .left), le-ltb _ _ (c .before .before .before .before .before .before .before .if2 .left), sym (c .before .before .before .before .before .before .before .before .before .large-enough .ensures) ∙ not-false _ (c .before .before .before .before .before .before .before .before .if1 .left))
+returns-5 c = simp (lt-ltb _ _ (c .if5 .taken), sym (c .before .before .all-finished .ensures) ∙ not-false _ (c .before .if4 .left), sym (c .before .before .before .before .states-allowed .ensures) ∙ not-false _ (c .before .before .before .if3 .left), le-ltb _ _ (c .before .before .before .before .before .if2 .left), sym (c .before .before .before .before .before .before .before .large-enough .ensures) ∙ not-false _ (c .before .before .before .before .before .before .if1 .left))
 
 balances-allowed-requires : tie.Need-balances-allowed-requires
 balances-allowed-requires c κs = search needs
 
-returns-7 : tie.Need-returns-7
+returns-6 : tie.Need-returns-6
 unfolding sheetOf
-returns-7 c = simp (sym (c .before .balances-allowed .ensures) ∙ not-true _ (c .if7 .taken), le-ltb _ _ (c .before .before .if6 .left), sym (c .before .before .before .before .receipts-allowed .ensures) ∙ not-false _ (c .before .before .before .if5 .left), sym (c .before .before .before .before .before .before .all-finished .ensures) ∙ not-false _ (c .before .before .before .before .before .if4 .left), sym (c .before .before .before .before .before .before .before .before .states-allowed .ensures) ∙ not-false _ (c .before .before .before .before .before .before .before .if3 .left), le-ltb _ _ (c .before .before .before .before .before .before .before .before .before .if2 .left), sym (c .before .before .before .before .before .before .before .before .before .before .before .large-enough .ensures) ∙ not-false _ (c .before .before .before .before .before .before .before .before .before .before .if1 .left))
+returns-6 c = simp (sym (c .before .balances-allowed .ensures) ∙ not-true _ (c .if6 .taken), le-ltb _ _ (c .before .before .if5 .left), sym (c .before .before .before .before .all-finished .ensures) ∙ not-false _ (c .before .before .before .if4 .left), sym (c .before .before .before .before .before .before .states-allowed .ensures) ∙ not-false _ (c .before .before .before .before .before .if3 .left), le-ltb _ _ (c .before .before .before .before .before .before .before .if2 .left), sym (c .before .before .before .before .before .before .before .before .before .large-enough .ensures) ∙ not-false _ (c .before .before .before .before .before .before .before .before .if1 .left))
 
 write-sheet-requires : tie.Need-write-sheet-requires
 write-sheet-requires c κs = search needs
@@ -55,9 +48,9 @@ write-sheet-requires c κs = search needs
 same-length : tie.Need-same-length
 same-length c = search needs
 
-returns-8 : tie.Need-returns-8
+returns-7 : tie.Need-returns-7
 unfolding sheetOf sheetBytes
-returns-8 c = simp (sym (c .before .before .before .before .before .balances-allowed .ensures) ∙ not-false _ (c .before .before .before .before .if7 .left), le-ltb _ _ (c .before .before .before .before .before .before .if6 .left), sym (c .before .before .before .before .before .before .before .before .receipts-allowed .ensures) ∙ not-false _ (c .before .before .before .before .before .before .before .if5 .left), sym (c .before .before .before .before .before .before .before .before .before .before .all-finished .ensures) ∙ not-false _ (c .before .before .before .before .before .before .before .before .before .if4 .left), sym (c .before .before .before .before .before .before .before .before .before .before .before .before .states-allowed .ensures) ∙ not-false _ (c .before .before .before .before .before .before .before .before .before .before .before .if3 .left), le-ltb _ _ (c .before .before .before .before .before .before .before .before .before .before .before .before .before .if2 .left), sym (c .before .before .before .before .before .before .before .before .before .before .before .before .before .before .before .large-enough .ensures) ∙ not-false _ (c .before .before .before .before .before .before .before .before .before .before .before .before .before .before .if1 .left)) (c .before .before .write-sheet .ensures)
+returns-7 c = simp (sym (c .before .before .before .before .before .balances-allowed .ensures) ∙ not-false _ (c .before .before .before .before .if6 .left), le-ltb _ _ (c .before .before .before .before .before .before .if5 .left), sym (c .before .before .before .before .before .before .before .before .all-finished .ensures) ∙ not-false _ (c .before .before .before .before .before .before .before .if4 .left), sym (c .before .before .before .before .before .before .before .before .before .before .states-allowed .ensures) ∙ not-false _ (c .before .before .before .before .before .before .before .before .before .if3 .left), le-ltb _ _ (c .before .before .before .before .before .before .before .before .before .before .before .if2 .left), sym (c .before .before .before .before .before .before .before .before .before .before .before .before .before .large-enough .ensures) ∙ not-false _ (c .before .before .before .before .before .before .before .before .before .before .before .before .if1 .left)) (c .before .before .write-sheet .ensures)
 
 pub sheet-spec : {M : Type 1} → statement M
 sheet-spec =
@@ -70,11 +63,9 @@ sheet-spec =
     returns-3
     all-finished-requires
     returns-4
-    receipts-allowed-requires
     returns-5
-    returns-6
     balances-allowed-requires
-    returns-7
+    returns-6
     write-sheet-requires
     same-length
-    returns-8)
+    returns-7)

@@ -4,6 +4,7 @@
 
 mod moves;
 mod opening;
+mod sheet;
 mod step;
 
 pub use opening::open;

@@ -1,20 +1,25 @@
-//! Vectors for lent runs: cases of a block, its opening, and moves with damages
-//! between them; the stream that carries them, and the lines they answer.
+//! Vectors for lent runs: cases of a block, its opening, and moves and sheets
+//! with damages between them; the stream that carries them, and the lines they
+//! answer.
 
 pub mod blocks;
 pub mod damage;
 pub mod moves;
+pub mod sheets;
 pub mod stream;
 
 use crate::lent::{open, Run, Sizes};
 use crate::machine::Move;
-use crate::refusal::{BlockRefusal, MoveRefusal};
+use crate::refusal::{BlockRefusal, MoveRefusal, SheetRefusal};
 
 /// How much longer than its fixed size a lent buffer may be.
 pub const SPARE: usize = 8;
 
 /// How many bytes a change of the block writes.
 pub const CHANGED_BYTES: usize = 16;
+
+/// What the bytes of an output are before a sheet is written to it.
+pub const OUTPUT_BYTE: u8 = 7;
 
 /// A buffer of the run, by its number in the stream.
 #[derive(Clone, Copy, Debug, PartialEq, Eq)]
@@ -89,6 +94,8 @@ pub enum Operation {
     /// The buffers are lent up to these lengths from now on, at most those of
     /// the opening.
     Lend { sizes: Sizes },
+    /// The closing sheet is asked for, with an output of so many bytes.
+    Sheet { room: usize },
 }
 
 /// A case: a block opened for some workers in buffers of some lengths, and what
@@ -112,6 +119,8 @@ pub enum Answer {
     Opened(Result<(), BlockRefusal>),
     /// Of a move.
     Moved(Result<(), MoveRefusal>),
+    /// Of a closing sheet.
+    Closed(Result<usize, SheetRefusal>),
 }
 
 /// A case as it is played.
@@ -161,8 +170,17 @@ impl Player {
                 self.block[at..at + kept].copy_from_slice(&bytes[..kept]);
             }
             Operation::Lend { sizes } => self.sizes = sizes,
+            Operation::Sheet { .. } => (),
         }
         None
+    }
+
+    /// Asks for the closing sheet of what is lent, with an output of so many
+    /// bytes: the answer, and the output behind it.
+    pub fn close(&self, room: usize) -> (Result<usize, SheetRefusal>, Vec<u8>) {
+        let mut output = vec![OUTPUT_BYTE; room];
+        let answer = self.lent().sheet(&mut output);
+        (answer, output)
     }
 
     /// Makes a move on what is lent.
@@ -255,13 +273,27 @@ impl Player {
     }
 }
 
-/// The answers of a case in order, each with the run as it is lent then.
-pub fn answers(case: &Case) -> Vec<(Answer, Run)> {
+/// What an answer leaves in the caller's hands.
+#[derive(Clone, Debug, PartialEq, Eq)]
+pub enum Left {
+    /// The run as it is lent then.
+    Run(Box<Run>),
+    /// The output of a closing sheet.
+    Output(Vec<u8>),
+}
+
+/// The answers of a case in order, each with what it leaves.
+pub fn answers(case: &Case) -> Vec<(Answer, Left)> {
     let (opened, mut player) = Player::open(&case.block, case.workers, case.sizes);
-    let mut answers = vec![(Answer::Opened(opened), player.lent())];
+    let run = |player: &Player| Left::Run(Box::new(player.lent()));
+    let mut answers = vec![(Answer::Opened(opened), run(&player))];
     for operation in &case.operations {
+        if let Operation::Sheet { room } = *operation {
+            let (closed, output) = player.close(room);
+            answers.push((Answer::Closed(closed), Left::Output(output)));
+        }
         if let Some(moved) = player.play(*operation) {
-            answers.push((Answer::Moved(moved), player.lent()));
+            answers.push((Answer::Moved(moved), run(&player)));
         }
     }
     answers

@@ -99,7 +99,8 @@ fn sizes(rng: &mut Rng) -> Sizes {
     sizes
 }
 
-fn one_short(mut sizes: Sizes, short: usize) -> Sizes {
+/// The sizes with one of them one less.
+pub(super) fn one_short(mut sizes: Sizes, short: usize) -> Sizes {
     match short {
         0 => sizes.plan -= 1,
         1 => sizes.keys -= 1,

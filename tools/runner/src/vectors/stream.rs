@@ -16,13 +16,15 @@
 //! | 8 | buffer, index, value | sets a word: buffers 0 plan, 1 keys, 2 cells, 3 status, 4 olds |
 //! | 9 | field, value | sets a number of the head: 0 workers, 1 calls, 2 cells, 3 first |
 //! | 10 | worker, field, value | sets a number of a seat: 0 call, 1 place, 2 count, from 3 on a register |
+//! | 11 | length | the closing sheet, with an output of this length whose bytes are 7; a line `c ANSWER LENGTH HASH` |
 //!
-//! A signed value is its 64 bits. NUMBER and ANSWER are 0 if nothing is refused.
-//! HASH is the hash of the run as it is lent then.
+//! A signed value is its 64 bits. NUMBER and ANSWER are 0 if nothing is refused,
+//! and LENGTH, the sheet's, is 0 if it is. HASH is the hash of the run as it is
+//! lent then; of a sheet it is that of the output's bytes.
 
 use std::fmt::Write;
 
-use super::{answers, Answer, Case, Operation};
+use super::{answers, Answer, Case, Left, Operation};
 use crate::lent::{Run, Sizes};
 use crate::machine::Move;
 
@@ -39,6 +41,7 @@ mod kind {
     pub const WORD: u64 = 8;
     pub const HEAD: u64 = 9;
     pub const SEAT: u64 = 10;
+    pub const SHEET: u64 = 11;
 }
 
 /// The first value of the hash.
@@ -49,9 +52,21 @@ const HASH_PRIME: u64 = 0x0000_0100_0000_01b3;
 /// FNV-1a with words in the place of bytes: each word of the run is added by
 /// exclusive or, then the hash is multiplied, modulo 2^64.
 pub fn hash(run: &Run) -> u64 {
-    run.words().fold(HASH_BASIS, |hash, word| {
+    hash_words(run.words())
+}
+
+fn hash_words(words: impl Iterator<Item = u64>) -> u64 {
+    words.fold(HASH_BASIS, |hash, word| {
         (hash ^ word).wrapping_mul(HASH_PRIME)
     })
+}
+
+/// The hash of what an answer leaves; each byte of an output is a word.
+fn hash_left(left: &Left) -> u64 {
+    match left {
+        Left::Run(run) => hash(run),
+        Left::Output(output) => hash_words(output.iter().copied().map(u64::from)),
+    }
 }
 
 /// The stream of some cases.
@@ -76,8 +91,8 @@ pub fn input(cases: &[Case]) -> Vec<u8> {
 /// The lines that some cases answer.
 pub fn output(cases: &[Case]) -> String {
     let mut text = String::new();
-    for (answer, run) in cases.iter().flat_map(answers) {
-        let hash = hash(&run);
+    for (answer, left) in cases.iter().flat_map(answers) {
+        let hash = hash_left(&left);
         match answer {
             Answer::Opened(opened) => {
                 let (number, offset) = opened
@@ -88,6 +103,11 @@ pub fn output(cases: &[Case]) -> String {
             Answer::Moved(moved) => {
                 let number = moved.err().map_or(0, |refusal| refusal.number());
                 writeln!(text, "m {number} {hash}")
+            }
+            Answer::Closed(closed) => {
+                let number = closed.err().map_or(0, |refusal| refusal.number());
+                let length = closed.unwrap_or(0);
+                writeln!(text, "c {number} {length} {hash}")
             }
         }
         .expect("a string takes all text");
@@ -129,6 +149,7 @@ fn push_operation(out: &mut Vec<u8>, operation: Operation) {
         Operation::Cut { length } => push(out, [kind::BLOCK, length as u64, 0, 0]),
         Operation::Bytes { at, bytes } => push_bytes(out, at, bytes),
         Operation::Lend { sizes } => push_sizes(out, sizes),
+        Operation::Sheet { room } => push(out, [kind::SHEET, room as u64, 0, 0]),
     }
 }
 

@@ -1,5 +1,7 @@
-//! The closing sheet: 27, 28, its bytes and the bytes behind it.
+//! The closing sheet: 27, 28, its bytes and the bytes behind it; of a lent run
+//! also 20 and its place among them.
 
+use runner::lent::{self, Run, Sizes};
 use runner::limits::MAX_SHEET_BYTES;
 use runner::machine::Machine;
 use runner::refusal::SheetRefusal;
@@ -55,4 +57,78 @@ fn a_sheet_of_the_outputs_length_fits() {
 #[test]
 fn the_largest_sheet() {
     assert_eq!(MAX_SHEET_BYTES, 26_628);
+}
+
+/// A damage, and the numbers that the sheet answers with room and without.
+type Damage = (fn(&mut Run), u16, u16);
+
+/// The lent run of the text at its end.
+fn finished() -> Run {
+    let bytes = block(TEXT);
+    let (answer, mut run) = lent::open(&bytes, 8, Sizes::FIXED);
+    assert_eq!(answer, Ok(()));
+    run.begin(0, 0).unwrap();
+    run.step(&bytes, 0).unwrap();
+    run.step(&bytes, 0).unwrap();
+    run
+}
+
+/// The number that the sheet of a lent run answers with an output of some
+/// length, 0 if it is written. A refused sheet changes no byte.
+fn answer(run: &Run, room: usize) -> u16 {
+    let mut output = vec![7; room];
+    match run.sheet(&mut output) {
+        Ok(length) => {
+            assert_eq!(output[length..], vec![7; room - length]);
+            0
+        }
+        Err(refusal) => {
+            assert_eq!(output, vec![7; room]);
+            refusal.number()
+        }
+    }
+}
+
+#[test]
+fn the_sheet_of_a_lent_run() {
+    let run = finished();
+    let mut output = [7; 38];
+    assert_eq!(run.sheet(&mut output), Ok(36));
+    assert_eq!(output[..36], block(SHEET));
+    assert_eq!(output[36..], [7; 2]);
+    assert_eq!([answer(&run, 36), answer(&run, 35)], [0, 28]);
+}
+
+#[test]
+fn what_a_sheet_tests_and_in_which_order() {
+    let damages: [Damage; 18] = [
+        (|run| run.olds.truncate(191), 20, 20),
+        (|run| run.head.calls = 257, 20, 20),
+        (|run| run.status[0] = 3, 20, 20),
+        (|run| run.status[0] = 1, 27, 27),
+        (|run| (run.status[0], run.cells[0]) = (1, -1), 27, 27),
+        (|run| (run.status[0], run.status[1]) = (1, 6), 27, 27),
+        (|run| (run.status[0], run.head.cells) = (1, 1_025), 27, 27),
+        (|run| run.head.cells = 1_025, 20, 20),
+        (|run| run.cells[0] = -1, 20, 20),
+        (
+            |run| (run.cells[0], run.keys[0]) = (-1, 5 << 48 | 1 << 32),
+            0,
+            28,
+        ),
+        (|run| run.status[1] = 5, 0, 28),
+        (|run| run.status[1] = 6, 20, 28),
+        (|run| run.status[2] = 64, 0, 28),
+        (|run| run.status[2] = 65, 20, 28),
+        (|run| (run.status[1], run.cells[0]) = (6, -1), 20, 20),
+        (|run| run.head.workers = 9, 0, 28),
+        (|run| run.plan[0] = u64::MAX, 0, 28),
+        (|run| run.status[7] = 9, 0, 28),
+    ];
+    for (place, (damage, room, short)) in damages.iter().enumerate() {
+        let mut run = finished();
+        damage(&mut run);
+        let answers = [answer(&run, 36), answer(&run, 35)];
+        assert_eq!(answers, [*room, *short], "damage {place}");
+    }
 }

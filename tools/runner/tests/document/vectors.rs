@@ -1,4 +1,4 @@
-//! What the vectors of moves on damaged runs show.
+//! What the vectors of moves and sheets on damaged runs show.
 
 use std::collections::BTreeMap;
 
@@ -6,8 +6,9 @@ use runner::lent::Run;
 use runner::machine::Move;
 use runner::vectors::damage::{Target, OF_BEGIN, OF_CANCEL, OF_STEP};
 use runner::vectors::moves::cases;
+use runner::vectors::sheets;
 use runner::vectors::stream::{hash, input, output};
-use runner::vectors::{answers, Answer, Player};
+use runner::vectors::{answers, Answer, Left, Operation, Player};
 
 /// As many cases as the stored file has.
 const COUNT: usize = 400;
@@ -26,6 +27,10 @@ const ANSWERS: [(u16, usize); 8] = [
     (25, 100),
     (26, 100),
 ];
+/// As many cases of sheets as the stored file has.
+const SHEETS: usize = 40;
+/// The answers of sheets, and how often each stands in the file at least.
+const CLOSINGS: [(u16, usize); 4] = [(0, 400), (20, 800), (27, 200), (28, 600)];
 /// How often each damage is answered 20, and not, at least.
 const LEAST: usize = 2;
 /// Damages that STEP, or any move, never answers with 20 if they stand alone.
@@ -50,7 +55,73 @@ fn all_answers_are_well_covered() {
     for (number, least) in ANSWERS {
         assert!(counts[&number] >= least, "{number}: {counts:?}");
     }
-    assert!(input(&cases).len() < MOST_BYTES);
+    let sheets = sheets::cases(SEED, SHEETS);
+    assert!(input(&cases).len() + input(&sheets).len() < MOST_BYTES);
+}
+
+#[test]
+fn all_answers_of_sheets_are_well_covered() {
+    let cases = sheets::cases(SEED, SHEETS);
+    let mut counts: BTreeMap<u16, usize> = BTreeMap::new();
+    for (answer, _) in cases.iter().flat_map(answers) {
+        match answer {
+            Answer::Opened(opened) => assert_eq!(opened, Ok(())),
+            Answer::Moved(moved) => assert_eq!(moved, Ok(())),
+            Answer::Closed(closed) => {
+                let number = closed.err().map_or(0, |refusal| refusal.number());
+                *counts.entry(number).or_default() += 1;
+            }
+        }
+    }
+    for (number, least) in CLOSINGS {
+        assert!(counts[&number] >= least, "{number}: {counts:?}");
+    }
+}
+
+/// A run that is answered 28 by a short output and 20 with room has a broken
+/// receipt; one that is answered 20 by both has another damage.
+#[test]
+fn sheets_with_and_without_room_are_answered_by_both_orders() {
+    let (mut behind, mut before) = (0, 0);
+    for case in sheets::cases(SEED, SHEETS) {
+        let closings: Vec<u16> = answers(&case)
+            .into_iter()
+            .filter_map(|(answer, _)| match answer {
+                Answer::Closed(closed) => Some(closed.err().map_or(0, |refusal| refusal.number())),
+                _ => None,
+            })
+            .collect();
+        for asked in closings.chunks(4) {
+            behind += usize::from(asked == [20, 28, 20, 28]);
+            before += usize::from(asked == [20, 20, 20, 20]);
+        }
+    }
+    assert!(behind >= 80 && before >= 150, "{behind} {before}");
+}
+
+#[test]
+fn a_refused_sheet_changes_no_byte() {
+    for case in sheets::cases(SEED + 1, SHEETS) {
+        let rooms = case
+            .operations
+            .iter()
+            .filter_map(|operation| match operation {
+                Operation::Sheet { room } => Some(*room),
+                _ => None,
+            });
+        let closings = answers(&case)
+            .into_iter()
+            .filter(|(answer, _)| matches!(answer, Answer::Closed(_)));
+        for ((answer, left), room) in closings.zip(rooms) {
+            let Left::Output(output) = left else {
+                panic!("a sheet leaves an output");
+            };
+            assert_eq!(output.len(), room);
+            if let Answer::Closed(Err(_)) = answer {
+                assert_eq!(output, vec![7; room]);
+            }
+        }
+    }
 }
 
 #[test]

@@ -1,8 +1,8 @@
--- `closing::sheet_length` meets its contract: the sum of the lengths of the records. Assumes nothing.
+-- `closing::write::sheet_length` meets its contract: the sum of the lengths of the records. Assumes nothing.
 use borrow.Author.Needs.{needs}
 use native.Mathlib.Omega.{arith}
-use Rattle.closing.proofs.sheet_length.Statement.{statement}
-use Rattle.closing.proofs.sheet_length.Tie as tie
+use Rattle.closing.proofs.write.sheet_length.Statement.{statement}
+use Rattle.closing.proofs.write.sheet_length.Tie as tie
 
 nonzero-cells-requires : tie.Need-nonzero-cells-requires
 nonzero-cells-requires c κs = search needs

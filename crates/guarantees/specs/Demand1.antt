@@ -1,0 +1,273 @@
+-- Demand 1, sentence by sentence: which openings are accepted, which number an opening, a move or a sheet is refused by, and what a refusal
+-- leaves. The conditions are document 01's, said of the file and of the lent run; "takes every block, list of worker moves and buffer" and "always
+-- ends" are the contracts, which have no `requires`. Assumes nothing.
+use mathlib.Core.Path.{_≡_}
+use mathlib.Core.Bool.{true}
+use mathlib.Core.List.{List, [], _∷_}
+use Prim.Native.Nat.{ℕ, suc, _+_, _*_, _/_, _%_, _^_, _<_, _≤_}
+use lib.IntN.{pos}
+use lib.ListN.{length, getD, take}
+use lib.Signed.{nonNeg}
+use Rattle.wire.specs.Bytes.{repeated}
+use Rattle.wire.specs.Rows.{inRow}
+use Rattle.schedule.specs.declared.Move.{Move}
+use Rattle.block.specs.Limits.{maxBytes, maxCalls, maxCallKeys, maxCode, maxKeys, maxWorkers}
+use Rattle.block.specs.Record.{Block, headBytes, callBytes}
+use Rattle.block.specs.Reader.{accepted, refused, readBlock}
+use Rattle.block.specs.Encoding.{All, AreBytes, Contents, Holds, blockFor, ReaderExact}
+use Rattle.block.specs.declared.Refusal.{Refusal}
+use Rattle.block.specs.declared.Refusal.the-variants.{InputTooLong, Missing, Kind, Length, Field, NotRising, BeyondLimit, Behind, Balances, Code, CallKeys, AllKeys, Workers, Buffers}
+use Rattle.block.specs.declared.Verdict.the-variants as verdict
+use Rattle.footprint.specs.Access.{Access}
+use Rattle.footprint.specs.Table.{insertKeys}
+use Rattle.analysis.specs.Laid.{allSets, openingKeys}
+use Rattle.machine.specs.Action.{notPaid}
+use Rattle.machine.specs.Run.{Run, Sizes, sizesOf, fixedSizes, seatOf, rowIn, entryCell, entryWrites, stateOf, statusWord, waiting, finished}
+use Rattle.machine.specs.Opening.{headOf, openingOf}
+use Rattle.machine.specs.Step.{cellAt}
+use Rattle.machine.specs.Moves.{keysOf, ownEntries, beginOf, stepOf, cancelOf, moveOf}
+use Rattle.machine.specs.declared.Answer.{Answer}
+use Rattle.machine.specs.declared.Answer.the-variants as answer
+use Rattle.sheet.specs.Sheet.{keyHigh, sheetBytes, filled, sheetOf}
+use Rattle.sheet.specs.declared.Closing.the-variants.{Refused}
+
+-- Both ways.
+abbrev pub Exactly : Type 0 → Type 0 → Type 0
+Exactly A B = (A → B) × (B → A)
+
+-- 20: "a lent buffer .. shorter than the fixed size for the limits above" is none of these.
+pub record Large (s : Sizes) : Type 0 where
+  pub plan : fixedSizes .plan ≤ s .plan
+  pub keys : fixedSizes .keys ≤ s .keys
+  pub cells : fixedSizes .cells ≤ s .cells
+  pub status : fixedSizes .status ≤ s .status
+  pub olds : fixedSizes .olds ≤ s .olds
+
+-- ---- the opening
+
+-- The keys of opening and sets together, each once.
+unfoldable pub keysTogether : List ℕ → List (List Access) → List ℕ
+keysTogether keys [] = keys
+keysTogether keys (es ∷ sets) = keysTogether (insertKeys keys es) sets
+
+-- What is accepted: buffers large enough, "1 to 8" workers, the bytes of contents that keep the rules of a block file, and sets of "at most 24
+-- distinct keys a call; at most 1,024 in opening and sets together".
+pub record Openable (s : Sizes) (file : List ℕ) (workers : ℕ) : Type 0 where
+  pub large : Large s
+  pub some : (1 ≤ workers) × (workers ≤ maxWorkers)
+  pub contents : Contents
+  pub holds : Holds file contents
+  pub each : All (λ es. length es ≤ maxCallKeys) (allSets file (blockFor contents))
+  pub together : length (keysTogether (openingKeys (blockFor contents)) (allSets file (blockFor contents))) ≤ maxKeys
+
+-- The calls before number c keep their limits, with these opening keys.
+pub record KeysBefore (sets : List (List Access)) (keys : List ℕ) (c : ℕ) : Type 0 where
+  pub each : (i : ℕ) → i < c → length (getD sets i []) ≤ maxCallKeys
+  pub together : length (keysTogether keys (take c sets)) ≤ maxKeys
+
+-- "11 over 24 keys, at the call; 12 over 1,024, at the call that passes it": the first call that does, and the offset of its record.
+pub record Over24 (sets : List (List Access)) (keys : List ℕ) (first at : ℕ) : Type 0 where
+  pub call : ℕ
+  pub there : call < length sets
+  pub offset : at ≡ first + (headBytes + callBytes) * call
+  pub before : KeysBefore sets keys call
+  pub over : maxCallKeys < length (getD sets call [])
+
+pub record Over1024 (sets : List (List Access)) (keys : List ℕ) (first at : ℕ) : Type 0 where
+  pub call : ℕ
+  pub there : call < length sets
+  pub offset : at ≡ first + (headBytes + callBytes) * call
+  pub before : KeysBefore sets keys call
+  pub own : length (getD sets call []) ≤ maxCallKeys
+  pub over : maxKeys < length (keysTogether keys (take (suc call) sets))
+
+-- "Order: 20 .., 13, 1; by record ..; then by call 11, 12": when an opening is refused by each refusal. What is found right before the file is
+-- read; and the refusals 2 to 10, which are the reader's.
+abbrev pub Before1 : Sizes → (workers : ℕ) → Type 0
+Before1 s workers = Large s × ((1 ≤ workers) × (workers ≤ maxWorkers))
+
+abbrev pub ReaderRefuses : Sizes → (file : List ℕ) (workers : ℕ) → Refusal → Type 0
+ReaderRefuses s file workers why = Before1 s workers × (readBlock file ≡ refused why)
+
+abbrev pub OpeningRefuses : Sizes → (file : List ℕ) (workers : ℕ) → Refusal → Type 0
+OpeningRefuses s file workers Buffers = Large s → ⊥
+OpeningRefuses s file workers Workers = Large s × ((1 ≤ workers) × (workers ≤ maxWorkers) → ⊥)
+OpeningRefuses s file workers InputTooLong = Before1 s workers × (maxBytes < length file)
+OpeningRefuses s file workers (Missing at) = ReaderRefuses s file workers (Missing at)
+OpeningRefuses s file workers (Kind at) = ReaderRefuses s file workers (Kind at)
+OpeningRefuses s file workers (Length at) = ReaderRefuses s file workers (Length at)
+OpeningRefuses s file workers (Field at) = ReaderRefuses s file workers (Field at)
+OpeningRefuses s file workers (NotRising at) = ReaderRefuses s file workers (NotRising at)
+OpeningRefuses s file workers (BeyondLimit at) = ReaderRefuses s file workers (BeyondLimit at)
+OpeningRefuses s file workers (Behind at) = ReaderRefuses s file workers (Behind at)
+OpeningRefuses s file workers (Balances at) = ReaderRefuses s file workers (Balances at)
+OpeningRefuses s file workers (Code at) = ReaderRefuses s file workers (Code at)
+OpeningRefuses s file workers (CallKeys at) = Before1 s workers × ((b : Block) × (readBlock file ≡ accepted b) × Over24 (allSets file b) (openingKeys b) (b .first) at)
+OpeningRefuses s file workers (AllKeys at) = Before1 s workers × ((b : Block) × (readBlock file ≡ accepted b) × Over1024 (allSets file b) (openingKeys b) (b .first) at)
+
+-- "a refused opening leaves the lent buffers zero": each list is zero and as long as it was, and the head is zero.
+pub record Cleared (s : Sizes) (r : Run) : Type 0 where
+  pub head : r .head ≡ headOf 0 0 0 0
+  pub plan : r .plan ≡ repeated (s .plan) 0
+  pub keys : r .keys ≡ repeated (s .keys) 0
+  pub cells : r .cells ≡ repeated (s .cells) (pos 0)
+  pub status : r .status ≡ repeated (s .status) 0
+  pub olds : r .olds ≡ repeated (s .olds) (pos 0)
+
+-- ---- a lent run
+
+-- The values of a lent run in "its range above", as far as a move needs them.
+abbrev pub WorkersIn : Run → Type 0
+WorkersIn r = (1 ≤ r .head .workers) × (r .head .workers ≤ maxWorkers)
+
+abbrev pub CallsIn : Run → Type 0
+CallsIn r = r .head .calls ≤ maxCalls
+
+-- What a worker's seat holds: 0 for none, or a call's number plus 1.
+abbrev pub heldIn : Run → ℕ → ℕ
+heldIn r w = seatOf (r .head) w .call
+
+abbrev pub StateIn : Run → ℕ → Type 0
+StateIn r c = stateOf (r .status) c ≤ finished
+
+abbrev pub Finished : Run → ℕ → Type 0
+Finished r c = stateOf (r .status) c ≡ finished
+
+-- The earlier conflicting calls of c, by its row.
+abbrev pub Earlier : Run → (c i : ℕ) → Type 0
+Earlier r c i = (i < c) × (inRow (rowIn (r .plan) c) i ≡ true)
+
+-- An entry has a flag, and where it is written a cell number of the table.
+abbrev pub EntryIn : ℕ → Type 0
+EntryIn e = (e % 4 ≡ 0 → ⊥) × (entryWrites e ≡ true → entryCell e < maxKeys)
+
+abbrev pub EntriesIn : Run → ℕ → Type 0
+EntriesIn r c = (keysOf (r .plan) c ≤ maxCallKeys) × All EntryIn (ownEntries (r .plan) c)
+
+-- ---- BEGIN
+
+-- What BEGIN has found right before each number: the values that it used so far are in their ranges, and no number before applies.
+pub record Before21 (r : Run) : Type 0 where
+  pub large : Large (sizesOf r)
+  pub workers : WorkersIn r
+
+pub record Before22 (r : Run) (w : ℕ) : Type 0 where
+  pub so-far : Before21 r
+  pub worker : w < r .head .workers
+  pub calls : CallsIn r
+
+pub record Before23 (r : Run) (w c : ℕ) : Type 0 where
+  pub so-far : Before22 r w
+  pub call : c < r .head .calls
+  pub held : heldIn r w ≤ r .head .calls
+
+pub record Before24 (r : Run) (w c : ℕ) : Type 0 where
+  pub so-far : Before23 r w c
+  pub idle : heldIn r w ≡ 0
+  pub state : StateIn r c
+
+pub record Before25 (r : Run) (w c : ℕ) : Type 0 where
+  pub so-far : Before24 r w c
+  pub waits : stateOf (r .status) c ≡ waiting
+  pub states : (i : ℕ) → Earlier r c i → StateIn r i
+
+-- "21 no such worker; 22 no such call; 23 worker holds a call; 24 call not waiting; 25 an earlier conflicting call unfinished": when BEGIN
+-- gives each answer, 20 apart.
+abbrev pub BeginGives : Run → (w c : ℕ) → Answer → Type 0
+BeginGives r w c answer.Accepted = Before25 r w c × ((i : ℕ) → Earlier r c i → Finished r i) × EntriesIn r c
+BeginGives r w c answer.Damaged = ⊥
+BeginGives r w c answer.NoWorker = Before21 r × (r .head .workers ≤ w)
+BeginGives r w c answer.NoCall = Before22 r w × (r .head .calls ≤ c)
+BeginGives r w c answer.WorkerBusy = Before23 r w c × (heldIn r w ≡ 0 → ⊥)
+BeginGives r w c answer.NotWaiting = Before24 r w c × (stateOf (r .status) c ≡ waiting → ⊥)
+BeginGives r w c answer.EarlierUnfinished = Before25 r w c × ((i : ℕ) × Earlier r c i × (Finished r i → ⊥))
+BeginGives r w c answer.WorkerIdle = ⊥
+BeginGives r w c answer.CallUnfinished = ⊥
+BeginGives r w c answer.SheetTooLong = ⊥
+
+-- ---- STEP and CANCEL
+
+-- "21 no such worker", "26 worker holds none": when STEP and CANCEL are refused by each answer, 20 apart.
+abbrev pub HeldRefuses : Run → (w : ℕ) → Answer → Type 0
+HeldRefuses r w answer.Accepted = ⊥
+HeldRefuses r w answer.Damaged = ⊥
+HeldRefuses r w answer.NoWorker = Before21 r × (r .head .workers ≤ w)
+HeldRefuses r w answer.NoCall = ⊥
+HeldRefuses r w answer.WorkerBusy = ⊥
+HeldRefuses r w answer.NotWaiting = ⊥
+HeldRefuses r w answer.EarlierUnfinished = ⊥
+HeldRefuses r w answer.WorkerIdle = Before21 r × (w < r .head .workers) × (heldIn r w ≡ 0)
+HeldRefuses r w answer.CallUnfinished = ⊥
+HeldRefuses r w answer.SheetTooLong = ⊥
+
+-- A worker holds a call of the run.
+pub record HoldsCall (r : Run) (w c : ℕ) : Type 0 where
+  pub so-far : Before22 r w
+  pub held : heldIn r w ≡ c + 1
+  pub call : c < r .head .calls
+
+-- ---- the sheet
+
+-- The field of a cell's key; 0 is that of a balance.
+abbrev pub fieldAt : Run → ℕ → ℕ
+fieldAt r n = keyHigh (r .keys) n / 2 ^ 32 % 2 ^ 16
+
+-- What the sheet has found right before 27, before 28 and before it is written.
+pub record Before27 (r : Run) : Type 0 where
+  pub large : Large (sizesOf r)
+  pub calls : CallsIn r
+  pub states : (c : ℕ) → c < r .head .calls → StateIn r c
+
+pub record Before28 (r : Run) : Type 0 where
+  pub so-far : Before27 r
+  pub finished : (c : ℕ) → c < r .head .calls → Finished r c
+  pub cells : r .head .cells ≤ maxKeys
+  pub balances : (n : ℕ) → n < r .head .cells → fieldAt r n ≡ 0 → nonNeg (cellAt (r .cells) n) ≡ true
+
+-- "27 sheet wanted with a call unfinished; 28 sheet longer than the output buffer": when the sheet is refused by each answer, 20 apart.
+abbrev pub SheetRefuses : Run → (output : List ℕ) → Answer → Type 0
+SheetRefuses r output answer.Accepted = ⊥
+SheetRefuses r output answer.Damaged = ⊥
+SheetRefuses r output answer.NoWorker = ⊥
+SheetRefuses r output answer.NoCall = ⊥
+SheetRefuses r output answer.WorkerBusy = ⊥
+SheetRefuses r output answer.NotWaiting = ⊥
+SheetRefuses r output answer.EarlierUnfinished = ⊥
+SheetRefuses r output answer.WorkerIdle = ⊥
+SheetRefuses r output answer.CallUnfinished = Before27 r × ((c : ℕ) × (c < r .head .calls) × (Finished r c → ⊥))
+SheetRefuses r output answer.SheetTooLong = Before28 r × (length output < length (sheetBytes r))
+
+-- It is written where it fits and each outcome and count is in its range.
+pub record Writable (r : Run) (output : List ℕ) : Type 0 where
+  pub so-far : Before28 r
+  pub fits : length (sheetBytes r) ≤ length output
+  pub outcomes : (c : ℕ) → c < r .head .calls → statusWord (r .status) c 1 ≤ notPaid
+  pub counts : (c : ℕ) → c < r .head .calls → statusWord (r .status) c 2 ≤ maxCode
+
+-- ---- the demand
+
+pub record Demand1 : Type 0 where
+  -- "takes every block .. refuses a faulty one": a file is a block exactly if it is the bytes of one that keeps the rules, and an opening is
+  -- accepted exactly if besides the sets, the workers and the buffers keep theirs. So "refuses every block" is shut out. ".. by the numbers
+  -- of document 01": each refusal of an opening exactly under its condition.
+  pub reader : ReaderExact
+  pub opens : (s : Sizes) (file : List ℕ) (workers : ℕ) → AreBytes file
+      → Exactly (openingOf s file workers .answer ≡ verdict.Accepted) (Openable s file workers)
+  pub opens-not : (s : Sizes) (file : List ℕ) (workers : ℕ) (why : Refusal)
+      → Exactly (openingOf s file workers .answer ≡ verdict.Refused why) (OpeningRefuses s file workers why)
+  -- Each number of a move, lowest first, exactly under its condition.
+  pub begins : (r : Run) (w c : ℕ) (a : Answer) → (a ≡ answer.Damaged → ⊥) → Exactly (beginOf r w c .answer ≡ a) (BeginGives r w c a)
+  pub steps : (block : List ℕ) (r : Run) (w : ℕ) (a : Answer) → (a ≡ answer.Accepted → ⊥) → (a ≡ answer.Damaged → ⊥)
+      → Exactly (stepOf block r w .answer ≡ a) (HeldRefuses r w a)
+  pub cancels : (r : Run) (w : ℕ) (a : Answer) → (a ≡ answer.Accepted → ⊥) → (a ≡ answer.Damaged → ⊥)
+      → Exactly (cancelOf r w .answer ≡ a) (HeldRefuses r w a)
+  pub cancelled : (r : Run) (w : ℕ) → Exactly (cancelOf r w .answer ≡ answer.Accepted) ((c : ℕ) × HoldsCall r w c × EntriesIn r c)
+  -- The same of the sheet.
+  pub refuses : (r : Run) (output : List ℕ) (a : Answer) → (a ≡ answer.Damaged → ⊥)
+      → Exactly (sheetOf r output .answer ≡ Refused a) (SheetRefuses r output a)
+  pub writes : (r : Run) (output : List ℕ) → Exactly (sheetOf r output ≡ filled output (sheetBytes r)) (Writable r output)
+  -- "a refused opening leaves the lent buffers zero, a refused move or sheet leaves them unchanged."
+  pub cleared : (s : Sizes) (file : List ℕ) (workers : ℕ) (why : Refusal) → openingOf s file workers .answer ≡ verdict.Refused why
+      → Cleared s (openingOf s file workers .run)
+  pub unmoved : (block : List ℕ) (r : Run) (m : Move) → (moveOf block r m .answer ≡ answer.Accepted → ⊥) → moveOf block r m .run ≡ r
+  pub unwritten : (r : Run) (output : List ℕ) (a : Answer) → sheetOf r output .answer ≡ Refused a → sheetOf r output .output ≡ output
