@@ -2,7 +2,7 @@
 use mathlib.Core.Path.{_≡_, refl, sym, ap, _∙_}
 use mathlib.Core.Bool.{Bool, true, false, _&&_, _||_, not}
 use mathlib.Core.List.{List}
-use Prim.Native.Nat.{ℕ, suc, _-_, _/_, _%_, _^_, _<_, _≤_}
+use Prim.Native.Nat.{ℕ, suc, _-_, _<_, _≤_}
 use native.Mathlib.Omega.{arith}
 use borrow.Author.Tests.{le-ltb}
 use lib.Dec.{eqb, leb, ltb}
@@ -12,7 +12,7 @@ use Rattle.block.specs.Limits.{maxCode}
 use Rattle.machine.specs.Run.{statusWord, stateOf, isState, finished}
 use Rattle.machine.specs.Action.{notPaid}
 use Rattle.machine.specs.Step.{cellAt}
-use Rattle.sheet.specs.Sheet.{keyHigh, statesAllowed, allFinished, receiptsAllowed, balancesAllowed}
+use Rattle.sheet.specs.Sheet.{statesAllowed, allFinished, receiptsAllowed, balancesAllowed, fieldOf}
 
 -- The first `left` of them answer as all do: the others hold.
 pub record Down (f : ℕ → Bool) (all left : ℕ) : Type 0 where
@@ -71,7 +71,7 @@ module _ (status : List ℕ) where
 module _ (keys : List ℕ) (cells : List ℤ) where
   -- Whether a cell is no balance, or one that is not below zero.
   abbrev pub balanceAllowed : ℕ → Bool
-  balanceAllowed n = not (eqb (keyHigh keys n / 2 ^ 32 % 2 ^ 16) 0) || nonNeg (cellAt cells n)
+  balanceAllowed n = not (eqb (fieldOf keys n) 0) || nonNeg (cellAt cells n)
 
   pub balances-none : balancesAllowed keys cells 0 ≡ true
   unfolding balancesAllowed

@@ -50,7 +50,9 @@ pub(crate) fn write_sheet(
 ) -> Closing
     requires { ⌜ count ≤ maxKeys ⌝ }
     requires { ⌜ calls ≤ maxCalls ⌝ }
-    ensures { λ r. ⌜ record { answer = r; output = now (output .exit) } ≡ writtenIf (receiptsAllowed (now (status .entry)) calls) (now (output .entry)) (sheetParts (now (keys .entry)) (now (cells .entry)) (now (status .entry)) count calls) ⌝ }
+    ensures { λ r. ⌜ record { answer = r; output = now (output .exit) }
+        ≡ writtenIf (receiptsAllowed (now (status .entry)) calls) (now (output .entry))
+        (sheetParts (now (keys .entry)) (now (cells .entry)) (now (status .entry)) count calls) ⌝ }
 {
     let length = sheet_length(cells, count, calls);
     if output.len() < length {

@@ -4,7 +4,7 @@
 use mathlib.Core.Path.{_≡_}
 use mathlib.Core.Bool.{true}
 use mathlib.Core.List.{List, [], _∷_}
-use Prim.Native.Nat.{ℕ, suc, _+_, _*_, _/_, _%_, _^_, _<_, _≤_}
+use Prim.Native.Nat.{ℕ, suc, _+_, _*_, _%_, _<_, _≤_}
 use lib.IntN.{pos}
 use lib.ListN.{length, getD, take}
 use lib.Signed.{nonNeg}
@@ -28,7 +28,7 @@ use Rattle.machine.specs.Step.{cellAt}
 use Rattle.machine.specs.Moves.{keysOf, ownEntries, beginOf, stepOf, cancelOf, moveOf}
 use Rattle.machine.specs.declared.Answer.{Answer}
 use Rattle.machine.specs.declared.Answer.the-variants as answer
-use Rattle.sheet.specs.Sheet.{keyHigh, sheetBytes, filled, sheetOf}
+use Rattle.sheet.specs.Sheet.{sheetBytes, fieldOf, filled, sheetOf}
 use Rattle.sheet.specs.declared.Closing.the-variants.{Refused}
 
 -- Both ways.
@@ -102,8 +102,10 @@ OpeningRefuses s file workers (BeyondLimit at) = ReaderRefuses s file workers (B
 OpeningRefuses s file workers (Behind at) = ReaderRefuses s file workers (Behind at)
 OpeningRefuses s file workers (Balances at) = ReaderRefuses s file workers (Balances at)
 OpeningRefuses s file workers (Code at) = ReaderRefuses s file workers (Code at)
-OpeningRefuses s file workers (CallKeys at) = Before1 s workers × ((b : Block) × (readBlock file ≡ accepted b) × Over24 (allSets file b) (openingKeys b) (b .first) at)
-OpeningRefuses s file workers (AllKeys at) = Before1 s workers × ((b : Block) × (readBlock file ≡ accepted b) × Over1024 (allSets file b) (openingKeys b) (b .first) at)
+OpeningRefuses s file workers (CallKeys at) =
+    Before1 s workers × ((b : Block) × (readBlock file ≡ accepted b) × Over24 (allSets file b) (openingKeys b) (b .first) at)
+OpeningRefuses s file workers (AllKeys at) =
+    Before1 s workers × ((b : Block) × (readBlock file ≡ accepted b) × Over1024 (allSets file b) (openingKeys b) (b .first) at)
 
 -- "a refused opening leaves the lent buffers zero": each list is zero and as long as it was, and the head is zero.
 pub record Cleared (s : Sizes) (r : Run) : Type 0 where
@@ -208,10 +210,6 @@ pub record HoldsCall (r : Run) (w c : ℕ) : Type 0 where
 
 -- ---- the sheet
 
--- The field of a cell's key; 0 is that of a balance.
-abbrev pub fieldAt : Run → ℕ → ℕ
-fieldAt r n = keyHigh (r .keys) n / 2 ^ 32 % 2 ^ 16
-
 -- What the sheet has found right before 27, before 28 and before it is written.
 pub record Before27 (r : Run) : Type 0 where
   pub large : Large (sizesOf r)
@@ -222,7 +220,7 @@ pub record Before28 (r : Run) : Type 0 where
   pub so-far : Before27 r
   pub finished : (c : ℕ) → c < r .head .calls → Finished r c
   pub cells : r .head .cells ≤ maxKeys
-  pub balances : (n : ℕ) → n < r .head .cells → fieldAt r n ≡ 0 → nonNeg (cellAt (r .cells) n) ≡ true
+  pub balances : (n : ℕ) → n < r .head .cells → fieldOf (r .keys) n ≡ 0 → nonNeg (cellAt (r .cells) n) ≡ true
 
 -- "27 sheet wanted with a call unfinished; 28 sheet longer than the output buffer": when the sheet is refused by each answer, 20 apart.
 abbrev pub SheetRefuses : Run → (output : List ℕ) → Answer → Type 0

@@ -2,7 +2,7 @@
 use mathlib.Core.Path.{_≡_, refl, ap, subst, subst⁻¹, _∙_}
 use mathlib.Core.Bool.{true, _&&_, _||_, not}
 use mathlib.Core.List.{List}
-use Prim.Native.Nat.{ℕ, _/_, _%_, _^_, _≤_, _<_}
+use Prim.Native.Nat.{ℕ, _≤_, _<_}
 use borrow.Author.Tests.{ltb-true, ltb-false, lt-ltb, le-ltb, not-true, not-false}
 use lib.Dec.{eqb, leb, ltb}
 use lib.IntN.{ℤ}
@@ -16,7 +16,7 @@ use Rattle.machine.specs.Run.{Run, sizesOf, largeEnough, statusWord, stateOf, i
 use Rattle.machine.specs.Step.{cellAt}
 use Rattle.machine.specs.declared.Answer.{Answer}
 use Rattle.machine.specs.declared.Answer.the-variants as answer
-use Rattle.sheet.specs.Sheet.{Closed, keyHigh, sheetBytes, statesAllowed, allFinished, receiptsAllowed, balancesAllowed, unwritten, filled, writtenIf, written, sheetOf}
+use Rattle.sheet.specs.Sheet.{Closed, fieldOf, sheetBytes, statesAllowed, allFinished, receiptsAllowed, balancesAllowed, unwritten, filled, writtenIf, written, sheetOf}
 use Rattle.sheet.specs.declared.Closing.{Closing}
 use Rattle.sheet.specs.declared.Closing.the-variants.{Written, Refused}
 use Rattle.guarantees.specs.Demand1.{Exactly, Finished, Before27, Before28, SheetRefuses, Writable}
@@ -51,12 +51,12 @@ module _ (status : List ℕ) (n : ℕ) where
 
 -- Of n cells by their keys.
 balances-exact : (keys : List ℕ) (cells : List ℤ) (n : ℕ)
-    → TestsAll (balancesAllowed keys cells n) n (λ x. keyHigh keys x / 2 ^ 32 % 2 ^ 16 ≡ 0 → nonNeg (cellAt cells x) ≡ true)
+    → TestsAll (balancesAllowed keys cells n) n (λ x. fieldOf keys x ≡ 0 → nonNeg (cellAt cells x) ≡ true)
 unfolding balancesAllowed
 balances-exact keys cells =
-    all-exact (balancesAllowed keys cells) (λ x. not (eqb (keyHigh keys x / 2 ^ 32 % 2 ^ 16) 0) || nonNeg (cellAt cells x))
-    (λ x. keyHigh keys x / 2 ^ 32 % 2 ^ 16 ≡ 0 → nonNeg (cellAt cells x) ≡ true) refl (λ m. refl)
-    (λ x. under-exact (eqb (keyHigh keys x / 2 ^ 32 % 2 ^ 16) 0) (nonNeg (cellAt cells x)) (eqb-exact (keyHigh keys x / 2 ^ 32 % 2 ^ 16) 0) itself)
+    all-exact (balancesAllowed keys cells) (λ x. not (eqb (fieldOf keys x) 0) || nonNeg (cellAt cells x))
+    (λ x. fieldOf keys x ≡ 0 → nonNeg (cellAt cells x) ≡ true) refl (λ m. refl)
+    (λ x. under-exact (eqb (fieldOf keys x) 0) (nonNeg (cellAt cells x)) (eqb-exact (fieldOf keys x) 0) itself)
 
 -- ---- the sheet
 

@@ -32,7 +32,7 @@ use Rattle.machine.specs.Made.{Hold}
 use Rattle.machine.specs.Step.{cellAt}
 use Rattle.machine.specs.declared.Answer.the-variants.{CallUnfinished}
 use Rattle.machine.specs.declared.Head.{Head}
-use Rattle.sheet.specs.Sheet.{keyHigh, sheetBytes, unwritten, written, sheetOf}
+use Rattle.sheet.specs.Sheet.{keyHigh, fieldOf, sheetBytes, unwritten, written, sheetOf}
 use Rattle.guarantees.specs.Agreement.{stateNumber, serially}
 use Rattle.guarantees.specs.AfterOpening.{AfterOpening}
 use Rattle.guarantees.specs.Demand1.{Large}
@@ -52,13 +52,9 @@ use Rattle.guarantees.specs.BlockTally.{isBefore}
 
 -- ---- balances
 
--- The field of the key at a place of a buffer, as the sheet reads it.
-abbrev fieldIn : List ℕ → ℕ → ℕ
-fieldIn keys x = keyHigh keys x / 2 ^ 32 % 2 ^ 16
-
 -- Cells that hold a state within the limit, at the keys of a rising table, have no balance below zero.
 balances-above : (table : List ℕ) (σ : State) (room : ℕ) (cells : List ℤ) → Rising table → Holds KeyFits table → Hold table σ cells
-    → stateWithinLimit σ ≡ true → (x : ℕ) → x < length table → fieldIn (padded room 0 (keyWords table)) x ≡ 0 → nonNeg (cellAt cells x) ≡ true
+    → stateWithinLimit σ ≡ true → (x : ℕ) → x < length table → fieldOf (padded room 0 (keyWords table)) x ≡ 0 → nonNeg (cellAt cells x) ≡ true
 balances-above table σ room cells rising fit hold within x l e =
     let k : ℕ = getD table x 0 in
     let known : member k table ≡ true = member-at table x l in
@@ -128,7 +124,7 @@ module _ (s : Sizes) (file : List ℕ) (workers : ℕ) (after : AfterOpening s f
         cells = few-cells;
         balances = λ x l e.
             balances-above (after .table) σ (s .keys) (r .cells) (after .opened .rising) fit hold within x (subst (λ (n : ℕ). x < n) cell-count l)
-            (subst (λ (keys : List ℕ). fieldIn keys x ≡ 0) (stands .keys ∙ after .opened .keys) e);
+            (subst (λ (keys : List ℕ). fieldOf keys x ≡ 0) (stands .keys ∙ after .opened .keys) e);
       })
       (λ c l.
       let q = receipts c (ours c l) in

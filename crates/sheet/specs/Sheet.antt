@@ -78,10 +78,14 @@ receiptsAllowed status zero = true
 receiptsAllowed status (suc n) =
     leb (statusWord status n 1) notPaid && leb (statusWord status n 2) maxCode && receiptsAllowed status n
 
+-- The field of a cell's key; 0 is that of a balance.
+abbrev pub fieldOf : List ℕ → ℕ → ℕ
+fieldOf keys n = keyHigh keys n / 2 ^ 32 % 2 ^ 16
+
 unfoldable pub balancesAllowed : List ℕ → List ℤ → ℕ → Bool
 balancesAllowed keys cells zero = true
 balancesAllowed keys cells (suc n) =
-    (not (eqb (keyHigh keys n / 2 ^ 32 % 2 ^ 16) 0) || nonNeg (cellAt cells n)) && balancesAllowed keys cells n
+    (not (eqb (fieldOf keys n) 0) || nonNeg (cellAt cells n)) && balancesAllowed keys cells n
 
 -- What the sheet's caller gets: the answer, and the output with the sheet at its front. "Bytes of the output behind the sheet are
 -- unchanged."
