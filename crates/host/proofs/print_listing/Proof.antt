@@ -10,51 +10,39 @@ use Rattle.host.proofs.print_listing.Lts as lts
 use Rattle.host.proofs.print.Reads as print-reads
 use Rattle.listing.proofs.list.Reads as list-reads
 
--- src/main.rt:49:13
 slice-aggregate-list : tie.Need-slice-aggregate-list
 slice-aggregate-list c = sym (length-take-le _ _ (omega arith))
 
--- src/main.rt:50:13
 slice-aggregate-list-2 : tie.Need-slice-aggregate-list-2
 slice-aggregate-list-2 c = search needs
 
--- src/main.rt:51:13
 slice-aggregate-list-3 : tie.Need-slice-aggregate-list-3
 slice-aggregate-list-3 c = search needs
 
--- src/main.rt:52:13
 slice-aggregate-list-4 : tie.Need-slice-aggregate-list-4
 slice-aggregate-list-4 c = search needs
 
--- src/main.rt:53:13
 slice-aggregate-list-5 : tie.Need-slice-aggregate-list-5
 slice-aggregate-list-5 c = search needs
 
--- src/main.rt:54:13
 slice-aggregate-list-6 : tie.Need-slice-aggregate-list-6
 slice-aggregate-list-6 c = search needs
 
--- src/main.rt:55:13
 slice-aggregate-list-7 : tie.Need-slice-aggregate-list-7
 slice-aggregate-list-7 c = search needs
 
--- src/main.rt:48:13
 list-requires : tie.Need-list-requires
 list-requires c κs = search needs
 
--- src/main.rt:57:15
 slice-aggregate-print : tie.Need-slice-aggregate-print
 slice-aggregate-print c = search needs
 
--- src/main.rt:57:9
 print-requires : tie.Need-print-requires
 print-requires c κs = search needs
 
--- src/main.rt:40:1
 returns : tie.Need-returns
 returns c = search needs
 
--- src/main.rt:40:1
 returns-2 : tie.Need-returns-2
 returns-2 c = search needs
 

@@ -9,43 +9,33 @@ use Rattle.listing.proofs.listing.Reads as listing-reads
 use Rattle.opening.proofs.open.Reads as open-reads
 use Rattle.reader.proofs.read_block.Reads as read-block-reads
 
--- src/lib.rt:90:9
 open-requires : tie.Need-open-requires
 open-requires c κs = search needs
 
--- src/lib.rt:93:9
 read-block-requires : tie.Need-read-block-requires
 read-block-requires c κs = search needs
 
--- src/lib.rt:94:5
 listing-requires : tie.Need-listing-requires
 listing-requires c κs = search needs
 
--- src/lib.rt:79:1
 same-length : tie.Need-same-length
 same-length c = search needs
 
--- src/lib.rt:79:1
 same-length-2 : tie.Need-same-length-2
 same-length-2 c = search needs
 
--- src/lib.rt:79:1
 same-length-3 : tie.Need-same-length-3
 same-length-3 c = search needs
 
--- src/lib.rt:79:1
 same-length-4 : tie.Need-same-length-4
 same-length-4 c = search needs
 
--- src/lib.rt:79:1
 same-length-5 : tie.Need-same-length-5
 same-length-5 c = search needs
 
--- src/lib.rt:79:1
 same-length-6 : tie.Need-same-length-6
 same-length-6 c = search needs
 
--- src/lib.rt:79:1
 returns : tie.Need-returns
 returns c = all-listed _ _ _ _ _ _ _ _ _ _ _ _ (c .before .before .before .before .before .before .before .before .before .before .before .before .before .before .before .«open» .ensures) (c .before .before .before .before .before .read-block .ensures) (c .before .before .listing .ensures)
 

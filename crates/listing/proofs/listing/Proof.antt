@@ -12,59 +12,45 @@ use Rattle.listing.proofs.rows.Reads as rows-reads
 use Rattle.text.proofs.block_refused_line.Reads as block-refused-line-reads
 use Rattle.text.proofs.counts_line.Reads as counts-line-reads
 
--- src/lib.rt:64:26
 enum-known-verdict : tie.Need-enum-known-verdict
 enum-known-verdict c = search needs
 
--- src/lib.rt:64:61
 number-of-requires : tie.Need-number-of-requires
 number-of-requires c κs = search needs
 
--- src/lib.rt:64:77
 offset-of-requires : tie.Need-offset-of-requires
 offset-of-requires c κs = search needs
 
--- src/lib.rt:64:34
 block-refused-line-requires : tie.Need-block-refused-line-requires
 block-refused-line-requires c κs = search needs
 
--- src/lib.rt:66:34
 enum-told : tie.Need-enum-told
 enum-told c = search needs
 
--- src/lib.rt:66:17
 counts-line-requires : tie.Need-counts-line-requires
 counts-line-requires c κs = search needs
 
--- src/lib.rt:68:17
 rows-requires : tie.Need-rows-requires
 rows-requires c κs = (omega (arith, c .before .if1 .taken), omega (arith, c .before .before .before .before .counts-line .ensures .end, counts-length (c .before .before .before .before .before .before .before .before .before .before .args .functions) (c .before .before .before .before .before .before .before .before .before .before .args .cells) (c .before .before .before .before .before .before .before .before .before .before .args .calls) (c .before .before .before .before .before .before .before .before .before .before .args .keys)))
 
--- src/lib.rt:68:17
 same-length : tie.Need-same-length
 same-length c = search needs
 
--- src/lib.rt:68:17
 returns : tie.Need-returns
 returns c = listed _ _ _ _ _ _ _ _ _ _ _ _ (c .before .before .before .before .before .before .before .before .before .enum-told .given .1) (omega (arith, c .before .before .before .before .if1 .taken)) (c .before .before .before .before .before .before .before .counts-line .ensures) (c .before .before .rows .ensures)
 
--- src/lib.rt:70:13
 rows-requires-2 : tie.Need-rows-requires-2
 rows-requires-2 c κs = (omega arith, omega (arith, c .before .before .before .before .counts-line .ensures .end, counts-length (c .before .before .before .before .before .before .before .before .before .before .args .functions) (c .before .before .before .before .before .before .before .before .before .before .args .cells) (c .before .before .before .before .before .before .before .before .before .before .args .calls) (c .before .before .before .before .before .before .before .before .before .before .args .keys)))
 
--- src/lib.rt:52:1
 same-length-2 : tie.Need-same-length-2
 same-length-2 c = search needs
 
--- src/lib.rt:52:1
 returns-2 : tie.Need-returns-2
 returns-2 c = unlisted _ _ _ _ _ _ _ _ _ _ _ _ (c .before .before .before .before .before .before .before .verdict .given .1) (c .before .before .before .before .number-of .ensures) (c .before .before .before .offset-of .ensures) (c .before .before .block-refused-line .ensures)
 
--- src/lib.rt:52:1
 same-length-3 : tie.Need-same-length-3
 same-length-3 c = search needs
 
--- src/lib.rt:52:1
 returns-3 : tie.Need-returns-3
 returns-3 c = listed _ _ _ _ _ _ _ _ _ _ _ _ (c .before .before .before .before .before .before .before .before .before .enum-told .given .1) (omega (arith, c .before .before .before .before .if1 .left)) (c .before .before .before .before .before .before .before .counts-line .ensures) (c .before .before .rows2 .ensures)
 

@@ -16,39 +16,30 @@ Inv-loop plan calls out₀ from at₀ call₀ out at call = Rowing plan calls ou
 abbrev μ-loop : tie.MeasureT-loop
 μ-loop plan calls out₀ from at₀ call₀ out at call = calls - call
 
--- src/lib.rt:42:5
 loop-holds : tie.Need-loop-holds Inv-loop μ-loop
 loop-holds c = rowing-start _ _ _ _
 
--- src/lib.rt:43:13
 row-in-requires : tie.Need-row-in-requires Inv-loop μ-loop
 row-in-requires c κs = omega (arith, c .loop-test .taken, c .before .before .before .before .pre .0)
 
--- src/lib.rt:44:33
 cast-row-line : tie.Need-cast-row-line Inv-loop μ-loop
 cast-row-line c = omega (arith, c .before .before .before .loop .inv .short, c .before .before .loop-test .taken, c .before .before .before .before .before .before .pre .0, c .before .before .before .before .before .before .pre .1)
 
--- src/lib.rt:44:13
 row-line-requires : tie.Need-row-line-requires Inv-loop μ-loop
 row-line-requires c κs = search needs
 
--- src/lib.rt:46:9
 add-call : tie.Need-add-call Inv-loop μ-loop
 add-call c = omega (arith, c .before .before .before .before .before .loop-test .taken, c .before .before .before .before .before .before .before .before .before .pre .0)
 
--- src/lib.rt:42:5
 loop-less : tie.Need-loop-less Inv-loop μ-loop
 loop-less c = omega (arith, c .before .before .before .before .before .loop-test .taken)
 
--- src/lib.rt:42:5
 loop-again : tie.Need-loop-again Inv-loop μ-loop
 loop-again c = rowing-on _ _ _ _ _ _ _ _ _ _ (c .before .before .before .before .before .before .loop .inv) (c .before .before .before .before .before .loop-test .taken) (c .before .before .before .before .row-in .ensures) (c .before .before .row-line .ensures)
 
--- src/lib.rt:35:1
 same-length : tie.Need-same-length Inv-loop μ-loop
 same-length c = search needs
 
--- src/lib.rt:35:1
 returns : tie.Need-returns Inv-loop μ-loop
 returns c = rowing-end _ _ _ _ _ _ _ (c .before .loop .inv) (c .loop-test .left)
 

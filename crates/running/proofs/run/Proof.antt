@@ -12,111 +12,84 @@ use Rattle.running.proofs.finish.Reads as finish-reads
 use Rattle.running.proofs.play_input.Reads as play-input-reads
 use Rattle.running.proofs.print_refusal.Reads as print-refusal-reads
 
--- src/lib.rt:184:13
 slice-aggregate-block : tie.Need-slice-aggregate-block
 slice-aggregate-block c = sym (length-take-le _ _ (omega arith))
 
--- src/lib.rt:188:13
 slice-aggregate-open : tie.Need-slice-aggregate-open
 slice-aggregate-open c = search needs
 
--- src/lib.rt:189:13
 slice-aggregate-open-2 : tie.Need-slice-aggregate-open-2
 slice-aggregate-open-2 c = search needs
 
--- src/lib.rt:190:13
 slice-aggregate-open-3 : tie.Need-slice-aggregate-open-3
 slice-aggregate-open-3 c = search needs
 
--- src/lib.rt:191:13
 slice-aggregate-open-4 : tie.Need-slice-aggregate-open-4
 slice-aggregate-open-4 c = search needs
 
--- src/lib.rt:192:13
 slice-aggregate-open-5 : tie.Need-slice-aggregate-open-5
 slice-aggregate-open-5 c = search needs
 
--- src/lib.rt:185:13
 open-requires : tie.Need-open-requires
 open-requires c κs = search needs
 
--- src/lib.rt:197:30
 enum-known-verdict : tie.Need-enum-known-verdict
 enum-known-verdict c = search needs
 
--- src/lib.rt:198:17
 print-refusal-requires : tie.Need-print-refusal-requires
 print-refusal-requires c κs = search needs
 
--- src/lib.rt:199:17
 returns : tie.Need-returns
 returns c = search needs
 
--- src/lib.rt:206:21
 enum-told : tie.Need-enum-told
 enum-told c = search needs
 
--- src/lib.rt:206:21
 slice-aggregate-play-input : tie.Need-slice-aggregate-play-input
 slice-aggregate-play-input c = search needs
 
--- src/lib.rt:207:21
 slice-aggregate-play-input-2 : tie.Need-slice-aggregate-play-input-2
 slice-aggregate-play-input-2 c = search needs
 
--- src/lib.rt:208:21
 slice-aggregate-play-input-3 : tie.Need-slice-aggregate-play-input-3
 slice-aggregate-play-input-3 c = search needs
 
--- src/lib.rt:209:21
 slice-aggregate-play-input-4 : tie.Need-slice-aggregate-play-input-4
 slice-aggregate-play-input-4 c = search needs
 
--- src/lib.rt:210:21
 slice-aggregate-play-input-5 : tie.Need-slice-aggregate-play-input-5
 slice-aggregate-play-input-5 c = search needs
 
--- src/lib.rt:211:21
 slice-aggregate-play-input-6 : tie.Need-slice-aggregate-play-input-6
 slice-aggregate-play-input-6 c = search needs
 
--- src/lib.rt:212:21
 slice-aggregate-play-input-7 : tie.Need-slice-aggregate-play-input-7
 slice-aggregate-play-input-7 c = search needs
 
--- src/lib.rt:202:21
 play-input-requires : tie.Need-play-input-requires
 play-input-requires c κs = search needs
 
--- src/lib.rt:214:34
 slice-aggregate-finish : tie.Need-slice-aggregate-finish
 slice-aggregate-finish c = search needs
 
--- src/lib.rt:214:41
 slice-aggregate-finish-2 : tie.Need-slice-aggregate-finish-2
 slice-aggregate-finish-2 c = search needs
 
--- src/lib.rt:214:48
 slice-aggregate-finish-3 : tie.Need-slice-aggregate-finish-3
 slice-aggregate-finish-3 c = search needs
 
--- src/lib.rt:214:60
 slice-aggregate-finish-4 : tie.Need-slice-aggregate-finish-4
 slice-aggregate-finish-4 c = search needs
 
--- src/lib.rt:214:73
 slice-aggregate-finish-5 : tie.Need-slice-aggregate-finish-5
 slice-aggregate-finish-5 c = search needs
 
--- src/lib.rt:214:17
 finish-requires : tie.Need-finish-requires
 finish-requires c κs = search needs
 
--- src/lib.rt:215:17
 returns-2 : tie.Need-returns-2
 returns-2 c = search needs
 
--- src/lib.rt:175:1
 returns-3 : tie.Need-returns-3
 returns-3 c = search needs
 

@@ -11,19 +11,15 @@ use Rattle.text.proofs.block_refused_line.Lts as lts
 use Rattle.text.proofs.put_end.Reads as put-end-reads
 use Rattle.text.proofs.put_two.Reads as put-two-reads
 
--- src/lib.rt:111:9
 put-two-requires : tie.Need-put-two-requires
 put-two-requires c κs = search needs
 
--- src/lib.rt:112:5
 put-end-requires : tie.Need-put-end-requires
 put-end-requires c κs = omega (arith, c .before .before .before .before .before .before .fits .from .fits, c .before .before .before .put-two .ensures .end, spaced-length (c .before .before .before .before .before .before .args .number ∷ c .before .before .before .before .before .before .args .offset ∷ []))
 
--- src/lib.rt:108:1
 same-length : tie.Need-same-length
 same-length c = search needs
 
--- src/lib.rt:108:1
 returns : tie.Need-returns
 returns c = written-end _ _ _ _ _ _ _ _ (c .before .before .before .before .before .before .put-two .ensures) (c .before .before .put-end .ensures)
 

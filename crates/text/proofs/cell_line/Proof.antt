@@ -14,23 +14,18 @@ use Rattle.text.proofs.put_end.Reads as put-end-reads
 use Rattle.text.proofs.put_four.Reads as put-four-reads
 use Rattle.text.proofs.put_value_part.Reads as put-value-part-reads
 
--- src/lib.rt:146:9
 put-four-requires : tie.Need-put-four-requires
 put-four-requires c κs = search needs
 
--- src/lib.rt:147:9
 put-value-part-requires : tie.Need-put-value-part-requires
 put-value-part-requires c κs = omega (arith, c .before .before .before .before .before .before .fits .from .fits, c .before .before .before .put-four .ensures .end, spaced-length (c .before .before .before .before .before .before .args .address ∷ c .before .before .before .before .before .before .args .field ∷ c .before .before .before .before .before .before .args .a ∷ c .before .before .before .before .before .before .args .b ∷ []))
 
--- src/lib.rt:148:5
 put-end-requires : tie.Need-put-end-requires
 put-end-requires c κs = let v : _ ≡ c .before .before .before .before .before .before .before .before .before .before .args .value = back (c .before .before .before .before .before .before .before .before .before .before .fits .value) in omega (arith, c .before .before .before .before .before .before .before .before .before .before .fits .from .fits, c .before .before .before .before .before .before .before .put-four .ensures .end, spaced-length (c .before .before .before .before .before .before .before .before .before .before .args .address ∷ c .before .before .before .before .before .before .before .before .before .before .args .field ∷ c .before .before .before .before .before .before .before .before .before .before .args .a ∷ c .before .before .before .before .before .before .before .before .before .before .args .b ∷ []), c .before .before .before .put-value-part .ensures .1, signed-length (read (c .before .before .before .before .before .before .before .before .before .before .args .value)))
 
--- src/lib.rt:143:1
 same-length : tie.Need-same-length
 same-length c = search needs
 
--- src/lib.rt:143:1
 returns : tie.Need-returns
 returns c = written-end _ _ _ _ _ _ _ (_ ∷ _ ∷ _ ∷ _ ∷ _ ∷ []) (written-part _ _ _ _ _ _ _ (_ ∷ _ ∷ _ ∷ _ ∷ []) (c .before .before .before .before .before .before .before .before .before .before .put-four .ensures) _ (rw (back (c .before .before .before .before .before .before .before .before .before .before .before .before .before .fits .value)) at (c .before .before .before .before .before .before .put-value-part .ensures))) (c .before .before .put-end .ensures)
 

@@ -11,19 +11,15 @@ use Rattle.text.proofs.counts_line.Lts as lts
 use Rattle.text.proofs.put_end.Reads as put-end-reads
 use Rattle.text.proofs.put_four.Reads as put-four-reads
 
--- src/lib.rt:138:9
 put-four-requires : tie.Need-put-four-requires
 put-four-requires c κs = search needs
 
--- src/lib.rt:139:5
 put-end-requires : tie.Need-put-end-requires
 put-end-requires c κs = omega (arith, c .before .before .before .before .before .before .fits .from .fits, c .before .before .before .put-four .ensures .end, spaced-length (c .before .before .before .before .before .before .args .functions ∷ c .before .before .before .before .before .before .args .cells ∷ c .before .before .before .before .before .before .args .calls ∷ c .before .before .before .before .before .before .args .keys ∷ []))
 
--- src/lib.rt:135:1
 same-length : tie.Need-same-length
 same-length c = search needs
 
--- src/lib.rt:135:1
 returns : tie.Need-returns
 returns c = written-end _ _ _ _ _ _ _ _ (c .before .before .before .before .before .before .put-four .ensures) (c .before .before .put-end .ensures)
 

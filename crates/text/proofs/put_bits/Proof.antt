@@ -16,39 +16,30 @@ Inv-loop out₀ at row end₀ bit₀ out end bit = Going row out₀ out at end b
 abbrev μ-loop : tie.MeasureT-loop
 μ-loop out₀ at row end₀ bit₀ out end bit = 256 - bit
 
--- src/lib.rt:167:9
 row-next-requires : tie.Need-row-next-requires Inv-loop μ-loop
 row-next-requires c κs = search needs
 
--- src/lib.rt:168:5
 loop-holds : tie.Need-loop-holds Inv-loop μ-loop
 loop-holds c = going-start _ _ _ _ (c .row-next .ensures)
 
--- src/lib.rt:169:13
 put-part-requires : tie.Need-put-part-requires Inv-loop μ-loop
 put-part-requires c κs = omega (arith, c .before .before .loop .inv .short, c .before .before .loop .inv .within, c .before .before .before .before .before .pre)
 
--- src/lib.rt:171:35
 add-row-next : tie.Need-add-row-next Inv-loop μ-loop
 add-row-next c = search needs
 
--- src/lib.rt:171:9
 row-next-requires-2 : tie.Need-row-next-requires-2 Inv-loop μ-loop
 row-next-requires-2 c κs = search needs
 
--- src/lib.rt:168:5
 loop-less : tie.Need-loop-less Inv-loop μ-loop
 loop-less c = omega (arith, (going-on _ _ _ _ _ _ _ _ _ (c .before .before .before .before .before .before .loop .inv) (c .before .before .before .before .before .loop-test .taken) (c .before .before .before .put-part .ensures) (c .row-next2 .ensures)) .1, (going-on _ _ _ _ _ _ _ _ _ (c .before .before .before .before .before .before .loop .inv) (c .before .before .before .before .before .loop-test .taken) (c .before .before .before .put-part .ensures) (c .row-next2 .ensures)) .0 .within)
 
--- src/lib.rt:168:5
 loop-again : tie.Need-loop-again Inv-loop μ-loop
 loop-again c = (going-on _ _ _ _ _ _ _ _ _ (c .before .before .before .before .before .before .loop .inv) (c .before .before .before .before .before .loop-test .taken) (c .before .before .before .put-part .ensures) (c .row-next2 .ensures)) .0
 
--- src/lib.rt:161:1
 same-length : tie.Need-same-length Inv-loop μ-loop
 same-length c = search needs
 
--- src/lib.rt:161:1
 returns : tie.Need-returns Inv-loop μ-loop
 returns c = going-end _ _ _ _ _ _ (c .before .loop .inv) (c .loop-test .left)
 

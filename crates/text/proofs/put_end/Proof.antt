@@ -7,19 +7,15 @@ use Rattle.text.proofs.put_end.Reads as reads
 use Rattle.text.proofs.put_end.Lts as lts
 use Rattle.wire.proofs.put_byte.Reads as put-byte-reads
 
--- src/lib.rt:105:5
 put-byte-requires : tie.Need-put-byte-requires
 put-byte-requires c κs = search needs
 
--- src/lib.rt:106:5
 add-result : tie.Need-add-result
 add-result c = search needs
 
--- src/lib.rt:100:1
 same-length : tie.Need-same-length
 same-length c = search needs
 
--- src/lib.rt:100:1
 returns : tie.Need-returns
 returns c = put-last _ _ _ _ (c .before .before .put-byte .ensures)
 

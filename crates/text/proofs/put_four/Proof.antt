@@ -11,23 +11,18 @@ use Rattle.text.proofs.put_four.Lts as lts
 use Rattle.text.proofs.put_part.Reads as put-part-reads
 use Rattle.text.proofs.put_two.Reads as put-two-reads
 
--- src/lib.rt:129:9
 put-two-requires : tie.Need-put-two-requires
 put-two-requires c κs = search needs
 
--- src/lib.rt:130:9
 put-part-requires : tie.Need-put-part-requires
 put-part-requires c κs = omega (arith, c .before .before .before .before .before .before .pre, c .before .before .before .put-two .ensures .end, spaced-length (c .before .before .before .before .before .before .args .a ∷ c .before .before .before .before .before .before .args .b ∷ []))
 
--- src/lib.rt:131:5
 put-part-requires-2 : tie.Need-put-part-requires-2
 put-part-requires-2 c κs = omega (arith, c .before .before .before .before .before .before .before .before .before .before .pre, c .before .before .before .before .before .before .before .put-two .ensures .end, spaced-length (c .before .before .before .before .before .before .before .before .before .before .args .a ∷ c .before .before .before .before .before .before .before .before .before .before .args .b ∷ []), c .before .before .before .put-part .ensures .1, digits-length 20 (c .before .before .before .before .before .before .before .before .before .before .args .c))
 
--- src/lib.rt:125:1
 same-length : tie.Need-same-length
 same-length c = search needs
 
--- src/lib.rt:125:1
 returns : tie.Need-returns
 returns c = written-part _ _ _ _ _ _ _ (_ ∷ _ ∷ _ ∷ []) (written-part _ _ _ _ _ _ _ (_ ∷ _ ∷ []) (c .before .before .before .before .before .before .before .before .before .before .put-two .ensures) _ (c .before .before .before .before .before .before .put-part .ensures)) _ (c .before .before .put-part2 .ensures)
 

@@ -8,23 +8,18 @@ use Rattle.text.proofs.put_part.Lts as lts
 use Rattle.text.proofs.put_digits.Reads as put-digits-reads
 use Rattle.wire.proofs.put_byte.Reads as put-byte-reads
 
--- src/lib.rt:64:5
 put-byte-requires : tie.Need-put-byte-requires
 put-byte-requires c κs = search needs
 
--- src/lib.rt:65:21
 add-put-digits : tie.Need-add-put-digits
 add-put-digits c = search needs
 
--- src/lib.rt:65:5
 put-digits-requires : tie.Need-put-digits-requires
 put-digits-requires c κs = search needs
 
--- src/lib.rt:59:1
 same-length : tie.Need-same-length
 same-length c = search needs
 
--- src/lib.rt:59:1
 returns : tie.Need-returns
 returns c = put-before _ _ _ _ _ _ _ (c .before .before .before .before .before .before .put-byte .ensures) (c .before .before .put-digits .ensures)
 

@@ -11,27 +11,21 @@ use Rattle.text.proofs.put_two.Lts as lts
 use Rattle.text.proofs.put_part.Reads as put-part-reads
 use Rattle.wire.proofs.put_byte.Reads as put-byte-reads
 
--- src/lib.rt:84:5
 put-byte-requires : tie.Need-put-byte-requires
 put-byte-requires c κs = search needs
 
--- src/lib.rt:85:28
 add-put-part : tie.Need-add-put-part
 add-put-part c = search needs
 
--- src/lib.rt:85:9
 put-part-requires : tie.Need-put-part-requires
 put-part-requires c κs = search needs
 
--- src/lib.rt:86:5
 put-part-requires-2 : tie.Need-put-part-requires-2
 put-part-requires-2 c κs = omega (arith, c .before .before .before .put-part .ensures .1, digits-length 20 (c .before .before .before .before .before .before .before .before .before .before .args .a), c .before .before .before .before .before .before .before .before .before .before .pre)
 
--- src/lib.rt:80:1
 same-length : tie.Need-same-length
 same-length c = search needs
 
--- src/lib.rt:80:1
 returns : tie.Need-returns
 returns c = written-part _ _ _ _ _ _ _ (_ ∷ []) (written-part _ _ _ _ _ _ _ [] (written-letter _ _ _ _ (c .before .before .before .before .before .before .before .before .before .before .put-byte .ensures)) _ (c .before .before .before .before .before .before .put-part .ensures)) _ (c .before .before .put-part2 .ensures)
 

@@ -11,51 +11,39 @@ use Rattle.text.proofs.put_digits.Reads as put-digits-reads
 use Rattle.text.proofs.put_part.Reads as put-part-reads
 use Rattle.wire.proofs.put_byte.Reads as put-byte-reads
 
--- src/lib.rt:72:9
 put-byte-requires : tie.Need-put-byte-requires
 put-byte-requires c κs = search needs
 
--- src/lib.rt:73:29
 add-put-byte : tie.Need-add-put-byte
 add-put-byte c = search needs
 
--- src/lib.rt:73:9
 put-byte-requires-2 : tie.Need-put-byte-requires-2
 put-byte-requires-2 c κs = search needs
 
--- src/lib.rt:74:32
 add-put-digits : tie.Need-add-put-digits
 add-put-digits c = search needs
 
--- src/lib.rt:74:52
 magnitude-requires : tie.Need-magnitude-requires
 magnitude-requires c κs = search needs
 
--- src/lib.rt:74:9
 put-digits-requires : tie.Need-put-digits-requires
 put-digits-requires c κs = search needs
 
--- src/lib.rt:74:9
 same-length : tie.Need-same-length
 same-length c = search needs
 
--- src/lib.rt:74:9
 returns : tie.Need-returns
 returns c = value-below _ _ _ (read (c .before .before .before .before .before .before .before .before .before .before .before .before .before .before .before .args .z)) _ (back (c .before .before .before .before .before .before .before .before .before .before .before .before .before .before .before .fits .z)) (c .before .before .before .magnitude .ensures) _ _ _ _ (c .before .before .before .before .before .before .before .before .before .before .before .before .before .if1 .taken) (c .before .before .before .before .before .before .before .before .before .before .before .put-byte .ensures) (c .before .before .before .before .before .before .before .put-byte2 .ensures) (c .before .before .put-digits .ensures)
 
--- src/lib.rt:76:23
 magnitude-requires-2 : tie.Need-magnitude-requires-2
 magnitude-requires-2 c κs = search needs
 
--- src/lib.rt:76:5
 put-part-requires : tie.Need-put-part-requires
 put-part-requires c κs = search needs
 
--- src/lib.rt:66:1
 same-length-2 : tie.Need-same-length-2
 same-length-2 c = search needs
 
--- src/lib.rt:66:1
 returns-2 : tie.Need-returns-2
 returns-2 c = value-above _ _ _ (read (c .before .before .before .before .before .before .before .args .z)) _ (back (c .before .before .before .before .before .before .before .fits .z)) (c .before .before .before .magnitude2 .ensures) _ _ (c .before .before .before .before .before .if1 .left) (c .before .before .put-part .ensures)
 

@@ -12,23 +12,18 @@ use Rattle.text.proofs.put_end.Reads as put-end-reads
 use Rattle.text.proofs.put_part.Reads as put-part-reads
 use Rattle.text.proofs.put_two.Reads as put-two-reads
 
--- src/lib.rt:119:9
 put-two-requires : tie.Need-put-two-requires
 put-two-requires c κs = search needs
 
--- src/lib.rt:120:9
 put-part-requires : tie.Need-put-part-requires
 put-part-requires c κs = omega (arith, c .before .before .before .before .before .before .fits .from .fits, c .before .before .before .put-two .ensures .end, spaced-length (c .before .before .before .before .before .before .args .call ∷ c .before .before .before .before .before .before .args .outcome ∷ []))
 
--- src/lib.rt:121:5
 put-end-requires : tie.Need-put-end-requires
 put-end-requires c κs = omega (arith, c .before .before .before .before .before .before .before .before .before .before .fits .from .fits, c .before .before .before .before .before .before .before .put-two .ensures .end, spaced-length (c .before .before .before .before .before .before .before .before .before .before .args .call ∷ c .before .before .before .before .before .before .before .before .before .before .args .outcome ∷ []), c .before .before .before .put-part .ensures .1, digits-length 20 (c .before .before .before .before .before .before .before .before .before .before .args .count))
 
--- src/lib.rt:116:1
 same-length : tie.Need-same-length
 same-length c = search needs
 
--- src/lib.rt:116:1
 returns : tie.Need-returns
 returns c = written-end _ _ _ _ _ _ _ (_ ∷ _ ∷ _ ∷ []) (written-part _ _ _ _ _ _ _ (_ ∷ _ ∷ []) (c .before .before .before .before .before .before .before .before .before .before .put-two .ensures) _ (c .before .before .before .before .before .before .put-part .ensures)) (c .before .before .put-end .ensures)
 

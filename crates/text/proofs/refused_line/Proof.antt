@@ -11,19 +11,15 @@ use Rattle.text.proofs.refused_line.Lts as lts
 use Rattle.text.proofs.put_end.Reads as put-end-reads
 use Rattle.text.proofs.put_two.Reads as put-two-reads
 
--- src/lib.rt:103:9
 put-two-requires : tie.Need-put-two-requires
 put-two-requires c κs = search needs
 
--- src/lib.rt:104:5
 put-end-requires : tie.Need-put-end-requires
 put-end-requires c κs = omega (arith, c .before .before .before .before .before .before .fits .from .fits, c .before .before .before .put-two .ensures .end, spaced-length (c .before .before .before .before .before .before .args .line ∷ c .before .before .before .before .before .before .args .number ∷ []))
 
--- src/lib.rt:100:1
 same-length : tie.Need-same-length
 same-length c = search needs
 
--- src/lib.rt:100:1
 returns : tie.Need-returns
 returns c = written-end _ _ _ _ _ _ _ _ (c .before .before .before .before .before .before .put-two .ensures) (c .before .before .put-end .ensures)
 

@@ -14,31 +14,24 @@ use Rattle.text.proofs.put_end.Reads as put-end-reads
 use Rattle.text.proofs.put_part.Reads as put-part-reads
 use Rattle.wire.proofs.put_byte.Reads as put-byte-reads
 
--- src/lib.rt:171:5
 put-byte-requires : tie.Need-put-byte-requires
 put-byte-requires c κs = search needs
 
--- src/lib.rt:172:31
 add-put-part : tie.Need-add-put-part
 add-put-part c = search needs
 
--- src/lib.rt:172:9
 put-part-requires : tie.Need-put-part-requires
 put-part-requires c κs = search needs
 
--- src/lib.rt:173:9
 put-bits-requires : tie.Need-put-bits-requires
 put-bits-requires c κs = omega (arith, c .before .before .before .put-part .ensures .1, digits-length 20 (c .before .before .before .before .before .before .before .before .before .before .args .call), c .before .before .before .before .before .before .before .before .before .before .fits .from .fits)
 
--- src/lib.rt:174:5
 put-end-requires : tie.Need-put-end-requires
 put-end-requires c κs = omega (arith, c .before .before .before .before .before .before .before .put-part .ensures .1, digits-length 20 (c .before .before .before .before .before .before .before .before .before .before .before .before .before .before .args .call), c .before .before .before .put-bits .ensures .1, bits-length (c .before .before .before .before .before .before .before .before .before .before .before .before .before .before .args .row), c .before .before .before .before .before .before .before .before .before .before .before .before .before .before .fits .from .fits)
 
--- src/lib.rt:168:1
 same-length : tie.Need-same-length
 same-length c = search needs
 
--- src/lib.rt:168:1
 returns : tie.Need-returns
 returns c = written-end _ _ _ _ _ _ _ (_ ∷ _) (written-parts _ _ _ _ _ _ _ (_ ∷ []) (written-part _ _ _ _ _ _ _ [] (written-letter _ _ _ _ (c .before .before .before .before .before .before .before .before .before .before .before .before .before .before .put-byte .ensures)) _ (c .before .before .before .before .before .before .before .before .before .before .put-part .ensures)) _ (c .before .before .before .before .before .before .put-bits .ensures)) (c .before .before .put-end .ensures)
 

@@ -11,51 +11,39 @@ use Rattle.io.proofs.read_full.Reads as read-full-reads
 use Rattle.host.proofs.print_listing.Reads as print-listing-reads
 use Rattle.wire.proofs.get32.Reads as get32-reads
 
--- src/main.rt:13:36
 slice-aggregate-read-full : tie.Need-slice-aggregate-read-full
 slice-aggregate-read-full c = search needs
 
--- src/main.rt:13:8
 read-full-requires : tie.Need-read-full-requires
 read-full-requires c κs = search needs
 
--- src/main.rt:14:9
 returns : tie.Need-returns
 returns c = search needs
 
--- src/main.rt:16:30
 slice-aggregate-get32 : tie.Need-slice-aggregate-get32
 slice-aggregate-get32 c = search needs
 
--- src/main.rt:16:18
 get32-requires : tie.Need-get32-requires
 get32-requires c κs = search needs
 
--- src/main.rt:18:9
 returns-2 : tie.Need-returns-2
 returns-2 c = search needs
 
--- src/main.rt:20:41
 slice-relend-prefix-read-full : tie.Need-slice-relend-prefix-read-full
 slice-relend-prefix-read-full c = search needs
 
--- src/main.rt:20:41
 slice-aggregate-read-full-2 : tie.Need-slice-aggregate-read-full-2
 slice-aggregate-read-full-2 c = sym (length-take-le _ _ (omega arith))
 
--- src/main.rt:20:9
 read-full-requires-2 : tie.Need-read-full-requires-2
 read-full-requires-2 c κs = search needs
 
--- src/main.rt:21:5
 print-listing-requires : tie.Need-print-listing-requires
 print-listing-requires c κs = search needs
 
--- src/main.rt:11:1
 same-length : tie.Need-same-length
 same-length c = search needs
 
--- src/main.rt:11:1
 returns-3 : tie.Need-returns-3
 returns-3 c = search needs
 
