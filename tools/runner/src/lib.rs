@@ -11,6 +11,7 @@ pub mod code;
 pub mod console;
 pub mod coverage;
 pub mod emit;
+pub mod examples;
 pub mod execute;
 pub mod generate;
 pub mod inspect;

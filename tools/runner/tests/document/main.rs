@@ -9,6 +9,7 @@ mod instructions;
 mod lent;
 mod moves;
 mod order;
+mod paper;
 mod properties;
 mod refusals;
 mod sheet;
