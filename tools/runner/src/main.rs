@@ -29,6 +29,9 @@ const USAGE: &str = "usage:
   runner vectors register SEED DIR  the same for one that runs many blocks
   runner vectors moves SEED COUNT DIR
                                     moves and sheets on damaged runs as DIR/stdin, DIR/stdout
+  runner vectors examples DIR       the documents' examples as DIR/stdin, DIR/stdout
+  runner vectors edges DIR          edges of the input as DIR/stdin, DIR/stdout
+  runner vectors files DIR          edges as folders with data/block.bin, stdin, stdout
 ";
 
 /// How many cases of moves there are for one of sheets.
@@ -79,6 +82,9 @@ fn run(words: &[&str]) -> Result<(), Failure> {
         ["vectors", "moves", seed, count, directory] => {
             write_vectors(seed.parse()?, count.parse()?, Path::new(directory))
         }
+        ["vectors", "examples", directory] => write_stream(&vectors::titled::examples(), directory),
+        ["vectors", "edges", directory] => write_stream(&vectors::titled::edges(), directory),
+        ["vectors", "files", directory] => write_folders(Path::new(directory)),
         _ => Err(USAGE.into()),
     }
 }
@@ -134,8 +140,22 @@ fn write_cases(cases: &[Case], directory: &str) -> Result<(), Failure> {
 }
 
 fn write_stream(stream: &Stream, directory: &str) -> Result<(), Failure> {
-    fs::write(Path::new(directory).join("stdin"), &stream.input)?;
-    fs::write(Path::new(directory).join("stdout"), &stream.output)?;
+    let written = write_input_and_output(Path::new(directory), &stream.input, &stream.output);
+    Ok(written.map_err(|error| format!("{directory}: {error}"))?)
+}
+
+fn write_input_and_output(directory: &Path, input: &[u8], output: &[u8]) -> io::Result<()> {
+    fs::create_dir_all(directory)?;
+    fs::write(directory.join("stdin"), input)?;
+    fs::write(directory.join("stdout"), output)
+}
+
+fn write_folders(directory: &Path) -> Result<(), Failure> {
+    for folder in vectors::files::folders() {
+        let written = folder.write(directory);
+        let path = directory.join(folder.name);
+        written.map_err(|error| format!("{}: {error}", path.display()))?;
+    }
     Ok(())
 }
 

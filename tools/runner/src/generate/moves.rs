@@ -20,7 +20,7 @@ pub struct Plan {
 }
 
 /// Lines that are no moves.
-const MALFORMED: [&[u8]; 36] = [
+pub const MALFORMED: [&[u8]; 36] = [
     b"",
     b" ",
     b"b",

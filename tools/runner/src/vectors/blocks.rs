@@ -221,7 +221,7 @@ fn edited(rng: &mut Rng, block: &[u8], edits: usize) -> Vec<u8> {
     bytes
 }
 
-fn put(stream: &mut Vec<u8>, bytes: &[u8]) {
+pub(super) fn put(stream: &mut Vec<u8>, bytes: &[u8]) {
     let length = u32::try_from(bytes.len()).expect("a block is far below 2^32 bytes");
     stream.extend_from_slice(&length.to_le_bytes());
     stream.extend_from_slice(bytes);

@@ -4,9 +4,12 @@
 
 pub mod blocks;
 pub mod damage;
+pub mod edges;
+pub mod files;
 pub mod moves;
 pub mod sheets;
 pub mod stream;
+pub mod titled;
 
 use crate::lent::{open, Run, Sizes};
 use crate::machine::Move;

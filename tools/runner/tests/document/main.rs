@@ -2,6 +2,7 @@
 
 mod assembler;
 mod console;
+mod edges;
 mod errors;
 mod examples;
 mod generator;
