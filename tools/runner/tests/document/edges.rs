@@ -4,6 +4,7 @@ use std::collections::BTreeSet;
 use std::fs;
 use std::path::{Path, PathBuf};
 use std::process::Command;
+use std::sync::OnceLock;
 
 use runner::console::lines;
 use runner::examples::EXAMPLES;
@@ -56,10 +57,12 @@ const ANSWERS: [(&str, &str, bool); 25] = [
 ];
 
 /// The edge with a name, which begins its title.
-fn edge(name: &str) -> Titled {
+fn edge(name: &str) -> &'static Titled {
+    static CASES: OnceLock<Vec<Titled>> = OnceLock::new();
     let start = format!("{name}: ");
-    let mut found = cases()
-        .into_iter()
+    let mut found = CASES
+        .get_or_init(cases)
+        .iter()
         .filter(|case| case.title.starts_with(&start));
     let case = found.next().expect("the edge is there");
     assert_eq!(found.next(), None, "{name} stands twice");
@@ -170,7 +173,7 @@ fn cuts_stand_at_each_byte_of_a_line() {
         assert!(case.moves[4_096 - before..].starts_with(b"b 1 1\n"));
         assert_eq!(case.registered(), P);
     }
-    let twice = edge("cut_twice").moves;
+    let twice = &edge("cut_twice").moves;
     assert!(twice[8_192 - 3..].starts_with(b"b 1 1\n"));
     assert_ne!(twice[4_095], b'\n');
     let lengths = [
@@ -179,7 +182,7 @@ fn cuts_stand_at_each_byte_of_a_line() {
         ("piece_and_line_feed", 4_097, b'\n'),
     ];
     for (name, length, last) in lengths {
-        let moves = edge(name).moves;
+        let moves = &edge(name).moves;
         assert_eq!((moves.len(), moves.last()), (length, Some(&last)));
     }
 }
@@ -187,11 +190,11 @@ fn cuts_stand_at_each_byte_of_a_line() {
 #[test]
 fn long_lines_have_their_lengths() {
     for length in [4_095, 4_096, 100_000] {
-        let moves = edge(&format!("line_{length}")).moves;
-        assert_eq!(lines(&moves).next().unwrap().len(), length);
+        let moves = &edge(&format!("line_{length}")).moves;
+        assert_eq!(lines(moves).next().unwrap().len(), length);
     }
-    let last = edge("line_4097_last").moves;
-    assert_eq!(lines(&last).last().unwrap().len(), 4_097);
+    let last = &edge("line_4097_last").moves;
+    assert_eq!(lines(last).last().unwrap().len(), 4_097);
     assert_eq!(lines(&edge("lines_65537").moves).count(), 65_537);
 }
 
