@@ -10,7 +10,8 @@ use runner::machine::{open, Move};
 /// The transitions of figure 3 by their calls, and its arrows.
 const FIGURE_3: [&str; 3] = ["tf", "th", "tg"];
 const ARROWS_3: [(&str, &str); 1] = [("tf", "tg")];
-/// The transitions of figure 4 by their calls, and its arrows.
+/// The transitions of figure 4 by their calls, and its arrows: the pairs of which
+/// section 5 does not say that they swap.
 const FIGURE_4: [&str; 4] = ["t1", "t2", "t3", "t4"];
 const ARROWS_4: [(&str, &str); 3] = [("t1", "t3"), ("t1", "t4"), ("t2", "t3")];
 
