@@ -102,7 +102,7 @@ pub(crate) fn arg(c: Call, place: u32, regs: [i64; 8], x: usize, k: usize) -> Ac
 pub(crate) fn sender(c: Call, place: u32, regs: [i64; 8], x: usize) -> Action
     ensures { λ r. ⌜ r ≡ assign place regs x (pos (c .sender .0)) ⌝ }
 {
-    assign(place, regs, x, c.sender.0 as i64)
+    assign(place, regs, x, c.sender.number() as i64)
 }
 
 // "5 VALUE x"

@@ -9,6 +9,7 @@ use block::Call;
 use block::CallBody;
 use block::Refusal;
 use block::Verdict;
+use block::address::address_of;
 use block::limits::MAX_KEYS;
 use block::part::from;
 use block::part::long;
@@ -19,6 +20,7 @@ use block::record::HEAD_BYTES;
 use block::record::call_at;
 use block::record::code_at;
 use block::record::high_of;
+use block::record::id_of;
 use reader::Layout;
 ghost use mathlib.Core.Path.{_≡_};
 ghost use Prim.Native.Nat.{_+_, _*_, _≤_, _<_};
@@ -34,9 +36,6 @@ ghost use Rattle.analysis.specs.Filling.{Filled, Worded, setKeys};
 ghost use Rattle.analysis.specs.Gathered.{gathered};
 ghost use Rattle.analysis.specs.KeyTable.{Tabled};
 ghost use Rattle.analysis.specs.Laid.{Laid, analysisOf, blockOf, functionAt, openingKeys, setsAt};
-
-// A function's id is its contract times this and its number.
-const ID_BASE: u64 = 65536;
 
 // The place of an id among the first n, or n.
 fn id_place(ids: [u64; 64], n: usize, id: u64) -> usize
@@ -58,8 +57,8 @@ fn code_of(l: Layout, c: Call) -> Code
     requires { ⌜ Narrow l ⌝ }
     ensures { λ r. ⌜ r ≡ codeIn l (callId c) ⌝ }
 {
-    let id = c.contract.0 as u64 * ID_BASE + c.function as u64;
-    let at = id_place(l.ids, l.functions, id);
+    let contract = c.contract;
+    let at = id_place(l.ids, l.functions, id_of(contract, c.function));
     if at < l.functions {
         return Code {
             start: l.starts[at] as u64,
@@ -124,7 +123,7 @@ fn cell_high(file: &[u8], at: usize) -> u64
     ensures { λ r. ⌜ r ≡ highWord (cellOf (drop at (now (file .entry))) .key) ⌝ }
 {
     let s = from(file, at);
-    high_of(short(s, 0), short(s, 2), long(s, 4))
+    high_of(address_of(short(s, 0)), short(s, 2), long(s, 4))
 }
 
 fn cell_low(file: &[u8], at: usize) -> u64

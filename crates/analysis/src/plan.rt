@@ -5,6 +5,7 @@ use crate::collect::call_sets;
 use crate::rows::add_call;
 use crate::rows::row_for;
 use crate::table::cell_number;
+use block::address::address_of;
 use block::limits::MAX_CALL_KEYS;
 use block::part::from;
 use block::part::long;
@@ -147,7 +148,7 @@ fn open_cell(body: &[u8], keys: &[u64], n: usize, values: &mut [i64])
     requires { ⌜ Sorted n (now keys) ⌝ }
     ensures { λ r. ⌜ now (values .exit) ≡ set (now (values .entry)) (cellPlace (keysIn n (now (keys .entry))) (cellOf (now (body .entry)) .key)) (cellOf (now (body .entry)) .value) ⌝ }
 {
-    let high = high_of(short(body, 0), short(body, 2), long(body, 4));
+    let high = high_of(address_of(short(body, 0)), short(body, 2), long(body, 4));
     let low = long(body, 8) as u64;
     let number = cell_number(keys, n, high, low);
     wire::put_value(values, number, wire::get_i64(body, VALUE_AT));

@@ -1,17 +1,27 @@
--- What the proofs of this crate cite: parts of lists, and signs. Assumes nothing.
-use mathlib.Core.Path.{_≡_, refl, sym, _∙_}
+-- What the proofs of this crate cite: parts of lists, signs, and what an address tells of a payee and of a call. Assumes nothing.
+use mathlib.Core.Path.{_≡_, refl, sym, ap, _∙_}
 use mathlib.Core.Bool.{true, false}
 use mathlib.Core.List.{List}
-use Prim.Native.Nat.{ℕ, _*_, _-_, _/_, _<_, _≤_}
+use Prim.Native.Nat.{ℕ, _+_, _*_, _-_, _/_, _^_, _<_, _≤_}
 use native.Mathlib.Omega.{arith}
 use lib.IntN.{ℤ, pos, negsuc}
 use lib.ListN.{length, take, drop, getD, length-drop, drop-of-length-le}
 use lib.Seq.{take-all, drop-length, length-take-le}
 use lib.Signed.{ltZ, nonNeg}
-use borrow.Author.Tests.{ltb-true}
+use borrow.Author.Tests.{ltb-true, lt-ltb, le-ltb, le-leb, lt-leb}
 use Rattle.wire.specs.Bytes.{readLe}
 use Rattle.wire.specs.Laws.{read-one}
+use Rattle.arith.specs.Exact.{signed}
+use Rattle.block.specs.Key.{firstContract, addressOf, addressNumber, payeeOf}
+use Rattle.block.specs.KeyLaws.{number-named, account-below, contract-above}
 use Rattle.block.specs.Instruction.{decodeParts, decode}
+use Rattle.block.specs.Record.{callOf}
+use Rattle.block.specs.declared.address.Account.{Account}
+use Rattle.block.specs.declared.address.Contract.{Contract}
+use Rattle.block.specs.declared.address.Address.{Address}
+use Rattle.block.specs.declared.address.Address.the-variants.{OfAccount, OfContract}
+use Rattle.block.specs.declared.Payee.the-variants.{To, NoAccount}
+use Rattle.block.specs.declared.CallBody.the-variants.{InRange, OutOfRange}
 
 -- The part from a position to the end is all that stands there.
 pub to-the-end : (s : List ℕ) (at : ℕ) → take (length s - at) (drop at s) ≡ drop at s
@@ -43,3 +53,69 @@ pub decode-parts : (index size : ℕ) (s : List ℕ) {op x y z w : ℕ} → op �
     → w ≡ readLe 4 s 4 → decodeParts index size op x y z w ≡ decode index size s
 decode-parts index size s p q r t u =
     simp (p ∙ sym (read-one s 0), q ∙ sym (read-one s 1), r ∙ sym (read-one s 2), t ∙ sym (read-one s 3), u)
+
+-- What the address of a number that was read is.
+pub named : {r x : Address} {n m : ℕ} → r ≡ addressOf n → n ≡ m → r ≡ x → addressOf m ≡ x
+named e f g = sym (e ∙ ap addressOf f) ∙ g
+
+-- The first word of a key, by the number of its address.
+pub high-named : (n field a : ℕ) {r : Address} {high : ℕ} → r ≡ addressOf n → high ≡ addressNumber r * 2 ^ 48 + field * 2 ^ 32 + a
+    → high ≡ n * 2 ^ 48 + field * 2 ^ 32 + a
+high-named n field a e f = f ∙ ap (λ (k : ℕ). k * 2 ^ 48 + field * 2 ^ 32 + a) (ap addressNumber e ∙ number-named n)
+
+-- The payee of a number, by the address that it names.
+pub payee-account : (n : ℕ) (account : Account) → addressOf n ≡ OfAccount account → To account ≡ payeeOf n
+unfolding payeeOf
+payee-account n account e =
+    let h = account-below n account e in
+    let low : n < firstContract = omega (arith, h .0, h .1) in
+    simp (lt-ltb n firstContract low) (λ i. To (record { 0 = h .0 i }))
+
+pub payee-none : (n : ℕ) → firstContract ≤ n → NoAccount ≡ payeeOf n
+unfolding payeeOf
+payee-none n high = simp (le-ltb n firstContract high)
+
+pub payee-contract : (n : ℕ) (contract : Contract) → addressOf n ≡ OfContract contract → NoAccount ≡ payeeOf n
+payee-contract n contract e = let h = contract-above n contract e in payee-none n (omega (arith, h .0, h .1))
+
+-- A call's body, by the addresses that it names.
+module _ (s : List ℕ) where
+  pub call-sender : (contract : Contract) → addressOf (readLe 2 s 0) ≡ OfContract contract → OutOfRange ≡ callOf s
+  unfolding callOf
+  call-sender contract e =
+      let h = contract-above (readLe 2 s 0) contract e in
+      let high : firstContract ≤ readLe 2 s 0 = omega (arith, h .0, h .1) in
+      simp (le-ltb (readLe 2 s 0) firstContract high)
+
+  module _ (sender : Account) (e : addressOf (readLe 2 s 0) ≡ OfAccount sender) where
+    from : (sender .0 ≡ readLe 2 s 0) × (sender .0 < firstContract)
+    from = account-below (readLe 2 s 0) sender e
+
+    low : readLe 2 s 0 < firstContract
+    low = omega (arith, from .0, from .1)
+
+    pub call-contract : (account : Account) → addressOf (readLe 2 s 2) ≡ OfAccount account → OutOfRange ≡ callOf s
+    unfolding callOf
+    call-contract account f =
+        let h = account-below (readLe 2 s 2) account f in
+        let under : readLe 2 s 2 < firstContract = omega (arith, h .0, h .1) in
+        simp (lt-ltb (readLe 2 s 0) firstContract low, lt-leb firstContract (readLe 2 s 2) under)
+
+    module _ (contract : Contract) (f : addressOf (readLe 2 s 2) ≡ OfContract contract) where
+      to : (contract .0 ≡ readLe 2 s 2) × (firstContract ≤ contract .0)
+      to = contract-above (readLe 2 s 2) contract f
+
+      high : firstContract ≤ readLe 2 s 2
+      high = omega (arith, to .0, to .1)
+
+      pub call-negative : nonNeg (signed 64 (readLe 8 s 6)) ≡ false → OutOfRange ≡ callOf s
+      unfolding callOf
+      call-negative g = simp (lt-ltb (readLe 2 s 0) firstContract low, le-leb firstContract (readLe 2 s 2) high, g)
+
+      pub call-good : nonNeg (signed 64 (readLe 8 s 6)) ≡ true
+          → InRange (record { sender = sender; contract = contract; function = readLe 2 s 4; value = signed 64 (readLe 8 s 6); arg1 = readLe 4 s 14; arg2 = readLe 4 s 18; arg3 = readLe 4 s 22; arg4 = readLe 4 s 26 })
+          ≡ callOf s
+      unfolding callOf
+      call-good g =
+          simp (lt-ltb (readLe 2 s 0) firstContract low, le-leb firstContract (readLe 2 s 2) high, g)
+          (λ i. InRange (record { sender = record { 0 = from .0 i }; contract = record { 0 = to .0 i }; function = readLe 2 s 4; value = signed 64 (readLe 8 s 6); arg1 = readLe 4 s 14; arg2 = readLe 4 s 18; arg3 = readLe 4 s 22; arg4 = readLe 4 s 26 }))

@@ -13,9 +13,9 @@ use Rattle.wire.specs.Bytes.{bytesOf}
 use Rattle.block.specs.Limits.{maxBytes, maxFunctions, maxCode, maxCells, maxCalls}
 use Rattle.block.specs.Key.{firstContract, addressOf, addressIn, fieldIn, aIn, bIn, isBalance, keyAllowed}
 use Rattle.block.specs.Instruction.{instrBytes, decode, isValid}
-use Rattle.block.specs.Record.{Function, Cell, Block, headBytes, functionKind, cellKind, callKind, endKind, recordOf}
+use Rattle.block.specs.Record.{Function, Cell, Block, headBytes, functionKind, cellKind, callKind, endKind, idOf, recordOf}
 use Rattle.block.specs.Reader.{balances, accepted, readBlock}
-use Rattle.block.specs.declared.Contract.{Contract}
+use Rattle.block.specs.declared.address.Contract.{Contract}
 use Rattle.block.specs.declared.Call.{Call}
 
 -- "1, function: contract 2, function number 2, then 0 to 64 instructions of 8 bytes", with the bytes of its instructions.
@@ -110,7 +110,7 @@ pub record CallKeeps (c : Call) : Type 0 where
 
 -- "strictly rising by (contract, function)": the two as one number.
 abbrev pub routineId : Routine → ℕ
-routineId f = f .contract .0 * 65536 + f .number
+routineId f = idOf (f .contract) (f .number)
 
 -- "At most 64 records, strictly rising"; "At most 1,024, keys strictly rising", balances of at most 2^63 - 1 together; "At most 256".
 pub record FunctionsKeep (fs : List Routine) : Type 0 where

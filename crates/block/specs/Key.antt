@@ -3,10 +3,10 @@ use mathlib.Core.Bool.{Bool, _&&_, _||_, not}
 use Prim.Native.Nat.{ℕ, _+_, _*_, _/_, _%_, _^_}
 use lib.Dec.{eqb, ltb}
 use Rattle.arith.specs.Choice.{if_then_else_}
-use Rattle.block.specs.declared.Account.{Account}
-use Rattle.block.specs.declared.Contract.{Contract}
-use Rattle.block.specs.declared.Address.{Address}
-use Rattle.block.specs.declared.Address.the-variants.{OfAccount, OfContract}
+use Rattle.block.specs.declared.address.Account.{Account}
+use Rattle.block.specs.declared.address.Contract.{Contract}
+use Rattle.block.specs.declared.address.Address.{Address}
+use Rattle.block.specs.declared.address.Address.the-variants.{OfAccount, OfContract}
 use Rattle.block.specs.declared.Payee.{Payee}
 use Rattle.block.specs.declared.Payee.the-variants.{To, NoAccount}
 
@@ -16,6 +16,11 @@ firstContract = 32768
 
 unfoldable pub addressOf : ℕ → Address
 addressOf n = if ltb n firstContract then OfAccount (record { 0 = n }) else OfContract (record { 0 = n })
+
+-- The number of an address.
+abbrev pub addressNumber : Address → ℕ
+addressNumber (OfAccount account) = account .0
+addressNumber (OfContract contract) = contract .0
 
 -- PAY's target: all 32 bits name it, and only 0 to 32767 is an account.
 unfoldable pub payeeOf : ℕ → Payee

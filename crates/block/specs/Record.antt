@@ -12,7 +12,7 @@ use Rattle.wire.specs.Bytes.{number, readLe, bytesOf}
 use Rattle.block.specs.Limits.{maxCode}
 use Rattle.block.specs.Key.{firstContract, addressOf, keyOf, keyAllowed}
 use Rattle.block.specs.Instruction.{instrBytes}
-use Rattle.block.specs.declared.Contract.{Contract}
+use Rattle.block.specs.declared.address.Contract.{Contract}
 use Rattle.block.specs.declared.Call.{Call}
 use Rattle.block.specs.declared.CallBody.{CallBody}
 use Rattle.block.specs.declared.CallBody.the-variants.{InRange, OutOfRange}
@@ -70,12 +70,15 @@ pub record Block : Type 0 where
   pub first : ℕ
 
 -- "strictly rising by (contract, function)": the two as one number.
-abbrev pub functionId : Function → ℕ
-functionId f = f .contract .0 * 65536 + f .number
+abbrev pub idOf : Contract → ℕ → ℕ
+idOf contract function = contract .0 * 65536 + function
 
--- The (contract, function) that a call names, as such a number.
+-- The number of a function, and of the one that a call names.
+abbrev pub functionId : Function → ℕ
+functionId f = idOf (f .contract) (f .number)
+
 abbrev pub callId : Call → ℕ
-callId c = c .contract .0 * 65536 + c .function
+callId c = idOf (c .contract) (c .function)
 
 -- "4 length not the kind's"
 unfoldable pub lengthAllowed : ℕ → ℕ → Bool

@@ -1,21 +1,14 @@
 // The block file: addresses, instructions, call records, and the refusals of an input.
+pub mod address;
 pub mod instruction;
 pub mod limits;
 pub mod numbers;
 pub mod part;
 pub mod record;
 
-// An account address, 0 to 32767.
-pub struct Account(pub u16);
-
-// A contract address, 32768 to 65535.
-pub struct Contract(pub u16);
-
-// What 16 bits name: the one or the other, never both.
-pub enum Address {
-    OfAccount(Account),
-    OfContract(Contract),
-}
+pub use address::Account;
+pub use address::Address;
+pub use address::Contract;
 
 // Whom a number of 32 bits names as the target of PAY.
 pub enum Payee {

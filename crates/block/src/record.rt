@@ -1,18 +1,18 @@
-// The bodies of records: the code of a function, call records, and the addresses they name.
-use crate::Account;
+// The bodies of records: the code of a function, call records, and the keys they name.
 use crate::Address;
 use crate::Call;
 use crate::CallBody;
 use crate::Contract;
 use crate::Payee;
+use crate::address::address_of;
 use crate::part::from;
 use crate::part::long;
 use crate::part::short;
 ghost use mathlib.Core.Path.{_≡_};
 ghost use lib.ListN.{drop};
 ghost use Prim.Native.Nat.{_+_, _*_, _^_};
-ghost use Rattle.block.specs.Key.{addressOf, payeeOf, keyAllowed};
-ghost use Rattle.block.specs.Record.{callOf, argument, codeAt, lengthAllowed};
+ghost use Rattle.block.specs.Key.{addressNumber, payeeOf, keyAllowed};
+ghost use Rattle.block.specs.Record.{callOf, argument, codeAt, idOf, lengthAllowed};
 
 // "little-endian records: length (2 bytes, of the body), kind (2), body", and the kinds.
 pub const HEAD_BYTES: usize = 4;
@@ -45,28 +45,21 @@ pub const ADDRESS_BASE: u64 = 281474976710656;
 
 pub const FIELD_BASE: u64 = 4294967296;
 
-// "contract addresses 32768 to 65535"
-pub const FIRST_CONTRACT: u16 = 32768;
+// How many addresses there are, and the place value of the contract in a function's id.
+const ADDRESSES: u64 = 65536;
 
-// What 16 bits name.
-pub fn address_of(n: u16) -> Address
-    ensures { λ r. ⌜ r ≡ addressOf n ⌝ }
-{
-    if n < FIRST_CONTRACT {
-        Address::OfAccount(Account(n))
-    } else {
-        Address::OfContract(Contract(n))
-    }
-}
+const ID_BASE: u64 = 65536;
 
 // Whom a number names as the target of PAY: all its bits count.
 pub fn payee_of(n: u64) -> Payee
     ensures { λ r. ⌜ r ≡ payeeOf n ⌝ }
 {
-    if n < FIRST_CONTRACT as u64 {
-        Payee::To(Account(n as u16))
-    } else {
-        Payee::NoAccount
+    if ADDRESSES <= n {
+        return Payee::NoAccount;
+    }
+    match address_of(n as u16) {
+        Address::OfAccount(account) => Payee::To(account),
+        Address::OfContract(_) => Payee::NoAccount,
     }
 }
 
@@ -100,10 +93,17 @@ pub fn key_allowed(address: Address, field: u16, a: u32, b: u32) -> bool
 }
 
 // The first part of a key as a word: address, field, a.
-pub fn high_of(address: u16, field: u16, a: u32) -> u64
-    ensures { λ r. ⌜ r ≡ address * 2 ^ 48 + field * 2 ^ 32 + a ⌝ }
+pub fn high_of(address: Address, field: u16, a: u32) -> u64
+    ensures { λ r. ⌜ r ≡ addressNumber address * 2 ^ 48 + field * 2 ^ 32 + a ⌝ }
 {
-    address as u64 * ADDRESS_BASE + field as u64 * FIELD_BASE + a as u64
+    address.number() as u64 * ADDRESS_BASE + field as u64 * FIELD_BASE + a as u64
+}
+
+// A function's id: its contract and its number as one.
+pub fn id_of(contract: Contract, number: u16) -> u64
+    ensures { λ r. ⌜ r ≡ idOf contract number ⌝ }
+{
+    contract.number() as u64 * ID_BASE + number as u64
 }
 
 // The finder: the part of the lent block that holds the code of `size` instructions at `start`, cut where the block ends.
@@ -123,21 +123,19 @@ pub fn call_at(block: &[u8], at: usize) -> CallBody
     ensures { λ r. ⌜ r ≡ callOf (drop at (now (block .entry))) ⌝ }
 {
     let s = from(block, at);
-    let sender = short(s, 0);
-    let contract = short(s, 2);
     let value = wire::get_i64(s, 6);
-    if FIRST_CONTRACT <= sender {
+    let Address::OfAccount(sender) = address_of(short(s, 0)) else {
         return CallBody::OutOfRange;
-    }
-    if contract < FIRST_CONTRACT {
+    };
+    let Address::OfContract(contract) = address_of(short(s, 2)) else {
         return CallBody::OutOfRange;
-    }
+    };
     if value < 0 {
         return CallBody::OutOfRange;
     }
     CallBody::InRange(Call {
-        sender: Account(sender),
-        contract: Contract(contract),
+        sender,
+        contract,
         function: short(s, 4),
         value,
         arg1: long(s, 14),

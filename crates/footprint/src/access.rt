@@ -1,16 +1,16 @@
 // The uses of keys by a call's entry and by each instruction: the set analysis and a step ask the same functions.
 use crate::KeyUse;
 use crate::Uses;
+use block::Address;
 use block::Call;
 use block::Instr;
 use block::Payee;
 use block::Source;
-use block::record::ADDRESS_BASE;
-use block::record::FIELD_BASE;
 use block::record::argument;
+use block::record::high_of;
 use block::record::payee_of;
 ghost use mathlib.Core.Path.{_≡_};
-ghost use Rattle.block.specs.Key.{keyOf};
+ghost use Rattle.block.specs.Key.{addressNumber, keyOf};
 ghost use Rattle.footprint.specs.Access.{accesses, cellKey, entryAccesses, payAccesses, sourceValue};
 ghost use Rattle.footprint.specs.Uses.{noUse, useOf, usesOf};
 
@@ -18,7 +18,7 @@ ghost use Rattle.footprint.specs.Uses.{noUse, useOf, usesOf};
 fn source_word(c: Call, s: Source) -> u32
     ensures { λ r. ⌜ r ≡ sourceValue c s ⌝ }
 {
-    let sender = c.sender.0 as u32;
+    let sender = c.sender.number() as u32;
     match s {
         Source::Zero => 0,
         Source::Argument(k) => argument(c, k) as u32,
@@ -35,11 +35,11 @@ pub fn source_value(c: Call, s: Source) -> u64
 }
 
 // The use of the key with these parts.
-fn key_use(address: u16, field: u16, a: u32, b: u32, reads: bool, writes: bool) -> KeyUse
-    ensures { λ r. ⌜ r ≡ useOf (record { key = keyOf address field a b; reads = reads; writes = writes }) ⌝ }
+fn key_use(address: Address, field: u16, a: u32, b: u32, reads: bool, writes: bool) -> KeyUse
+    ensures { λ r. ⌜ r ≡ useOf (record { key = keyOf (addressNumber address) field a b; reads = reads; writes = writes }) ⌝ }
 {
     KeyUse {
-        high: address as u64 * ADDRESS_BASE + field as u64 * FIELD_BASE + a as u64,
+        high: high_of(address, field, a),
         low: b as u64,
         reads,
         writes,
@@ -47,8 +47,8 @@ fn key_use(address: u16, field: u16, a: u32, b: u32, reads: bool, writes: bool) 
 }
 
 // The use of the balance of an address.
-fn balance_use(address: u16, reads: bool, writes: bool) -> KeyUse
-    ensures { λ r. ⌜ r ≡ useOf (record { key = keyOf address 0 0 0; reads = reads; writes = writes }) ⌝ }
+fn balance_use(address: Address, reads: bool, writes: bool) -> KeyUse
+    ensures { λ r. ⌜ r ≡ useOf (record { key = keyOf (addressNumber address) 0 0 0; reads = reads; writes = writes }) ⌝ }
 {
     key_use(address, 0, 0, 0, reads, writes)
 }
@@ -57,8 +57,9 @@ fn balance_use(address: u16, reads: bool, writes: bool) -> KeyUse
 fn cell_use(c: Call, field: u16, a: Source, b: Source, reads: bool, writes: bool) -> KeyUse
     ensures { λ r. ⌜ r ≡ useOf (record { key = cellKey c field a b; reads = reads; writes = writes }) ⌝ }
 {
+    let contract = c.contract;
     key_use(
-        c.contract.0,
+        Address::OfContract(contract),
         field,
         source_word(c, a),
         source_word(c, b),
@@ -114,9 +115,11 @@ pub fn entry_uses(c: Call) -> Uses
     ensures { λ r. ⌜ r ≡ usesOf (entryAccesses c) ⌝ }
 {
     if 0 < c.value {
+        let sender = c.sender;
+        let contract = c.contract;
         return two(
-            balance_use(c.sender.0, true, true),
-            balance_use(c.contract.0, false, true),
+            balance_use(Address::OfAccount(sender), true, true),
+            balance_use(Address::OfContract(contract), false, true),
         );
     }
     none()
@@ -126,9 +129,10 @@ pub fn entry_uses(c: Call) -> Uses
 fn pay_uses(c: Call, target: Payee) -> Uses
     ensures { λ r. ⌜ r ≡ usesOf (payAccesses c target) ⌝ }
 {
-    let own = balance_use(c.contract.0, true, true);
+    let contract = c.contract;
+    let own = balance_use(Address::OfContract(contract), true, true);
     match target {
-        Payee::To(account) => two(own, balance_use(account.0, false, true)),
+        Payee::To(account) => two(own, balance_use(Address::OfAccount(account), false, true)),
         Payee::NoAccount => one(own),
     }
 }
@@ -137,10 +141,11 @@ fn pay_uses(c: Call, target: Payee) -> Uses
 pub fn instr_uses(c: Call, i: Instr) -> Uses
     ensures { λ r. ⌜ r ≡ usesOf (accesses c i) ⌝ }
 {
+    let contract = c.contract;
     match i {
         Instr::Get { x: _, field, a, b } => one(cell_use(c, field, a, b, true, false)),
         Instr::Put { x: _, field, a, b } => one(cell_use(c, field, a, b, false, true)),
-        Instr::Bal { x: _ } => one(balance_use(c.contract.0, true, false)),
+        Instr::Bal { x: _ } => one(balance_use(Address::OfContract(contract), true, false)),
         Instr::Pay { x: _, target } => pay_uses(c, payee_of(source_value(c, target))),
         _ => none(),
     }

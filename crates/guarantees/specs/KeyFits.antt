@@ -18,8 +18,8 @@ use Rattle.block.specs.Instruction.{instrBytes, decode}
 use Rattle.block.specs.Record.{Function, Cell, Block, cellOf, cellAllowed, codeAt}
 use Rattle.block.specs.ReaderLaws as reading
 use Rattle.block.specs.ReaderLaws.{Laws}
-use Rattle.block.specs.declared.Address.{Address}
-use Rattle.block.specs.declared.Address.the-variants.{OfAccount, OfContract}
+use Rattle.block.specs.declared.address.Address.{Address}
+use Rattle.block.specs.declared.address.Address.the-variants.{OfAccount, OfContract}
 use Rattle.block.specs.declared.Call.{Call}
 use Rattle.block.specs.declared.Decoded.{Decoded}
 use Rattle.block.specs.declared.Decoded.the-variants.{Valid, Invalid}

@@ -22,8 +22,8 @@ use Rattle.block.specs.KeyLaws.{key-parts}
 use Rattle.block.specs.Limits.{maxCells}
 use Rattle.block.specs.Record.{Cell}
 use Rattle.block.specs.Reader.{balances}
-use Rattle.block.specs.declared.Address.{Address}
-use Rattle.block.specs.declared.Address.the-variants.{OfAccount, OfContract}
+use Rattle.block.specs.declared.address.Address.{Address}
+use Rattle.block.specs.declared.address.Address.the-variants.{OfAccount, OfContract}
 use Rattle.footprint.specs.Conflict.{member}
 use Rattle.footprint.specs.LimitLaws.{balanceKey, balances-at, limit-balance}
 use Rattle.footprint.specs.Plan.{openingValue}

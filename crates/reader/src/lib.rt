@@ -1,8 +1,10 @@
 // The block reader: one record after another, with the refusals 1 to 10 in their order. Each function is the one of
 // specs/Reader.antt of that name, on numbers that stand for the block read so far.
+use block::Address;
 use block::CallBody;
 use block::Refusal;
 use block::Verdict;
+use block::address::address_of;
 use block::instruction::decode;
 use block::instruction::is_valid;
 use block::limits::MAX_BYTES;
@@ -14,14 +16,13 @@ use block::part::short;
 use block::record::CALL_KIND;
 use block::record::CELL_KIND;
 use block::record::END_KIND;
-use block::record::FIRST_CONTRACT;
 use block::record::FUNCTION_BYTES;
 use block::record::FUNCTION_KIND;
 use block::record::HEAD_BYTES;
 use block::record::INSTR_BYTES;
-use block::record::address_of;
 use block::record::call_at;
 use block::record::high_of;
+use block::record::id_of;
 use block::record::key_allowed;
 use block::record::length_allowed;
 ghost use mathlib.Core.Path.{_≡_};
@@ -35,9 +36,6 @@ ghost use Rattle.block.specs.Record.{Block, lengthAllowed};
 ghost use Rattle.block.specs.Reader.{readFunction, readCell, readCall, readEnd, readBody, readRecord, readBlock, refused};
 ghost use Rattle.reader.specs.Layout.{layoutOf};
 ghost use Rattle.reader.specs.Standing.{valueAllowed, Steady, started, afterFunction, afterCell, afterCall, Holds, Turned, left};
-
-// A function's id is its contract times this and its number.
-const ID_BASE: u64 = 65536;
 
 // The largest sum of balances.
 const LARGEST: u64 = 9223372036854775807;
@@ -119,11 +117,10 @@ fn read_function(body: &[u8], len: usize, p: Progress) -> Turn
     if MAX_FUNCTIONS <= p.functions {
         return Turn::End(Verdict::Refused(Refusal::BeyondLimit(at)));
     }
-    let contract = short(body, 0);
-    if contract < FIRST_CONTRACT {
+    let Address::OfContract(contract) = address_of(short(body, 0)) else {
         return Turn::End(Verdict::Refused(Refusal::Field(at)));
-    }
-    let id = contract as u64 * ID_BASE + short(body, 2) as u64;
+    };
+    let id = id_of(contract, short(body, 2));
     let start = at + HEAD_BYTES + FUNCTION_BYTES;
     let size = (len - FUNCTION_BYTES) / INSTR_BYTES;
     let i = first_invalid(body, size);
@@ -195,12 +192,12 @@ fn read_cell(body: &[u8], len: usize, p: Progress) -> Turn
     if MAX_CELLS <= p.cells {
         return Turn::End(Verdict::Refused(Refusal::BeyondLimit(at)));
     }
-    let address = short(body, 0);
+    let address = address_of(short(body, 0));
     let field = short(body, 2);
     let a = long(body, 4);
     let b = long(body, 8);
     let bits = wire::get64(body, 12);
-    if !key_allowed(address_of(address), field, a, b) {
+    if !key_allowed(address, field, a, b) {
         return Turn::End(Verdict::Refused(Refusal::Field(at)));
     }
     if !value_allowed(field, bits) {

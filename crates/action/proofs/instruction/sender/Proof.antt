@@ -1,10 +1,13 @@
 -- `action::instruction::sender` meets its contract: an account has 16 bits, so a register holds it. Assumes nothing.
 use borrow.Author.Needs.{needs}
-use mathlib.Core.Path.{_∙_}
+use mathlib.Core.Path.{ap, _∙_}
 use lib.IntN.{pos}
 use Rattle.arith.proofs.Laws.{back}
 use Rattle.action.proofs.instruction.sender.Statement.{statement}
 use Rattle.action.proofs.instruction.sender.Tie as tie
+
+number-requires : tie.Need-number-requires
+number-requires c κs = search needs
 
 cast-assign : tie.Need-cast-assign
 cast-assign c = search needs
@@ -13,7 +16,7 @@ assign-requires : tie.Need-assign-requires
 assign-requires c κs = search needs
 
 returns : tie.Need-returns
-returns c = c .assign .ensures ∙ simp (back {z = pos (c .before .before .args .c .sender .0)} (cast-assign (c .before)))
+returns c = c .assign .ensures ∙ simp (back {z = pos (c .before .number .result)} (cast-assign (c .before)) ∙ ap pos (c .before .number .ensures))
 
 pub sender-spec : {M : Type 1} → statement M
-sender-spec = tie.close (tie.spec cast-assign assign-requires returns)
+sender-spec = tie.close (tie.spec number-requires cast-assign assign-requires returns)

@@ -2,12 +2,16 @@
 -- other. Assumes nothing.
 use borrow.Author.Needs.{needs}
 use Rattle.arith.proofs.Laws.{back}
+use Rattle.block.proofs.Laws.{high-named}
 use Rattle.analysis.proofs.PlanLoops.{cell-stored}
 use Rattle.analysis.proofs.plan.open_cell.Statement.{statement}
 use Rattle.analysis.proofs.plan.open_cell.Tie as tie
 
 short-requires : tie.Need-short-requires
 short-requires c κs = search needs
+
+address-of-requires : tie.Need-address-of-requires
+address-of-requires c κs = search needs
 
 short-requires-2 : tie.Need-short-requires-2
 short-requires-2 c κs = search needs
@@ -38,8 +42,8 @@ same-length c = search needs
 
 returns : tie.Need-returns
 returns c =
-    cell-stored _ _ (c .before .before .before .before .before .before .before .before .before .before .before .before .args .values .now) _ (c .before .before .before .before .before .before .before .before .before .short .ensures) (c .before .before .before .before .before .before .before .before .short2 .ensures) (c .before .before .before .before .before .before .before .long .ensures) (c .before .before .before .before .before .long2 .ensures)
-    (c .before .before .before .before .before .before .high-of .ensures) (c .before .before .before .before .cell-number .ensures) (c .before .before .get-i64 .ensures)
+    cell-stored _ _ (c .before .before .before .before .before .before .before .before .before .before .before .before .before .args .values .now) _ (c .before .before .before .before .before .before .before .before .before .before .short .ensures) (c .before .before .before .before .before .before .before .before .short2 .ensures) (c .before .before .before .before .before .before .before .long .ensures) (c .before .before .before .before .before .long2 .ensures)
+    (high-named (c .before .before .before .before .before .before .before .before .before .before .short .result) (c .before .before .before .before .before .before .before .before .short2 .result) (c .before .before .before .before .before .before .before .long .result) (c .before .before .before .before .before .before .before .before .before .address-of .ensures) (c .before .before .before .before .before .before .high-of .ensures)) (c .before .before .before .before .cell-number .ensures) (c .before .before .get-i64 .ensures)
     (back {z = c .before .before .get-i64 .result} (record { sfits = c .before .before .get-i64 .ok })) (c .before .put-value .ensures)
 
 pub open-cell-spec : {M : Type 1} → statement M
@@ -47,6 +51,7 @@ open-cell-spec =
     tie.close
     (tie.spec
     short-requires
+    address-of-requires
     short-requires-2
     long-requires
     high-of-requires

@@ -1,35 +1,56 @@
--- `block::record::call_at` meets its contract: its tests are the definition's, on the numbers that it reads. Assumes nothing.
+-- `block::record::call_at` meets its contract: the addresses and the value that it reads are those that the definition tests. Assumes nothing.
 use borrow.Author.Needs.{needs}
-use borrow.Author.Tests.{le-leb, le-ltb, lt-leb, lt-ltb}
+use mathlib.Core.Path.{sym, ap, _∙_}
+use lib.Signed.{nonNeg}
 use Rattle.arith.proofs.Laws.{back}
-use Rattle.block.proofs.Laws.{negative, not-negative}
-use Rattle.block.specs.Record.{callOf}
+use Rattle.block.proofs.Laws.{named, negative, not-negative, call-sender, call-contract, call-negative, call-good}
 use Rattle.block.proofs.record.call_at.Statement.{statement}
 use Rattle.block.proofs.record.call_at.Tie as tie
 
 from-requires : tie.Need-from-requires
 from-requires c κs = search needs
 
+get-i64-requires : tie.Need-get-i64-requires
+get-i64-requires c κs = search needs
+
 short-requires : tie.Need-short-requires
 short-requires c κs = search needs
+
+address-of-requires : tie.Need-address-of-requires
+address-of-requires c κs = search needs
+
+enum-known-sender : tie.Need-enum-known-sender
+enum-known-sender c = search needs
+
+enum-told : tie.Need-enum-told
+enum-told c = search needs
+
+returns : tie.Need-returns
+returns c =
+    rw (← c .before .before .before .before .before .from .ensures)
+    (call-sender _ _ (named (c .before .before .address-of .ensures) (c .before .before .before .short .ensures) (c .enum-told .given .1)))
 
 short-requires-2 : tie.Need-short-requires-2
 short-requires-2 c κs = search needs
 
-get-i64-requires : tie.Need-get-i64-requires
-get-i64-requires c κs = search needs
+address-of-requires-2 : tie.Need-address-of-requires-2
+address-of-requires-2 c κs = search needs
 
-returns : tie.Need-returns
-unfolding callOf
-returns c = rw (← c .before .before .before .before .from .ensures) (simp (← c .before .before .before .short .ensures, le-ltb _ _ (c .if1 .taken)))
+enum-known-contract : tie.Need-enum-known-contract
+enum-known-contract c = search needs
+
+enum-told-2 : tie.Need-enum-told-2
+enum-told-2 c = search needs
 
 returns-2 : tie.Need-returns-2
-unfolding callOf
-returns-2 c = rw (← c .before .before .before .before .before .from .ensures) (simp (← c .before .before .before .before .short .ensures, ← c .before .before .before .short2 .ensures, lt-ltb _ _ (c .before .if1 .left), lt-leb _ _ (c .if2 .taken)))
+returns-2 c =
+    rw (← c .before .before .before .before .before .before .before .before .before .before .from .ensures)
+    (call-contract _ _ (named (c .before .before .before .before .before .before .before .address-of .ensures) (c .before .before .before .before .before .before .before .before .short .ensures) (c .before .before .before .before .before .sender .given .1)) _ (named (c .before .before .address-of2 .ensures) (c .before .before .before .short2 .ensures) (c .enum-told2 .given .1)))
 
 returns-3 : tie.Need-returns-3
-unfolding callOf
-returns-3 c = rw (← c .before .before .before .before .before .before .from .ensures) (simp (← c .before .before .before .before .before .short .ensures, ← c .before .before .before .before .short2 .ensures, ← c .before .before .before .get-i64 .ensures, lt-ltb _ _ (c .before .before .if1 .left), le-leb _ _ (c .before .if2 .left), negative (c .before .before .before .get-i64 .result) (simp (back {z = c .before .before .before .get-i64 .result} (record { sfits = c .before .before .before .get-i64 .ok })) at (c .if3 .taken))))
+returns-3 c =
+    rw (← c .before .before .before .before .before .before .before .before .before .before .before .before .from .ensures)
+    (call-negative _ _ (named (c .before .before .before .before .before .before .before .before .before .address-of .ensures) (c .before .before .before .before .before .before .before .before .before .before .short .ensures) (c .before .before .before .before .before .before .before .sender .given .1)) _ (named (c .before .before .before .before .address-of2 .ensures) (c .before .before .before .before .before .short2 .ensures) (c .before .before .contract .given .1)) (sym (ap nonNeg (c .before .before .before .before .before .before .before .before .before .before .before .get-i64 .ensures)) ∙ negative (c .before .before .before .before .before .before .before .before .before .before .before .get-i64 .result) (simp (back {z = c .before .before .before .before .before .before .before .before .before .before .before .get-i64 .result} (record { sfits = c .before .before .before .before .before .before .before .before .before .before .before .get-i64 .ok })) at (c .if1 .taken))))
 
 short-requires-3 : tie.Need-short-requires-3
 short-requires-3 c κs = search needs
@@ -47,18 +68,26 @@ long-requires-4 : tie.Need-long-requires-4
 long-requires-4 c κs = search needs
 
 returns-4 : tie.Need-returns-4
-unfolding callOf
-returns-4 c = rw (← c .before .before .before .before .before .before .before .before .before .before .before .from .ensures) (simp (← c .before .before .before .before .before .before .before .before .before .before .short .ensures, ← c .before .before .before .before .before .before .before .before .before .short2 .ensures, ← c .before .before .before .before .before .before .before .before .get-i64 .ensures, lt-ltb _ _ (c .before .before .before .before .before .before .before .if1 .left), le-leb _ _ (c .before .before .before .before .before .before .if2 .left), not-negative (c .before .before .before .before .before .before .before .before .get-i64 .result) (simp (back {z = c .before .before .before .before .before .before .before .before .get-i64 .result} (record { sfits = c .before .before .before .before .before .before .before .before .get-i64 .ok })) at (c .before .before .before .before .before .if3 .left)), ← c .before .before .before .before .short3 .ensures, ← c .before .before .before .long .ensures, ← c .before .before .long2 .ensures, ← c .before .long3 .ensures, ← c .long4 .ensures, back {z = c .before .before .before .before .before .before .before .before .get-i64 .result} (record { sfits = c .before .before .before .before .before .before .before .before .get-i64 .ok })))
+returns-4 c =
+    rw (← c .before .before .before .before .before .before .before .before .before .before .before .before .before .before .before .before .before .from .ensures)
+    (simp (back {z = c .before .before .before .before .before .before .before .before .before .before .before .before .before .before .before .before .get-i64 .result} (record { sfits = c .before .before .before .before .before .before .before .before .before .before .before .before .before .before .before .before .get-i64 .ok }) ∙ c .before .before .before .before .before .before .before .before .before .before .before .before .before .before .before .before .get-i64 .ensures, c .before .before .before .before .short3 .ensures, c .before .before .before .long .ensures, c .before .before .long2 .ensures, c .before .long3 .ensures, c .long4 .ensures)
+    (call-good _ _ (named (c .before .before .before .before .before .before .before .before .before .before .before .before .before .before .address-of .ensures) (c .before .before .before .before .before .before .before .before .before .before .before .before .before .before .before .short .ensures) (c .before .before .before .before .before .before .before .before .before .before .before .before .sender .given .1)) _ (named (c .before .before .before .before .before .before .before .before .before .address-of2 .ensures) (c .before .before .before .before .before .before .before .before .before .before .short2 .ensures) (c .before .before .before .before .before .before .before .contract .given .1)) (sym (ap nonNeg (c .before .before .before .before .before .before .before .before .before .before .before .before .before .before .before .before .get-i64 .ensures)) ∙ not-negative (c .before .before .before .before .before .before .before .before .before .before .before .before .before .before .before .before .get-i64 .result) (simp (back {z = c .before .before .before .before .before .before .before .before .before .before .before .before .before .before .before .before .get-i64 .result} (record { sfits = c .before .before .before .before .before .before .before .before .before .before .before .before .before .before .before .before .get-i64 .ok })) at (c .before .before .before .before .before .if1 .left)))))
 
 pub call-at-spec : {M : Type 1} → statement M
 call-at-spec =
     tie.close
     (tie.spec
     from-requires
-    short-requires
-    short-requires-2
     get-i64-requires
+    short-requires
+    address-of-requires
+    enum-known-sender
+    enum-told
     returns
+    short-requires-2
+    address-of-requires-2
+    enum-known-contract
+    enum-told-2
     returns-2
     returns-3
     short-requires-3

@@ -1,23 +1,40 @@
--- `block::record::payee_of` meets its contract: the test is the definition's. Assumes nothing.
+-- `block::record::payee_of` meets its contract: the address of the number tells whether it is an account. Assumes nothing.
 use borrow.Author.Needs.{needs}
-use borrow.Author.Tests.{le-ltb, lt-ltb}
-use Rattle.block.specs.Key.{payeeOf}
+use mathlib.Core.Path.{refl}
+use native.Mathlib.Omega.{arith}
+use Rattle.block.proofs.Laws.{named, payee-account, payee-contract, payee-none}
 use Rattle.block.proofs.record.payee_of.Statement.{statement}
 use Rattle.block.proofs.record.payee_of.Tie as tie
 
-cast-if1 : tie.Need-cast-if1
-cast-if1 c = search needs
-
-cast-t5 : tie.Need-cast-t5
-cast-t5 c = search needs
-
 returns : tie.Need-returns
-unfolding payeeOf
-returns c = simp (lt-ltb _ _ (c .if1 .taken))
+returns c = payee-none _ (omega (arith, c .if1 .taken))
+
+cast-address-of : tie.Need-cast-address-of
+cast-address-of c = search needs
+
+address-of-requires : tie.Need-address-of-requires
+address-of-requires c κs = search needs
+
+enum-known-account : tie.Need-enum-known-account
+enum-known-account c = search needs
+
+enum-told : tie.Need-enum-told
+enum-told c = search needs
 
 returns-2 : tie.Need-returns-2
-unfolding payeeOf
-returns-2 c = simp (le-ltb _ _ (c .if1 .left))
+returns-2 c = payee-account _ _ (named (c .before .before .before .address-of .ensures) refl (c .before .account .given .1))
+
+returns-3 : tie.Need-returns-3
+returns-3 c = payee-contract _ _ (named (c .before .before .address-of .ensures) refl (c .enum-told .given .1))
 
 pub payee-of-spec : {M : Type 1} → statement M
-payee-of-spec = tie.close (tie.spec cast-if1 cast-t5 returns returns-2)
+payee-of-spec =
+    tie.close
+    (tie.spec
+    returns
+    cast-address-of
+    address-of-requires
+    enum-known-account
+    enum-told
+    returns-2
+    returns-3)

@@ -19,7 +19,7 @@ two-requires c κs = search needs
 returns : tie.Need-returns
 unfolding usesOf entryAccesses
 returns c =
-    simp (value-test (c .before .before .before .before .before .before .args .c .value) (c .before .before .before .before .struct-told .given .1 .1 .1 .0 .1) (c .before .before .before .if1 .taken))
+    simp (value-test (c .before .before .before .before .before .before .before .before .args .c .value) (c .before .before .before .before .before .before .struct-told .given .1 .1 .1 .0 .1) (c .before .before .before .before .before .if1 .taken))
     (c .two .ensures ∙ (λ i. record { count = 2; first = c .before .before .balance-use .ensures i; second = c .before .balance-use2 .ensures i }))
 
 none-requires : tie.Need-none-requires

@@ -68,12 +68,12 @@ unfolding usesOf accesses
 returns-4 c =
     simp (c .before .before .before .before .i3 .given .1)
     (c .pay-uses .ensures
-    ∙ ap (λ (p : Payee). usesOf (payAccesses (c .before .before .before .before .before .before .args .c) p))
+    ∙ ap (λ (p : Payee). usesOf (payAccesses (c .before .before .before .before .before .before .before .args .c) p))
     (c .before .payee-of .ensures ∙ ap payeeOf (c .before .before .source-value .ensures)))
 
 returns-5 : tie.Need-returns-5
 unfolding usesOf
-returns-5 c = c .none .ensures ∙ sym (ap usesOf (others-none (c .before .before .args .c) (c .before .before .args .i) (c .before .match .keys5)))
+returns-5 c = c .none .ensures ∙ sym (ap usesOf (others-none (c .before .before .before .args .c) (c .before .before .before .args .i) (c .before .match .keys5)))
 
 pub instr-uses-spec : {M : Type 1} → statement M
 instr-uses-spec =

@@ -9,6 +9,9 @@ use Rattle.footprint.specs.AccessLaws.{InRanges, argument-below}
 use Rattle.footprint.proofs.access.source_word.Statement.{statement}
 use Rattle.footprint.proofs.access.source_word.Tie as tie
 
+number-requires : tie.Need-number-requires
+number-requires c κs = search needs
+
 cast-sender : tie.Need-cast-sender
 cast-sender c = search needs
 
@@ -48,7 +51,7 @@ returns-2 c = simp (c .before .before .s .given .1) (c .argument .ensures)
 
 returns-3 : tie.Need-returns-3
 unfolding sourceValue
-returns-3 c = simp (c .enum-told2 .given .1)
+returns-3 c = simp (c .enum-told2 .given .1) (c .before .before .number .ensures)
 
 returns-4 : tie.Need-returns-4
 unfolding sourceValue
@@ -58,6 +61,7 @@ pub source-word-spec : {M : Type 1} → statement M
 source-word-spec =
     tie.close
     (tie.spec
+    number-requires
     cast-sender
     enum-told
     enum-known-s

@@ -1,8 +1,8 @@
--- `block::record::address_of` meets its contract: the test is the definition's. Assumes nothing.
+-- `block::address::address_of` meets its contract: the test is the definition's. Assumes nothing.
 use borrow.Author.Tests.{le-ltb, lt-ltb}
 use Rattle.block.specs.Key.{addressOf}
-use Rattle.block.proofs.record.address_of.Statement.{statement}
-use Rattle.block.proofs.record.address_of.Tie as tie
+use Rattle.block.proofs.address.address_of.Statement.{statement}
+use Rattle.block.proofs.address.address_of.Tie as tie
 
 returns : tie.Need-returns
 unfolding addressOf
