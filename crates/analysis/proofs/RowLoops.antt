@@ -2,17 +2,15 @@
 use mathlib.Core.Path.{_≡_, refl, sym, ap, _∙_}
 use mathlib.Core.Bool.{Bool}
 use mathlib.Core.List.{List, [], _∷_}
-use Prim.Native.Nat.{ℕ, zero, suc, _+_, _*_, _/_, _%_, _^_, _≤_, _<_}
-use native.Mathlib.Nat.{add-zero, mod-lt, one-mul}
+use Prim.Native.Nat.{ℕ, zero, suc, _+_, _*_, _≤_, _<_}
+use native.Mathlib.Nat.{add-zero}
 use native.Mathlib.Numerals.{add-one}
 use native.Mathlib.Omega.{arith}
-use lib.Bits.{bitOr}
-use lib.Dec.{lit<}
 use lib.ListN.{length, getD, set, take, drop, length-take, length-drop, drop-of-length-le}
-use lib.Pow.{shl-exact}
 use lib.Seq.{drop-cons, getD-take, getD-drop, ext-getD}
-use Rattle.wire.specs.RowOps.{unionOf}
-use Rattle.analysis.specs.Masks.{cellOf, unionOver, maskWords, rowAt, marked, markedIf, addCallWords, InTable}
+use Rattle.wire.specs.Bytes.{stored}
+use Rattle.wire.specs.RowOps.{withBit, unionOf}
+use Rattle.analysis.specs.Masks.{cellOf, unionOver, maskWords, rowAt, withRow, marked, markedIf, addCallWords, InTable}
 
 -- ---- one cell
 
@@ -33,14 +31,24 @@ row-by-words ws x h =
     ext-getD 0 (fourFrom ws (4 * x)) (rowAt ws x) long
     (λ i l. four-at ws (4 * x) i l ∙ sym (getD-take 4 (drop (4 * x) ws) i 0 l ∙ getD-drop (4 * x) ws i 0))
 
--- 1 shifted by less than 64 is the bit's power of two.
-pub mark-by-mask : (ws : List ℕ) (x j : ℕ)
-    → set ws (4 * x + j / 64) (bitOr (getD ws (4 * x + j / 64) 0) (1 * 2 ^ (j % 64) % 2 ^ 64)) ≡ marked ws x j
-unfolding marked
-mark-by-mask ws x j =
-    let place : j % 64 < 64 = mod-lt j (lit< tt) in
-    ap (λ (m : ℕ). set ws (4 * x + j / 64) (bitOr (getD ws (4 * x + j / 64) 0) m))
-    (shl-exact 1 (j % 64) 64 (lit< tt) (omega arith) ∙ one-mul (2 ^ (j % 64)))
+-- Four words that are stored one by one are the row.
+pub row-by-stores : (ws row : List ℕ) (at : ℕ) → length row ≡ 4
+    → set (set (set (set ws at (getD row 0 0)) (at + 1) (getD row 1 0)) (at + 2) (getD row 2 0)) (at + 3) (getD row 3 0) ≡ stored ws at row
+unfolding stored
+row-by-stores ws [] at h = absurd (omega arith)
+row-by-stores ws (a ∷ []) at h = absurd (omega arith)
+row-by-stores ws (a ∷ b ∷ []) at h = absurd (omega arith)
+row-by-stores ws (a ∷ b ∷ c ∷ []) at h = absurd (omega arith)
+row-by-stores ws (a ∷ b ∷ c ∷ d ∷ []) at h =
+    let three : at + 1 + 1 + 1 ≡ at + 3 = omega arith in
+    let two : at + 1 + 1 ≡ at + 2 = omega arith in
+    rw (three, two)
+row-by-stores ws (a ∷ b ∷ c ∷ d ∷ e ∷ row) at h = absurd (omega arith)
+
+-- A cell's row that is taken out, has a call set, and is stored back.
+pub mark-by-row : (ws : List ℕ) (x j : ℕ) {row new after : List ℕ} → row ≡ rowAt ws x → new ≡ withBit row j → after ≡ withRow ws x new
+    → after ≡ marked ws x j
+mark-by-row ws x j e f g = rw (g, f, e)
 
 -- ---- the entries that are left
 

@@ -4,15 +4,17 @@ use mathlib.Core.Path.{_≡_, refl, sym, ap, _∙_, subst}
 use mathlib.Core.Bool.{Bool, true, false, _&&_, _||_}
 use mathlib.Core.List.{List, [], _∷_, _++_, map, map-append}
 use Prim.Native.Nat.{ℕ, zero, suc, _+_, _-_, _*_, _/_, _%_, _^_, _≤_, _<_}
+use native.Mathlib.Nat.{add-zero, not-suc-le-zero, le-of-suc-le-suc}
 use native.Mathlib.Decide.{decLt, ℕ-discrete}
 use native.Mathlib.Omega.{arith}
 use borrow.Author.Tests.{eq-eqb, ne-eqb}
 use lib.Bits.{bitOr}
 use lib.Dec.{eqb, lit<}
 use lib.ListN.{length, getD, set, take, drop, replicate, length-set, length-take, length-drop, length-replicate, length-map, getD-replicate}
-use lib.Seq.{drop-set-add, drop-set-lt, take-set-lt, take-set-le, getD-take, getD-drop, take-at, ext-getD}
+use lib.Seq.{getD-set-same, getD-take, getD-drop, take-at, ext-getD}
 use Rattle.arith.specs.Choice.{if_then_else_}
-use Rattle.wire.specs.Bytes.{repeated, padded}
+use Rattle.wire.specs.Bytes.{repeated, padded, stored}
+use Rattle.wire.specs.Laws.{stored-length, stored-before, stored-behind}
 use Rattle.wire.specs.Rows.{rowOf, inRow}
 use Rattle.wire.specs.RowOps.{withBit, unionOf}
 use Rattle.wire.specs.RowLaws.{IsRow, row-ext, rowOf-is-row, rowOf-none, rowOf-true, rowOf-false, inRow-withBit, withBit-is-row}
@@ -20,7 +22,7 @@ use Rattle.block.specs.Limits.{maxCalls, maxCallKeys, maxKeys}
 use Rattle.footprint.specs.Access.{Access}
 use Rattle.footprint.specs.Conflict.{rowFor}
 use Rattle.footprint.specs.Plan.{entryWord}
-use Rattle.analysis.specs.Masks.{cellOf, touches, writes, against, anyOf, uses, maskBits, unionOver, noRow, maskRow, rowWords, maskWords, rowAt, entryRow, maskRowWords, marked, markedIf, addCallWords, InTable, Masked, MasksOf, entryWords, AllListed, EveryListed, MasksFor}
+use Rattle.analysis.specs.Masks.{cellOf, touches, writes, against, anyOf, uses, maskBits, unionOver, noRow, maskRow, rowWords, maskWords, rowAt, withRow, entryRow, maskRowWords, marked, markedIf, addCallWords, InTable, Masked, MasksOf, entryWords, AllListed, EveryListed, MasksFor}
 use Rattle.analysis.specs.MaskLaws.{entry-lt, row-from-masks}
 
 -- ---- one bit more
@@ -54,29 +56,58 @@ with-both false b ws j r h = refl
 
 -- ---- a cell's row in a buffer
 
-module _ (masks : List ℕ) (j : ℕ) (low : j < maxCalls) where
-  row-same : (x : ℕ) → rowAt (marked masks x j) x ≡ withBit (rowAt masks x) j
-  unfolding marked withBit
-  row-same x =
-      ap (take rowWords) (drop-set-add (rowWords * x) masks (j / 64) (bitOr (getD masks (rowWords * x + j / 64) 0) (2 ^ (j % 64))))
-      ∙ take-set-lt rowWords (drop (rowWords * x) masks) (j / 64) (bitOr (getD masks (rowWords * x + j / 64) 0) (2 ^ (j % 64))) (omega arith)
-      ∙ ap (λ (n : ℕ). set (rowAt masks x) (j / 64) (bitOr n (2 ^ (j % 64))))
-      (sym (getD-take rowWords (drop (rowWords * x) masks) (j / 64) 0 (omega arith) ∙ getD-drop (rowWords * x) masks (j / 64) 0))
+stored-at : (bs s : List ℕ) (at i : ℕ) → i < length bs → at + i < length s → getD (stored s at bs) (at + i) 0 ≡ getD bs i 0
+unfolding stored
+stored-at [] s at i h l = absurd (not-suc-le-zero h)
+stored-at (b ∷ bs) s at zero h l =
+    let here : at + 0 ≡ at = add-zero at in
+    rw here (stored-before bs (set s at b) (at + 1) at 0 (omega arith) ∙ getD-set-same s at b 0 (omega arith))
+stored-at (b ∷ bs) s at (suc i) h l =
+    let next : at + suc i ≡ at + 1 + i = omega arith in
+    rw next (stored-at bs (set s at b) (at + 1) i (le-of-suc-le-suc h) (rw (length-set s at b) (omega arith)))
 
-  row-other : (x y : ℕ) (v : ℕ) → (x ≡ y → ⊥) → rowAt (set masks (rowWords * x + j / 64) v) y ≡ rowAt masks y
-  row-other x y v n = go (decLt x y)
-    where
-      go : Dec (x < y) → rowAt (set masks (rowWords * x + j / 64) v) y ≡ rowAt masks y
-      go (yes l) = ap (take rowWords) (drop-set-lt (rowWords * y) masks (rowWords * x + j / 64) v (omega arith))
-      go (no l) =
-          let e : rowWords * x + j / 64 ≡ rowWords * y + (rowWords * x + j / 64 - rowWords * y) = omega arith in
-          ap (λ (i : ℕ). rowAt (set masks i v) y) e
-          ∙ ap (take rowWords) (drop-set-add (rowWords * y) masks (rowWords * x + j / 64 - rowWords * y) v)
-          ∙ take-set-le rowWords (drop (rowWords * y) masks) (rowWords * x + j / 64 - rowWords * y) v (omega arith)
+row-length : (masks row : List ℕ) (x y : ℕ) → length (rowAt (withRow masks x row) y) ≡ length (rowAt masks y)
+row-length masks row x y = simp (length-take, length-drop, stored-length)
+
+row-short : (masks : List ℕ) (x : ℕ) → length (rowAt masks x) ≤ rowWords
+row-short masks x = simp length-take (omega arith)
+
+-- Word i of a cell's row.
+row-word : (masks : List ℕ) (x i : ℕ) → i < rowWords → getD (rowAt masks x) i 0 ≡ getD masks (rowWords * x + i) 0
+row-word masks x i h = getD-take rowWords (drop (rowWords * x) masks) i 0 h ∙ getD-drop (rowWords * x) masks i 0
+
+-- A row that is stored as a cell's is the cell's, and every other cell has its own.
+row-stored : (masks row : List ℕ) (x : ℕ) → length row ≡ length (rowAt masks x) → rowAt (withRow masks x row) x ≡ row
+row-stored masks row x e =
+    let as-long : length (rowAt (withRow masks x row) x) ≡ length row = row-length masks row x x ∙ sym e in
+    let size : length row ≤ rowWords = rw e (row-short masks x) in
+    ext-getD 0 (rowAt (withRow masks x row) x) row as-long
+    (λ i l. let h : i < length row = rw as-long at l in
+    row-word (withRow masks x row) x i (omega arith) ∙ stored-at row masks (rowWords * x) i h (room i (rw e at h)))
+  where
+    room : (i : ℕ) → i < length (rowAt masks x) → rowWords * x + i < length masks
+    room i h = omega (arith, length-take rowWords (drop (rowWords * x) masks), length-drop (rowWords * x) masks)
+
+row-apart : (masks row : List ℕ) (x y : ℕ) → length row ≤ rowWords → (x ≡ y → ⊥) → rowAt (withRow masks x row) y ≡ rowAt masks y
+row-apart masks row x y size n =
+    ext-getD 0 (rowAt (withRow masks x row) y) (rowAt masks y) (row-length masks row x y)
+    (λ i l. let h : i < rowWords = omega (arith, row-length masks row x y, row-short masks y) in
+    row-word (withRow masks x row) y i h ∙ other i h (decLt x y) ∙ sym (row-word masks y i h))
+  where
+    other : (i : ℕ) → i < rowWords → Dec (x < y) → getD (withRow masks x row) (rowWords * y + i) 0 ≡ getD masks (rowWords * y + i) 0
+    other i h (yes l) = stored-behind row masks (rowWords * x) (rowWords * y + i) 0 (omega arith)
+    other i h (no l) = stored-before row masks (rowWords * x) (rowWords * y + i) 0 (omega arith)
+
+module _ (masks : List ℕ) (j : ℕ) where
+  bit-length : (x : ℕ) → length (withBit (rowAt masks x) j) ≡ length (rowAt masks x)
+  unfolding withBit
+  bit-length x = length-set (rowAt masks x) (j / 64) (bitOr (getD (rowAt masks x) (j / 64) 0) (2 ^ (j % 64)))
+
+  row-same : (x : ℕ) → rowAt (marked masks x j) x ≡ withBit (rowAt masks x) j
+  row-same x = row-stored masks (withBit (rowAt masks x) j) x (bit-length x)
 
   apart-row : (x y : ℕ) → (x ≡ y → ⊥) → rowAt (marked masks x j) y ≡ rowAt masks y
-  unfolding marked
-  apart-row x y n = row-other x y (bitOr (getD masks (rowWords * x + j / 64) 0) (2 ^ (j % 64))) n
+  apart-row x y n = row-apart masks (withBit (rowAt masks x) j) x y (rw (bit-length x) (row-short masks x)) n
 
   -- The marked cell's row has the bit more, and every other row is as it was.
   row-marked : (x y : ℕ) → rowAt (marked masks x j) y ≡ withBitIf (eqb x y) (rowAt masks y) j
@@ -91,8 +122,7 @@ module _ (masks : List ℕ) (j : ℕ) (low : j < maxCalls) where
   row-if false x y = refl
 
 marked-length : (b : Bool) (masks : List ℕ) (x j : ℕ) → length (markedIf b masks x j) ≡ length masks
-unfolding marked
-marked-length true masks x j = length-set masks (rowWords * x + j / 64) (bitOr (getD masks (rowWords * x + j / 64) 0) (2 ^ (j % 64)))
+marked-length true masks x j = stored-length (withBit (rowAt masks x) j) masks (rowWords * x)
 marked-length false masks x j = refl
 
 pub added-length : (how : ℕ → Bool) (es masks : List ℕ) (j : ℕ) → length (addCallWords how masks j es) ≡ length masks
@@ -109,7 +139,7 @@ row-added how j x low [] masks r = refl
 row-added how j x low (e ∷ es) masks r =
     let now : List ℕ = markedIf (how e) masks (cellOf e) j in
     let this : Bool = how e && eqb (cellOf e) x in
-    let same : rowAt now x ≡ withBitIf this (rowAt masks x) j = row-if masks j low (how e) (cellOf e) x in
+    let same : rowAt now x ≡ withBitIf this (rowAt masks x) j = row-if masks j (how e) (cellOf e) x in
     row-added how j x low es now (rw same (with-row this (rowAt masks x) j r))
     ∙ ap (λ (row : List ℕ). withBitIf (uses how x es) row j) same
     ∙ with-both this (uses how x es) (rowAt masks x) j r low

@@ -3,13 +3,13 @@
 use mathlib.Core.Path.{_≡_}
 use mathlib.Core.Bool.{Bool, true, false, _&&_, _||_}
 use mathlib.Core.List.{List, [], _∷_, map}
-use Prim.Native.Nat.{ℕ, _+_, _*_, _/_, _%_, _^_, _≤_, _<_}
-use lib.Bits.{bitOr}
+use Prim.Native.Nat.{ℕ, _*_, _/_, _%_, _≤_, _<_}
 use lib.Dec.{eqb, leb}
-use lib.ListN.{length, getD, set, take, drop}
+use lib.ListN.{length, getD, take, drop}
 use Rattle.arith.specs.Choice.{if_then_else_}
 use Rattle.wire.specs.Rows.{rowOf}
-use Rattle.wire.specs.RowOps.{unionOf}
+use Rattle.wire.specs.Bytes.{stored}
+use Rattle.wire.specs.RowOps.{withBit, unionOf}
 use Rattle.block.specs.Limits.{maxKeys}
 use Rattle.footprint.specs.Access.{Access}
 use Rattle.footprint.specs.AccessLaws.{Used}
@@ -83,9 +83,12 @@ entryRow touched writers e = rowAt (if writes e then touched else writers) (cell
 abbrev pub maskRowWords : List ℕ → List ℕ → List ℕ → List ℕ
 maskRowWords touched writers = unionOver (entryRow touched writers) noRow
 
--- A buffer with bit j of a cell's row set as well.
-unfoldable pub marked : List ℕ → ℕ → ℕ → List ℕ
-marked masks x j = set masks (rowWords * x + j / 64) (bitOr (getD masks (rowWords * x + j / 64) 0) (2 ^ (j % 64)))
+-- A buffer with a row stored as a cell's, and with call j set in a cell's row.
+abbrev pub withRow : List ℕ → ℕ → List ℕ → List ℕ
+withRow masks x row = stored masks (rowWords * x) row
+
+abbrev pub marked : List ℕ → ℕ → ℕ → List ℕ
+marked masks x j = withRow masks x (withBit (rowAt masks x) j)
 
 abbrev pub markedIf : Bool → List ℕ → ℕ → ℕ → List ℕ
 markedIf used masks x j = if used then marked masks x j else masks

@@ -5,13 +5,11 @@ use footprint::layout::WRITES;
 ghost use mathlib.Core.Path.{_≡_};
 ghost use Prim.Native.Nat.{_+_, _*_, _≤_, _<_};
 ghost use lib.ListN.{length, take};
-ghost use Rattle.block.specs.Limits.{maxCalls, maxCallKeys};
-ghost use Rattle.analysis.specs.Masks.{cellOf, touches, writes, rowWords, maskWords, rowAt, entryRow, maskRowWords, marked, markedIf, addCallWords, InTable};
+ghost use Rattle.block.specs.Limits.{maxCallKeys};
+ghost use Rattle.analysis.specs.Masks.{cellOf, touches, writes, rowWords, maskWords, rowAt, withRow, entryRow, maskRowWords, marked, markedIf, addCallWords, InTable};
 
 // A row has four words of 64 bits.
 const ROW_WORDS: usize = 4;
-
-const WORD_BITS: usize = 64;
 
 // A cell's row in one of the buffers.
 fn row_at(masks: &[u64], cell: usize) -> [u64; 4]
@@ -60,19 +58,29 @@ pub(crate) fn row_for(
     row
 }
 
-// Bit j of a cell's row is set.
+// A row stored as a cell's.
+fn put_row(masks: &mut [u64], cell: usize, row: [u64; 4])
+    requires { ⌜ rowWords * cell + rowWords ≤ length (now masks) ⌝ }
+    ensures { λ r. ⌜ now (masks .exit) ≡ withRow (now (masks .entry)) cell row ⌝ }
+{
+    let at = ROW_WORDS * cell;
+    masks[at] = row[0];
+    masks[at + 1] = row[1];
+    masks[at + 2] = row[2];
+    masks[at + 3] = row[3];
+}
+
+// Call j is set in a cell's row.
 fn mark(masks: &mut [u64], cell: usize, j: usize)
-    requires { ⌜ j < maxCalls ⌝ }
     requires { ⌜ rowWords * cell + rowWords ≤ length (now masks) ⌝ }
     ensures { λ r. ⌜ now (masks .exit) ≡ marked (now (masks .entry)) cell j ⌝ }
 {
-    let at = ROW_WORDS * cell + j / WORD_BITS;
-    masks[at] = masks[at] | 1 << (j % WORD_BITS);
+    let row = row_at(masks, cell);
+    put_row(masks, cell, wire::row_set(row, j));
 }
 
 // One entry of call j: its cell is touched, and written if the entry says so.
 fn add_entry(touched: &mut [u64], writers: &mut [u64], entry: u64, j: usize)
-    requires { ⌜ j < maxCalls ⌝ }
     requires { ⌜ entry < maskWords ⌝ }
     requires { ⌜ maskWords ≤ length (now touched) ⌝ }
     requires { ⌜ maskWords ≤ length (now writers) ⌝ }
@@ -94,7 +102,6 @@ pub(crate) fn add_call(
     n: usize,
     j: usize,
 )
-    requires { ⌜ j < maxCalls ⌝ }
     requires { ⌜ n ≤ maxCallKeys ⌝ }
     requires { ⌜ InTable (take n entries) ⌝ }
     requires { ⌜ maskWords ≤ length (now touched) ⌝ }

@@ -1,8 +1,6 @@
 -- `analysis::plan::plan_call` meets its contract: each callee's answer is the part of the call's words that it is asked for. Assumes nothing.
-use native.Mathlib.Omega.{arith}
 use Rattle.analysis.specs.Masks.{touches, writes, maskRowWords}
 use Rattle.analysis.proofs.PlanLoops.{set-fitting, set-few, words-in-table, words-of-call, marks-of-call}
-use Rattle.analysis.specs.LaidLaws.{laid-whole}
 use borrow.Author.Needs.{needs}
 use Rattle.analysis.proofs.plan.plan_call.Statement.{statement}
 use Rattle.analysis.proofs.plan.plan_call.Tie as tie
@@ -23,7 +21,7 @@ add-call-requires : tie.Need-add-call-requires
 add-call-requires c κs =
     let s = c .before .before .before .before .before .before .before .before .before .before .before .before in
     let made = c .before .before .before .before .before .before .call-sets .ensures in
-    (omega (arith, s .pre .1 .1 .1 .0, laid-whole _ _ (s .pre .0) .laws .callLimit), (set-few _ _ (s .pre .1 .0) _ _ made, (words-in-table _ _ (s .pre .1 .0) _ _ made _ (c .before .before .before .before .before .entries .ensures), (s .pre .1 .1 .1 .1 .1 .0, s .pre .1 .1 .1 .1 .1 .1))))
+    (set-few _ _ (s .pre .1 .0) _ _ made, (words-in-table _ _ (s .pre .1 .0) _ _ made _ (c .before .before .before .before .before .entries .ensures), (s .pre .1 .1 .1 .1 .1 .0, s .pre .1 .1 .1 .1 .1 .1)))
 
 call-code-requires : tie.Need-call-code-requires
 call-code-requires c κs = let s = c .before .before .before .before .before .before .before .before .before .before .before .before .before .before .before .before .before in (s .pre .0, s .pre .1 .1 .1 .0)

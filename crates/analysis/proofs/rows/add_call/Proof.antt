@@ -32,10 +32,8 @@ array-read-add-entry c = omega arith
 
 add-entry-requires : tie.Need-add-entry-requires Inv-loop μ-loop
 add-entry-requires c κs =
-    let s = c .before .before .before .before .before .before in (
-      s .pre .0,
-      (entry-in (s .args .t3) (s .args .n) (short s) (s .pre .1 .1 .0) (c .before .before .before .loop .k) (c .before .before .loop-test .taken), (omega arith, omega arith)),
-    )
+    let s = c .before .before .before .before .before .before in
+    (entry-in (s .args .t3) (s .args .n) (short s) (s .pre .1 .0) (c .before .before .before .loop .k) (c .before .before .loop-test .taken), (omega arith, omega arith))
 
 add-k : tie.Need-add-k Inv-loop μ-loop
 add-k c = omega arith

@@ -1,46 +1,25 @@
--- `analysis::rows::mark` meets its contract: the mask is the bit's power of two in the word that holds it. Assumes nothing.
+-- `analysis::rows::mark` meets its contract: the cell's row is stored back with the call set in it. Assumes nothing.
 use borrow.Author.Needs.{needs}
-use Rattle.analysis.proofs.RowLoops.{mark-by-mask}
+use Rattle.analysis.proofs.RowLoops.{mark-by-row}
 use Rattle.analysis.proofs.rows.mark.Statement.{statement}
 use Rattle.analysis.proofs.rows.mark.Tie as tie
 
-mul-at : tie.Need-mul-at
-mul-at c = search needs
+row-at-requires : tie.Need-row-at-requires
+row-at-requires c κs = search needs
 
-add-at : tie.Need-add-at
-add-at c = search needs
+row-set-requires : tie.Need-row-set-requires
+row-set-requires c κs = search needs
 
-mul-masks : tie.Need-mul-masks
-mul-masks c = search needs
-
-slice-read-masks : tie.Need-slice-read-masks
-slice-read-masks c = search needs
-
-shl-masks : tie.Need-shl-masks
-shl-masks c = search needs
-
-mul-masks-2 : tie.Need-mul-masks-2
-mul-masks-2 c = search needs
-
-slice-write-masks : tie.Need-slice-write-masks
-slice-write-masks c = search needs
+put-row-requires : tie.Need-put-row-requires
+put-row-requires c κs = search needs
 
 same-length : tie.Need-same-length
 same-length c = search needs
 
 returns : tie.Need-returns
-returns c = mark-by-mask (c .before .args .masks .now) (c .before .args .cell) (c .before .args .j)
+returns c =
+    let a = c .before .before .before .before .before .before .before .before .args in
+    mark-by-row (a .masks .now) (a .cell) (a .j) (c .before .before .before .before .before .row-at .ensures) (c .before .before .before .row-set .ensures) (c .before .before .put-row .ensures)
 
 pub mark-spec : {M : Type 1} → statement M
-mark-spec =
-    tie.close
-    (tie.spec
-    mul-at
-    add-at
-    mul-masks
-    slice-read-masks
-    shl-masks
-    mul-masks-2
-    slice-write-masks
-    same-length
-    returns)
+mark-spec = tie.close (tie.spec row-at-requires row-set-requires put-row-requires same-length returns)
