@@ -1,34 +1,25 @@
--- The text of the set bits of a row, from a bit on: what a turn of the loop over them takes away. Assumes nothing.
+-- The text of the set bits of a row, from a call on: what a turn of the loop over the calls takes away. Assumes nothing.
 use mathlib.Core.Path.{_≡_, refl, sym, ap, _∙_}
 use mathlib.Core.Bool.{Bool, true, false}
 use mathlib.Core.List.{List, [], _∷_, _++_, map}
 use Prim.Native.Nat.{ℕ, zero, suc, _+_, _-_, _*_, _≤_, _<_}
-use native.Mathlib.Nat.{add-zero, zero-add}
+use native.Mathlib.Nat.{add-zero}
 use native.Mathlib.Omega.{arith}
 use lib.ListN.{length, length-append}
 use Rattle.arith.specs.Choice.{if_then_else_}
 use Rattle.wire.specs.Bytes.{stored}
 use Rattle.wire.specs.Laws.{stored-append, stored-length}
 use Rattle.wire.specs.Rows.{inRow}
-use Rattle.wire.specs.RowOps.{nextBit}
-use Rattle.wire.specs.NextLaws.{next-le, next-ge, next-hit, next-least}
 use Rattle.wire.specs.Decimal.{decimal, space}
 use Rattle.text.specs.Lines.{passing}
 use Rattle.text.specs.Written.{spaced}
 use Rattle.text.proofs.Laws.{digits-length, spaced-length}
 
--- Numbers that fail the test are passed over.
-passing-skip : (p : ℕ → Bool) (d n i : ℕ) → ((j : ℕ) → i ≤ j → j < i + d → p j ≡ false) → passing p (d + n) i ≡ passing p n (i + d)
+-- The first of the numbers that are left stands before the others if it passes the test.
+passing-turn : (p : ℕ → Bool) (k : ℕ) → k < 256
+    → passing p (256 - k) k ≡ if p k then k ∷ passing p (256 - (k + 1)) (k + 1) else passing p (256 - (k + 1)) (k + 1)
 unfolding passing
-passing-skip p zero n i f = simp (zero-add, add-zero)
-passing-skip p (suc d) n i f =
-    let e : suc d + n ≡ suc (d + n) = omega arith in
-    let g : i + suc d ≡ i + 1 + d = omega arith in
-    rw (e, g, f i (omega arith) (omega arith), passing) (passing-skip p d n (i + 1) (λ j l h. f j (omega arith) (omega arith)))
-
-passing-here : (p : ℕ → Bool) (n i : ℕ) → p i ≡ true → passing p (suc n) i ≡ i ∷ passing p n (i + 1)
-unfolding passing
-passing-here p n i e = rw (e, passing) refl
+passing-turn p k h = let e : 256 - k ≡ suc (256 - (k + 1)) = omega arith in rw e
 
 -- The set bits from k on, and their text.
 abbrev from : List ℕ → ℕ → List ℕ
@@ -38,74 +29,59 @@ abbrev pub left : List ℕ → ℕ → List ℕ
 left row k = spaced (map decimal (from row k))
 
 module _ (row : List ℕ) where
-  from-next : (k : ℕ) → k ≤ 256 → from row k ≡ from row (nextBit row k)
-  from-next k h =
-      let b : ℕ = nextBit row k in
-      let low : k ≤ b = next-ge row k h in
-      let high : b ≤ 256 = next-le row k in
-      let e : 256 - k ≡ (b - k) + (256 - b) = omega arith in
-      let f : k + (b - k) ≡ b = omega arith in
-      rw e (passing-skip (inRow row) (b - k) (256 - b) k (λ j l m. next-least row k j l (omega arith)) ∙ rw f)
-
   from-none : (k : ℕ) → 256 ≤ k → from row k ≡ []
   unfolding passing
   from-none k h = let e : 256 - k ≡ 0 = omega arith in rw e
 
-  from-some : (k : ℕ) → k < 256 → inRow row k ≡ true → from row k ≡ k ∷ from row (k + 1)
-  from-some k h e =
-      let f : 256 - k ≡ suc (256 - (k + 1)) = omega arith in rw f (passing-here (inRow row) (256 - (k + 1)) k e)
+  from-set : (k : ℕ) → k < 256 → inRow row k ≡ true → from row k ≡ k ∷ from row (k + 1)
+  from-set k h e = passing-turn (inRow row) k h ∙ rw e
 
-  -- A loop over the bits: `bit` is the next one, and what is written and what is left make up the whole.
-  pub record Going (s t : List ℕ) (at end bit : ℕ) : Type 0 where
-    pub whole : stored s at (left row 0) ≡ stored t end (left row bit)
-    pub last : at + length (left row 0) ≡ end + length (left row bit)
-    pub within : bit ≤ 256
-    pub short : end ≤ at + 21 * bit
-    pub set : bit < 256 → inRow row bit ≡ true
+  from-clear : (k : ℕ) → k < 256 → inRow row k ≡ false → from row k ≡ from row (k + 1)
+  from-clear k h e = passing-turn (inRow row) k h ∙ rw e
+
+  -- A loop over the calls, of which k is the next: what is written and what is left make up the whole.
+  pub record Going (s t : List ℕ) (at end k : ℕ) : Type 0 where
+    pub whole : stored s at (left row 0) ≡ stored t end (left row k)
+    pub last : at + length (left row 0) ≡ end + length (left row k)
+    pub short : end ≤ at + 21 * k
     pub same : length t ≡ length s
 
-  pub going-start : (s : List ℕ) (at bit : ℕ) → bit ≡ nextBit row 0 → Going s s at at bit
-  going-start s at bit e =
-      let f : from row 0 ≡ from row bit = from-next 0 (omega arith) ∙ rw e in
-      record {
-        whole = rw f;
-        last = rw f;
-        within = rw e (next-le row 0);
-        short = omega arith;
-        set = λ h. rw e (next-hit row 0 (rw e at h));
-        same = refl;
-      }
+  pub going-start : (s : List ℕ) (at : ℕ) → Going s s at at 0
+  going-start s at = record { whole = refl; last = refl; short = omega arith; same = refl }
 
-  pub going-on : (s t u : List ℕ) (at end next bit after : ℕ) → Going s t at end bit → bit < 256
-      → (u ≡ stored t end (space ∷ decimal bit)) × (next ≡ end + length (space ∷ decimal bit)) → after ≡ nextBit row (bit + 1)
-      → Going s u at next after × (bit < after)
-  unfolding spaced
-  going-on s t u at end next bit after g h w e =
-      let f : from row bit ≡ bit ∷ from row after = from-some bit h (g .set h) ∙ ap (λ (l : List ℕ). bit ∷ l) (from-next (bit + 1) (omega arith) ∙ rw e) in
-      let text : left row bit ≡ (space ∷ decimal bit) ++ left row after = ap (λ (l : List ℕ). spaced (map decimal l)) f in
-      let ge : bit + 1 ≤ nextBit row (bit + 1) = next-ge row (bit + 1) (omega arith) in
-      let le : nextBit row (bit + 1) ≤ 256 = next-le row (bit + 1) in (
+  module _ (s t : List ℕ) (at end k : ℕ) (g : Going s t at end k) where
+    -- A call that is set is written; another is passed over.
+    pub going-set : (u : List ℕ) (next : ℕ) → k < 256 → inRow row k ≡ true
+        → (u ≡ stored t end (space ∷ decimal k)) × (next ≡ end + length (space ∷ decimal k)) → Going s u at next (k + 1)
+    unfolding spaced
+    going-set u next h e w =
+        let text : left row k ≡ (space ∷ decimal k) ++ left row (k + 1) = ap (λ (l : List ℕ). spaced (map decimal l)) (from-set k h e) in
         record {
           whole =
-              g .whole ∙ ap (λ (l : List ℕ). stored t end l) text ∙ stored-append (space ∷ decimal bit) (left row after) t end
+              g .whole ∙ ap (λ (l : List ℕ). stored t end l) text ∙ stored-append (space ∷ decimal k) (left row (k + 1)) t end
               ∙ rw (w .0, w .1);
           last =
-              g .last ∙ ap (λ (l : List ℕ). end + length l) text ∙ ap (λ (n : ℕ). end + n) (length-append (space ∷ decimal bit) (left row after))
+              g .last ∙ ap (λ (l : List ℕ). end + length l) text ∙ ap (λ (n : ℕ). end + n) (length-append (space ∷ decimal k) (left row (k + 1)))
               ∙ rw (w .1) (omega arith);
-          within = omega arith;
-          short = omega (arith, g .short, w .1, digits-length 20 bit);
-          set = λ m. rw e (next-hit row (bit + 1) (rw e at m));
-          same = rw (w .0) (stored-length (space ∷ decimal bit) t end) ∙ g .same;
-        },
-        omega arith,
-      )
+          short = omega (arith, g .short, w .1, digits-length 20 k);
+          same = rw (w .0) (stored-length (space ∷ decimal k) t end) ∙ g .same;
+        }
 
-  pub going-end : (s t : List ℕ) (at end bit : ℕ) → Going s t at end bit → 256 ≤ bit
-      → (t ≡ stored s at (left row 0)) × (end ≡ at + length (left row 0))
-  unfolding spaced stored
-  going-end s t at end bit g h =
-      let f : left row bit ≡ [] = ap (λ (l : List ℕ). spaced (map decimal l)) (from-none bit h) in
-      (sym (g .whole ∙ ap (λ (l : List ℕ). stored t end l) f), sym (g .last ∙ ap (λ (l : List ℕ). end + length l) f ∙ add-zero end))
+    pub going-clear : k < 256 → inRow row k ≡ false → Going s t at end (k + 1)
+    going-clear h e =
+        let text : left row k ≡ left row (k + 1) = ap (λ (l : List ℕ). spaced (map decimal l)) (from-clear k h e) in
+        record {
+          whole = g .whole ∙ ap (λ (l : List ℕ). stored t end l) text;
+          last = g .last ∙ ap (λ (l : List ℕ). end + length l) text;
+          short = omega (arith, g .short);
+          same = g .same;
+        }
+
+    pub going-end : 256 ≤ k → (t ≡ stored s at (left row 0)) × (end ≡ at + length (left row 0))
+    unfolding spaced stored
+    going-end h =
+        let text : left row k ≡ [] = ap (λ (l : List ℕ). spaced (map decimal l)) (from-none k h) in
+        (sym (g .whole ∙ ap (λ (l : List ℕ). stored t end l) text), sym (g .last ∙ ap (λ (l : List ℕ). end + length l) text ∙ add-zero end))
 
 -- How long the text of all bits can be.
 passing-length : (p : ℕ → Bool) (n i : ℕ) → length (passing p n i) ≤ n

@@ -170,11 +170,13 @@ fn put_bits(out: &mut [u8], at: usize, row: [u64; 4]) -> usize
     ensures end { λ r. ⌜ r ≡ at + length (spaced (map decimal (passing (inRow row) 256 0))) ⌝ }
 {
     let mut end = at;
-    let mut bit = wire::row_next(row, 0);
-    while bit < ROW_BITS {
-        let next = put_part(out, end, bit as u64);
-        end = next;
-        bit = wire::row_next(row, bit + 1);
+    let mut call = 0;
+    while call < ROW_BITS {
+        if wire::row_test(row, call) {
+            let next = put_part(out, end, call as u64);
+            end = next;
+        }
+        call += 1;
     }
     end
 }

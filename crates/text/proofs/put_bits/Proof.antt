@@ -1,41 +1,44 @@
 -- `text::put_bits` meets its contract: what is written and what is left make up the whole text at every turn. Assumes nothing.
+use mathlib.Core.Logic.{⊎-elim}
+use mathlib.Core.Path.{sym, _∙_}
 use native.Mathlib.Omega.{arith}
 use Prim.Native.Nat.{_-_}
 use borrow.Author.Needs.{needs}
-use Rattle.text.proofs.Bits.{Going, going-start, going-on, going-end}
+use Rattle.text.proofs.Bits.{Going, going-start, going-set, going-clear, going-end}
 use Rattle.text.proofs.put_bits.Statement.{statement}
 use Rattle.text.proofs.put_bits.Tie as tie
-use Rattle.text.proofs.put_bits.Reads as reads
-use Rattle.text.proofs.put_bits.Lts as lts
-use Rattle.text.proofs.put_part.Reads as put-part-reads
-use Rattle.wire.proofs.row_next.Reads as row-next-reads
 
 abbrev Inv-loop : tie.InvT-loop
-Inv-loop out₀ at row end₀ bit₀ out end bit = Going row out₀ out at end bit
+Inv-loop out₀ at row end₀ call₀ out end call = Going row out₀ out at end call
 
 abbrev μ-loop : tie.MeasureT-loop
-μ-loop out₀ at row end₀ bit₀ out end bit = 256 - bit
-
-row-next-requires : tie.Need-row-next-requires Inv-loop μ-loop
-row-next-requires c κs = search needs
+μ-loop out₀ at row end₀ call₀ out end call = 256 - call
 
 loop-holds : tie.Need-loop-holds Inv-loop μ-loop
-loop-holds c = going-start _ _ _ _ (c .row-next .ensures)
+loop-holds c = going-start _ _ _
+
+row-test-requires : tie.Need-row-test-requires Inv-loop μ-loop
+row-test-requires c κs = search needs
 
 put-part-requires : tie.Need-put-part-requires Inv-loop μ-loop
-put-part-requires c κs = omega (arith, c .before .before .loop .inv .short, c .before .before .loop .inv .within, c .before .before .before .before .before .pre)
+put-part-requires c κs = let turn = c .before .before .before in omega (arith, turn .before .loop .inv .short, turn .loop-test .taken, turn .before .before .before .pre)
 
-add-row-next : tie.Need-add-row-next Inv-loop μ-loop
-add-row-next c = search needs
-
-row-next-requires-2 : tie.Need-row-next-requires-2 Inv-loop μ-loop
-row-next-requires-2 c κs = search needs
+add-call : tie.Need-add-call Inv-loop μ-loop
+add-call c = search needs
 
 loop-less : tie.Need-loop-less Inv-loop μ-loop
-loop-less c = omega (arith, (going-on _ _ _ _ _ _ _ _ _ (c .before .before .before .before .before .before .loop .inv) (c .before .before .before .before .before .loop-test .taken) (c .before .before .before .put-part .ensures) (c .row-next2 .ensures)) .1, (going-on _ _ _ _ _ _ _ _ _ (c .before .before .before .before .before .before .loop .inv) (c .before .before .before .before .before .loop-test .taken) (c .before .before .before .put-part .ensures) (c .row-next2 .ensures)) .0 .within)
+loop-less c = omega (arith, c .before .before .loop-test .taken)
 
 loop-again : tie.Need-loop-again Inv-loop μ-loop
-loop-again c = (going-on _ _ _ _ _ _ _ _ _ (c .before .before .before .before .before .before .loop .inv) (c .before .before .before .before .before .loop-test .taken) (c .before .before .before .put-part .ensures) (c .row-next2 .ensures)) .0
+loop-again c =
+    let turn = c .before .before in
+    let s = turn .before .before .before in
+    let inv = turn .before .loop .inv in
+    let asked = c .before .row-test .ensures in
+    ⊎-elim
+    (λ w. rw (w .5, w .6) (going-set (s .args .row) _ _ _ _ _ inv _ _ (turn .loop-test .taken) (sym asked ∙ w .0 .taken) (w .2 .ensures)))
+    (λ w. rw (w .1, w .2) (going-clear (s .args .row) _ _ _ _ _ inv (turn .loop-test .taken) (sym asked ∙ w .0 .left)))
+    (c .if1 .came)
 
 same-length : tie.Need-same-length Inv-loop μ-loop
 same-length c = search needs
@@ -49,11 +52,10 @@ put-bits-spec =
     (tie.spec
     Inv-loop
     μ-loop
-    row-next-requires
     loop-holds
+    row-test-requires
     put-part-requires
-    add-row-next
-    row-next-requires-2
+    add-call
     loop-less
     loop-again
     same-length
