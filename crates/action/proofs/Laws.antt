@@ -5,8 +5,7 @@ use mathlib.Core.List.{List}
 use Prim.Native.Nat.{ℕ, _+_, _≤_}
 use native.Mathlib.Omega.{arith}
 use lib.IntN.{ℤ, pos}
-use lib.ListN.{length, getD, List·getD-eq-default}
-use lib.Seq.{set-out}
+use lib.ListN.{length, getD, set, List·getD-eq-default}
 use mir.Syntax.{w64}
 use mir.Val.{SFits}
 use Rattle.arith.proofs.Laws.{read, back}
@@ -20,12 +19,14 @@ use Rattle.machine.specs.declared.Next.the-variants.{Go}
 use Rattle.action.specs.Acted.{actedOf, actionOf}
 use Rattle.action.specs.declared.Acted.{Acted}
 
--- A register that does not exist reads 0, and a store to it changes nothing.
+-- A register that does not exist reads 0.
 pub register-past : (regs : List ℤ) (x : ℕ) → length regs ≡ 8 → 8 ≤ x → pos 0 ≡ getD regs x (pos 0)
 register-past regs x l h = sym (List·getD-eq-default regs (pos 0) {n = x} (omega arith))
 
-pub assign-past : (place : ℕ) (regs : List ℤ) (x : ℕ) (v : ℤ) → length regs ≡ 8 → 8 ≤ x → doing regs (Go (place + 1)) ≡ assign place regs x v
-assign-past place regs x v l h = rw (set-out regs x v (omega arith))
+-- The registers with a value in x, and going on.
+pub assign-by-register : (place : ℕ) (regs : List ℤ) (x : ℕ) {v : ℤ} {new : List ℤ} → SFits w64 v → new ≡ set regs x (read v)
+    → doing new (Go (place + 1)) ≡ assign place regs x v
+assign-by-register place regs x f e = rw (e, back f)
 
 -- A test of a value that was read back is that of the value.
 pub test-read : (f : ℤ → Bool) {z : ℤ} {b : Bool} → SFits w64 z → f (read z) ≡ b → f z ≡ b

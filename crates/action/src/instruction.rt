@@ -11,7 +11,7 @@ use machine::Action;
 use machine::Next;
 ghost use mathlib.Core.Path.{_≡_};
 ghost use lib.IntN.{pos};
-ghost use lib.ListN.{getD};
+ghost use lib.ListN.{getD, set};
 ghost use lib.Signed.{ltZ};
 ghost use Rattle.arith.specs.Compare.{eqZ};
 ghost use Rattle.arith.specs.Exact.{addOf, subOf, mulOf, divOf};
@@ -38,15 +38,24 @@ fn register(regs: [i64; 8], x: usize) -> i64
     if x < REGISTERS { regs[x] } else { 0 }
 }
 
-// x takes a value, and the call goes on behind the place.
-fn assign(place: u32, mut regs: [i64; 8], x: usize, v: i64) -> Action
-    ensures { λ r. ⌜ r ≡ assign place regs x v ⌝ }
+// The registers with a value in x; one that does not exist takes none.
+fn with_register(mut regs: [i64; 8], x: usize, v: i64) -> [i64; 8]
+    ensures { λ r. ⌜ r ≡ set regs x v ⌝ }
 {
-    let next = Next::Go(place as usize + 1);
     if x < REGISTERS {
         regs[x] = v;
     }
-    Action { next, regs }
+    regs
+}
+
+// x takes a value, and the call goes on behind the place.
+fn assign(place: u32, regs: [i64; 8], x: usize, v: i64) -> Action
+    ensures { λ r. ⌜ r ≡ assign place regs x v ⌝ }
+{
+    Action {
+        next: Next::Go(place as usize + 1),
+        regs: with_register(regs, x, v),
+    }
 }
 
 // The call ends with an outcome.
@@ -141,14 +150,21 @@ pub(crate) fn div(place: u32, regs: [i64; 8], x: usize, y: usize, z: usize) -> A
     assign_checked(place, regs, x, quotient)
 }
 
-// "10 GET x": x takes the cell's value.
-pub(crate) fn get(regs: [i64; 8], x: usize) -> Action
+// What GET and BAL wait for: the value of their cell, which is for x.
+pub(crate) fn load(regs: [i64; 8], x: usize) -> Action
     ensures { λ r. ⌜ r ≡ doing regs (Next.Load x) ⌝ }
 {
     Action {
         next: Next::Load(x),
         regs,
     }
+}
+
+// "10 GET x": x takes the value that was loaded.
+pub(crate) fn get(regs: [i64; 8], x: usize, value: i64) -> [i64; 8]
+    ensures { λ r. ⌜ r ≡ set regs x value ⌝ }
+{
+    with_register(regs, x, value)
 }
 
 // "11 PUT x": the cell takes x.
@@ -161,14 +177,11 @@ pub(crate) fn put(regs: [i64; 8], x: usize) -> Action
     }
 }
 
-// "12 BAL x, the contract's own balance"
-pub(crate) fn bal(regs: [i64; 8], x: usize) -> Action
-    ensures { λ r. ⌜ r ≡ doing regs (Next.Load x) ⌝ }
+// "12 BAL x, the contract's own balance": x takes the balance that was loaded.
+pub(crate) fn bal(regs: [i64; 8], x: usize, balance: i64) -> [i64; 8]
+    ensures { λ r. ⌜ r ≡ set regs x balance ⌝ }
 {
-    Action {
-        next: Next::Load(x),
-        regs,
-    }
+    with_register(regs, x, balance)
 }
 
 // "PAY with 5 if the amount is negative, the target no account, or the contract's balance lower."

@@ -12,6 +12,7 @@ use instruction::div;
 use instruction::get;
 use instruction::jeq;
 use instruction::jlt;
+use instruction::load;
 use instruction::mul;
 use instruction::pay;
 use instruction::put;
@@ -25,7 +26,7 @@ use machine::Action;
 use machine::Next;
 ghost use mathlib.Core.Path.{_≡_};
 ghost use Prim.Native.Nat.{_+_, _<_};
-ghost use lib.ListN.{drop};
+ghost use lib.ListN.{drop, set};
 ghost use Rattle.block.specs.Instruction.{decode};
 ghost use Rattle.machine.specs.Action.{entryAction, instrAction};
 ghost use Rattle.action.specs.Acted.{actedOf, jumpOf};
@@ -62,14 +63,14 @@ fn act(c: Call, place: u32, regs: [i64; 8], i: Instr) -> Action
             field: _,
             a: _,
             b: _,
-        } => get(regs, x),
+        } => load(regs, x),
         Instr::Put {
             x,
             field: _,
             a: _,
             b: _,
         } => put(regs, x),
-        Instr::Bal { x } => bal(regs, x),
+        Instr::Bal { x } => load(regs, x),
         Instr::Pay { x, target } => pay(c, regs, x, target),
         Instr::Jeq { x, y, to } => jeq(place, regs, x, y, to as u16),
         Instr::Jlt { x, y, to } => jlt(place, regs, x, y, to as u16),
@@ -94,6 +95,16 @@ pub fn act_at(code: &[u8], at: usize, index: u16, size: u16, c: Call, regs: [i64
             },
         },
     }
+}
+
+// The registers behind a load: BAL takes a balance, and GET any other value, since its field is not 0.
+pub fn loaded(balance: bool, regs: [i64; 8], x: usize, value: i64) -> [i64; 8]
+    ensures { λ r. ⌜ r ≡ set regs x value ⌝ }
+{
+    if balance {
+        return bal(regs, x, value);
+    }
+    get(regs, x, value)
 }
 
 // "sender's balance below value, outcome 2; else value moves from sender to contract and the place is 0"

@@ -5,6 +5,7 @@ use crate::entries::restorable;
 use crate::entries::restore;
 use crate::lookup::lookup;
 use crate::lookup::plan_word;
+use action::loaded;
 use footprint::KeyUse;
 use footprint::Uses;
 use footprint::layout::KEY_COUNT;
@@ -16,7 +17,7 @@ ghost use mathlib.Core.Bool.{true, false};
 ghost use mathlib.Core.List.{List, []};
 ghost use Prim.Native.Nat.{_*_, _≤_, _<_};
 ghost use lib.IntN.{ℤ};
-ghost use lib.ListN.{length, set};
+ghost use lib.ListN.{length};
 ghost use lib.Signed.{ltZ, nonNeg};
 ghost use Rattle.block.specs.Key.{isBalance};
 ghost use Rattle.block.specs.Limits.{maxCalls, maxCode};
@@ -26,8 +27,6 @@ ghost use Rattle.moves.specs.Turn.{accessOf, accessesOf, broken, cellVie
 
 // The first outcome of those that restore the cells.
 const THROWN: u64 = 3;
-
-const REGISTERS: usize = 8;
 
 // The place value of the field in a key's high word, and the field's own range.
 const FIELD_PLACE: u64 = 4294967296;
@@ -68,16 +67,6 @@ pub(crate) fn done(outcome: u64, count: u64) -> Turn
     }
 }
 
-// The registers with a value in one of them.
-fn with_register(mut regs: [i64; 8], x: usize, v: i64) -> [i64; 8]
-    ensures { λ r. ⌜ r ≡ set regs x v ⌝ }
-{
-    if x < REGISTERS {
-        regs[x] = v;
-    }
-    regs
-}
-
 // "Field 0 .. is the balance."
 fn is_balance(u: KeyUse) -> bool
     requires { ⌜ Worded u ⌝ }
@@ -110,7 +99,7 @@ fn finish(
     damaged()
 }
 
-// A loaded value; of a balance, "below zero" is damage.
+// A loaded value goes to its instruction; of a balance, "below zero" is damage.
 fn load(
     plan: &[u64],
     keys: &[u64],
@@ -132,10 +121,11 @@ fn load(
         Lookup::NoCell => damaged(),
         Lookup::Cell(n) => {
             let v = wire::value(cells, n);
-            if is_balance(u) & (v < 0) {
+            let balance = is_balance(u);
+            if balance & (v < 0) {
                 return damaged();
             }
-            go_on(place + 1, count, with_register(regs, x, v))
+            go_on(place + 1, count, loaded(balance, regs, x, v))
         }
     }
 }

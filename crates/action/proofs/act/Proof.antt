@@ -70,8 +70,8 @@ div-requires c κs = search needs
 enum-known-i-9 : tie.Need-enum-known-i-9
 enum-known-i-9 c = search needs
 
-get-requires : tie.Need-get-requires
-get-requires c κs = search needs
+load-requires : tie.Need-load-requires
+load-requires c κs = search needs
 
 enum-known-i-10 : tie.Need-enum-known-i-10
 enum-known-i-10 c = search needs
@@ -82,8 +82,8 @@ put-requires c κs = search needs
 enum-known-i-11 : tie.Need-enum-known-i-11
 enum-known-i-11 c = search needs
 
-bal-requires : tie.Need-bal-requires
-bal-requires c κs = search needs
+load-requires-2 : tie.Need-load-requires-2
+load-requires-2 c κs = search needs
 
 enum-known-i-12 : tie.Need-enum-known-i-12
 enum-known-i-12 c = search needs
@@ -153,7 +153,7 @@ returns-10 c = simp (c .before .before .i8 .given .1) (c .div .ensures)
 
 returns-11 : tie.Need-returns-11
 unfolding instrAction
-returns-11 c = simp (c .before .before .i9 .given .1) (c .get .ensures)
+returns-11 c = simp (c .before .before .i9 .given .1) (c .load .ensures)
 
 returns-12 : tie.Need-returns-12
 unfolding instrAction
@@ -161,7 +161,7 @@ returns-12 c = simp (c .before .before .i10 .given .1) (c .put .ensures)
 
 returns-13 : tie.Need-returns-13
 unfolding instrAction
-returns-13 c = simp (c .before .before .i11 .given .1) (c .bal .ensures)
+returns-13 c = simp (c .before .before .i11 .given .1) (c .load2 .ensures)
 
 returns-14 : tie.Need-returns-14
 unfolding instrAction
@@ -200,11 +200,11 @@ act-spec =
     enum-known-i-8
     div-requires
     enum-known-i-9
-    get-requires
+    load-requires
     enum-known-i-10
     put-requires
     enum-known-i-11
-    bal-requires
+    load-requires-2
     enum-known-i-12
     pay-requires
     enum-known-i-13

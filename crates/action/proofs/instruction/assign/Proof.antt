@@ -1,23 +1,17 @@
--- `action::instruction::assign` meets its contract: a store to a register that does not exist changes nothing. Assumes nothing.
+-- `action::instruction::assign` meets its contract: x has the value, and the next place is the one behind. Assumes nothing.
 use borrow.Author.Needs.{needs}
-use Rattle.action.proofs.Laws.{assign-past}
+use Rattle.action.proofs.Laws.{assign-by-register}
 use Rattle.action.proofs.instruction.assign.Statement.{statement}
 use Rattle.action.proofs.instruction.assign.Tie as tie
 
-add-t8 : tie.Need-add-t8
-add-t8 c = search needs
+add-t6 : tie.Need-add-t6
+add-t6 c = search needs
 
-mul-regs : tie.Need-mul-regs
-mul-regs c = search needs
-
-array-set-from-regs : tie.Need-array-set-from-regs
-array-set-from-regs c = search needs
+with-register-requires : tie.Need-with-register-requires
+with-register-requires c κs = search needs
 
 returns : tie.Need-returns
-returns c = search needs
-
-returns-2 : tie.Need-returns-2
-returns-2 c = assign-past (c .before .args .place) (c .before .args .t2) (c .before .args .x) (c .before .args .v) (search needs) (c .if1 .left)
+returns c = assign-by-register (c .before .args .place) (c .before .args .regs) (c .before .args .x) (c .before .fits .v) (c .with-register .ensures)
 
 pub assign-spec : {M : Type 1} → statement M
-assign-spec = tie.close (tie.spec add-t8 mul-regs array-set-from-regs returns returns-2)
+assign-spec = tie.close (tie.spec add-t6 with-register-requires returns)

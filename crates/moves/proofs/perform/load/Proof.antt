@@ -35,8 +35,8 @@ returns c =
 add-go-on : tie.Need-add-go-on
 add-go-on c = search needs
 
-with-register-requires : tie.Need-with-register-requires
-with-register-requires c κs = search needs
+loaded-requires : tie.Need-loaded-requires
+loaded-requires c κs = search needs
 
 go-on-requires : tie.Need-go-on-requires
 go-on-requires c κs = search needs
@@ -49,7 +49,7 @@ returns-2 c =
 returns-3 : tie.Need-returns-3
 returns-3 c =
     let a = c .before .before .before .before .before .before .before .before .before .before .before .args in
-    load-done (a .place) (a .count) (a .regs) (a .x) (accessOf (a .u)) (a .cells .now) (c .before .before .before .before .value .result) (record { sfits = c .before .before .before .before .value .ok }) (sym (c .before .before .before .before .before .before .before .before .lookup .ensures) ∙ c .before .before .before .before .before .before .n .given .1) (c .before .before .before .before .value .ensures) (c .before .before .before .is-balance .ensures) (c .before .before .if1 .left) (c .before .with-register .ensures) (c .go-on .ensures)
+    load-done (a .place) (a .count) (a .regs) (a .x) (accessOf (a .u)) (a .cells .now) (c .before .before .before .before .value .result) (record { sfits = c .before .before .before .before .value .ok }) (sym (c .before .before .before .before .before .before .before .before .lookup .ensures) ∙ c .before .before .before .before .before .before .n .given .1) (c .before .before .before .before .value .ensures) (c .before .before .before .is-balance .ensures) (c .before .before .if1 .left) (c .before .loaded .ensures) (c .go-on .ensures)
 
 pub load-spec : {M : Type 1} → statement M
 load-spec =
@@ -64,7 +64,7 @@ load-spec =
     damaged-requires-2
     returns
     add-go-on
-    with-register-requires
+    loaded-requires
     go-on-requires
     returns-2
     returns-3)

@@ -1,9 +1,9 @@
--- `moves::perform::with_register` meets its contract: past the last register the list's store changes nothing too. Assumes nothing.
+-- `action::instruction::with_register` meets its contract: past the last register the list's store changes nothing too. Assumes nothing.
 use borrow.Author.Needs.{needs}
 use lib.Seq.{set-out}
 use mathlib.Core.Path.{sym}
-use Rattle.moves.proofs.perform.with_register.Statement.{statement}
-use Rattle.moves.proofs.perform.with_register.Tie as tie
+use Rattle.action.proofs.instruction.with_register.Statement.{statement}
+use Rattle.action.proofs.instruction.with_register.Tie as tie
 
 mul-regs : tie.Need-mul-regs
 mul-regs c = search needs
