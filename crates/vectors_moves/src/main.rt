@@ -1,4 +1,4 @@
-// Opens blocks, makes moves on lent runs and asks for their sheets, with damages in between, as the records of standard input say, and
+// Opens blocks, makes moves and serial runs on lent runs and asks for their sheets, with damages in between, as the records of standard input say, and
 // writes what each answers with a hash of the run as it stands then, or of the sheet's output. tools/runner/src/vectors/stream.rs has the form of the records.
 mod answer;
 mod change;
@@ -22,7 +22,7 @@ const WORD: u64 = 8;
 
 const SEAT: u64 = 10;
 
-// One record: a change of the block, of a buffer, or of what is lent; or an opening, a move or a sheet.
+// One record: a change of the block, of a buffer, or of what is lent; or an opening, a move, a serial run or a sheet.
 fn turn(
     lent: Lent,
     record: &[u8],

@@ -1,4 +1,4 @@
-// Openings, moves and sheets on the lent parts of the buffers.
+// Openings, moves, serial runs and sheets on the lent parts of the buffers.
 use crate::answer::number;
 use crate::answer::text;
 use crate::answer::verdict;
@@ -20,6 +20,8 @@ const BEGIN: u64 = 5;
 const STEP: u64 = 6;
 
 const SHEET: u64 = 11;
+
+const SERIAL: u64 = 12;
 
 // A move of a record.
 fn make(
@@ -90,7 +92,23 @@ fn move_on(
     next
 }
 
-// An opening, a move or a sheet on what is lent: the head behind it.
+// The serial run, with its line.
+fn run_serially(
+    head: Head,
+    block: &[u8],
+    plan: &mut [u64],
+    keys: &mut [u64],
+    cells: &mut [i64],
+    status: &mut [u64],
+    olds: &mut [i64],
+) -> Head {
+    let next = serial::serial_run(head, block, plan, keys, cells, status, olds);
+    text(b"s");
+    hashed(next, plan, keys, cells, status, olds);
+    next
+}
+
+// An opening, a move, a serial run or a sheet on what is lent: the head behind it.
 fn act(
     head: Head,
     record: &[u8],
@@ -107,6 +125,9 @@ fn act(
     if wire::get64(record, 0) == SHEET {
         close(head, record, plan, keys, cells, status, olds);
         return head;
+    }
+    if wire::get64(record, 0) == SERIAL {
+        return run_serially(head, block, plan, keys, cells, status, olds);
     }
     move_on(head, record, block, plan, keys, cells, status, olds)
 }

@@ -28,14 +28,15 @@ const USAGE: &str = "usage:
   runner vectors open SEED DIR      stdin and stdout of a program that lists many blocks
   runner vectors register SEED DIR  the same for one that runs many blocks
   runner vectors moves SEED COUNT DIR
-                                    moves and sheets on damaged runs as DIR/stdin, DIR/stdout
-  runner vectors examples DIR       the documents' examples as DIR/stdin, DIR/stdout
-  runner vectors edges DIR          edges of the input as DIR/stdin, DIR/stdout
-  runner vectors files DIR          edges as folders with data/block.bin, stdin, stdout
+                                    moves, sheets and serial runs on damaged runs as DIR/stdin,
+                                    DIR/stdout
 ";
 
 /// How many cases of moves there are for one of sheets.
 const MOVES_TO_SHEETS: usize = 10;
+
+/// How many cases of moves there are for one of serial runs.
+const MOVES_TO_SERIAL: usize = 4;
 
 type Failure = Box<dyn std::error::Error>;
 
@@ -162,6 +163,7 @@ fn write_folders(directory: &Path) -> Result<(), Failure> {
 fn write_vectors(seed: u64, count: usize, directory: &Path) -> Result<(), Failure> {
     let (mut cases, _) = vectors::moves::cases(seed, count);
     cases.extend(vectors::sheets::cases(seed, count / MOVES_TO_SHEETS));
+    cases.extend(vectors::serial::cases(seed, count / MOVES_TO_SERIAL));
     fs::create_dir_all(directory)?;
     fs::write(directory.join("stdin"), vectors::stream::input(&cases))?;
     fs::write(directory.join("stdout"), vectors::stream::output(&cases))?;

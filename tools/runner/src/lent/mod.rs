@@ -4,6 +4,7 @@
 
 mod moves;
 mod opening;
+mod serial;
 mod sheet;
 mod step;
 

@@ -1,12 +1,13 @@
-//! Vectors for lent runs: cases of a block, its opening, and moves and sheets
-//! with damages between them; the stream that carries them, and the lines they
-//! answer.
+//! Vectors for lent runs: cases of a block, its opening, and moves, serial runs
+//! and sheets with damages between them; the stream that carries them, and the
+//! lines they answer.
 
 pub mod blocks;
 pub mod damage;
 pub mod edges;
 pub mod files;
 pub mod moves;
+pub mod serial;
 pub mod sheets;
 pub mod stream;
 pub mod titled;
@@ -99,6 +100,8 @@ pub enum Operation {
     Lend { sizes: Sizes },
     /// The closing sheet is asked for, with an output of so many bytes.
     Sheet { room: usize },
+    /// The serial run, on the run as it stands.
+    Serial,
 }
 
 /// A case: a block opened for some workers in buffers of some lengths, and what
@@ -124,6 +127,8 @@ pub enum Answer {
     Moved(Result<(), MoveRefusal>),
     /// Of a closing sheet.
     Closed(Result<usize, SheetRefusal>),
+    /// Of a serial run, which refuses nothing.
+    Ran,
 }
 
 /// A case as it is played.
@@ -173,6 +178,9 @@ impl Player {
                 self.block[at..at + kept].copy_from_slice(&bytes[..kept]);
             }
             Operation::Lend { sizes } => self.sizes = sizes,
+            Operation::Serial => {
+                self.on_lent(Run::run_serially);
+            }
             Operation::Sheet { .. } => (),
         }
         None
@@ -188,8 +196,13 @@ impl Player {
 
     /// Makes a move on what is lent.
     fn make(&mut self, chosen: Move) -> Result<(), MoveRefusal> {
+        self.on_lent(|lent, block| lent.apply(block, chosen))
+    }
+
+    /// Changes what is lent, with the block as it is lent.
+    fn on_lent<T>(&mut self, change: impl FnOnce(&mut Run, &[u8]) -> T) -> T {
         let mut lent = self.lent();
-        let answer = lent.apply(&self.block[..self.lent_block], chosen);
+        let answer = change(&mut lent, &self.block[..self.lent_block]);
         self.run.head = lent.head;
         self.run.plan[..lent.plan.len()].copy_from_slice(&lent.plan);
         self.run.keys[..lent.keys.len()].copy_from_slice(&lent.keys);
@@ -297,6 +310,9 @@ pub fn answers(case: &Case) -> Vec<(Answer, Left)> {
         }
         if let Some(moved) = player.play(*operation) {
             answers.push((Answer::Moved(moved), run(&player)));
+        }
+        if let Operation::Serial = *operation {
+            answers.push((Answer::Ran, run(&player)));
         }
     }
     answers

@@ -1,5 +1,6 @@
 //! Random cases of moves on lent runs. The operations are tried as they are
-//! drawn, so that most damages meet a move that would pass without them.
+//! drawn, so that most damages meet a move that would pass without them. Each
+//! case ends in the serial run on the run as it stands.
 
 use super::damage::{repair, target, Aim, Target};
 use super::{Case, Operation, Player, SPARE};
@@ -57,6 +58,7 @@ fn case(rng: &mut Rng, index: usize, shown: &mut Vec<Shown>) -> Case {
             let _ = writer.make(chosen);
         }
     }
+    writer.play(Operation::Serial);
     Case {
         block,
         sizes,

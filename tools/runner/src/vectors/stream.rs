@@ -17,6 +17,7 @@
 //! | 9 | field, value | sets a number of the head: 0 workers, 1 calls, 2 cells, 3 first |
 //! | 10 | worker, field, value | sets a number of a seat: 0 call, 1 place, 2 count, from 3 on a register |
 //! | 11 | length | the closing sheet, with an output of this length whose bytes are 7; a line `c ANSWER LENGTH HASH` |
+//! | 12 | | the serial run, on the run as it stands; a line `s HASH` |
 //!
 //! A signed value is its 64 bits. NUMBER and ANSWER are 0 if nothing is refused,
 //! and LENGTH, the sheet's, is 0 if it is. HASH is the hash of the run as it is
@@ -42,6 +43,7 @@ mod kind {
     pub const HEAD: u64 = 9;
     pub const SEAT: u64 = 10;
     pub const SHEET: u64 = 11;
+    pub const SERIAL: u64 = 12;
 }
 
 /// The first value of the hash.
@@ -109,6 +111,7 @@ pub fn output(cases: &[Case]) -> String {
                 let length = closed.unwrap_or(0);
                 writeln!(text, "c {number} {length} {hash}")
             }
+            Answer::Ran => writeln!(text, "s {hash}"),
         }
         .expect("a string takes all text");
     }
@@ -150,6 +153,7 @@ fn push_operation(out: &mut Vec<u8>, operation: Operation) {
         Operation::Bytes { at, bytes } => push_bytes(out, at, bytes),
         Operation::Lend { sizes } => push_sizes(out, sizes),
         Operation::Sheet { room } => push(out, [kind::SHEET, room as u64, 0, 0]),
+        Operation::Serial => push(out, [kind::SERIAL, 0, 0, 0]),
     }
 }
 

@@ -6,6 +6,7 @@ use runner::generate::{moves, COMPLETE};
 use runner::lent::{key_words, open, Run, Sizes, FINISHED, RUNNING, WAITING};
 use runner::machine::{self, Machine, Move, State};
 use runner::rng::Rng;
+use runner::serial;
 
 use crate::block;
 
@@ -134,6 +135,51 @@ fn an_undamaged_run_agrees_with_the_machine() {
             same(&run, &machine);
         }
     }
+}
+
+#[test]
+fn the_serial_run_agrees_with_the_machine() {
+    let mut rng = Rng::new(21);
+    for index in 0..RUNS {
+        let shape = [MIXED, TOUCHING, PAYING, CALCULATING][index % 4];
+        let bytes = Draft::random(&mut rng, shape).bytes();
+        let workers = rng.between(1, 8);
+        let Ok(opened) = machine::open(&bytes, workers) else {
+            continue;
+        };
+        let mut machine = Machine::new(&opened);
+        let ended = serial::run(&opened).ended;
+        for (call, ended) in ended.iter().enumerate() {
+            assert_eq!(machine.apply(begin(0, call)), Ok(()));
+            for _ in 0..ended.steps {
+                assert_eq!(machine.apply(step(0)), Ok(()));
+            }
+        }
+        let (_, mut run) = open(&bytes, workers, Sizes::FIXED);
+        run.run_serially(&bytes);
+        same(&run, &machine);
+    }
+}
+
+#[test]
+fn the_serial_run_goes_on_behind_a_refused_move() {
+    // The held call is stepped to its end before call 1; call 0 is refused.
+    let (mut run, bytes) = moved(P, &[begin(0, 0)]);
+    run.run_serially(&bytes);
+    let (mut whole, _) = lent(P);
+    whole.run_serially(&bytes);
+    assert_eq!(run, whole);
+    // Worker 1 holds call 0, which the later calls wait for.
+    let (before, bytes) = moved(P, &[begin(1, 0)]);
+    let mut run = before.clone();
+    run.run_serially(&bytes);
+    assert_eq!(run, before);
+    // A step that answers 20 leaves the worker where it is.
+    let (mut before, bytes) = moved(P, &[begin(0, 0)]);
+    before.head.seats[0].place = 99;
+    let mut run = before.clone();
+    run.run_serially(&bytes);
+    assert_eq!(run, before);
 }
 
 /// Asserts that a lent run stands where a machine stands.

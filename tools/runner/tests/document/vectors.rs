@@ -1,11 +1,13 @@
-//! What the vectors of moves and sheets on damaged runs show.
+//! What the vectors of moves, sheets and serial runs on damaged runs show.
 
 use std::collections::BTreeMap;
 
-use runner::lent::Run;
+use runner::lent::{Run, FINISHED};
+use runner::limits::MAX_CALLS;
 use runner::machine::Move;
 use runner::vectors::damage::{Target, OF_BEGIN, OF_CANCEL, OF_STEP};
 use runner::vectors::moves::cases;
+use runner::vectors::serial;
 use runner::vectors::sheets;
 use runner::vectors::stream::{hash, input, output};
 use runner::vectors::{answers, Answer, Left, Operation, Player};
@@ -31,6 +33,15 @@ const ANSWERS: [(u16, usize); 8] = [
 const SHEETS: usize = 40;
 /// The answers of sheets, and how often each stands in the file at least.
 const CLOSINGS: [(u16, usize); 4] = [(0, 400), (20, 800), (27, 200), (28, 600)];
+/// As many cases of serial runs as the stored file has.
+const SERIAL: usize = 100;
+/// Serial runs that leave all as it was, that finish every call, and that finish
+/// some calls and not all, and how often each stands in the file at least.
+const RUNS: [(Outcome, usize); 3] = [
+    (Outcome::Unchanged, 40),
+    (Outcome::Complete, 40),
+    (Outcome::Partial, 40),
+];
 /// How often each damage is answered 20, and not, at least.
 const LEAST: usize = 2;
 /// Damages that STEP, or any move, never answers with 20 if they stand alone.
@@ -56,7 +67,8 @@ fn all_answers_are_well_covered() {
         assert!(counts[&number] >= least, "{number}: {counts:?}");
     }
     let sheets = sheets::cases(SEED, SHEETS);
-    assert!(input(&cases).len() + input(&sheets).len() < MOST_BYTES);
+    let serial = serial::cases(SEED, SERIAL);
+    assert!(input(&cases).len() + input(&sheets).len() + input(&serial).len() < MOST_BYTES);
 }
 
 #[test]
@@ -67,6 +79,7 @@ fn all_answers_of_sheets_are_well_covered() {
         match answer {
             Answer::Opened(opened) => assert_eq!(opened, Ok(())),
             Answer::Moved(moved) => assert_eq!(moved, Ok(())),
+            Answer::Ran => panic!("a case of sheets has no serial run"),
             Answer::Closed(closed) => {
                 let number = closed.err().map_or(0, |refusal| refusal.number());
                 *counts.entry(number).or_default() += 1;
@@ -75,6 +88,43 @@ fn all_answers_of_sheets_are_well_covered() {
     }
     for (number, least) in CLOSINGS {
         assert!(counts[&number] >= least, "{number}: {counts:?}");
+    }
+}
+
+/// How a serial run went.
+#[derive(Clone, Copy, Debug, PartialEq, Eq, PartialOrd, Ord)]
+enum Outcome {
+    Unchanged,
+    Complete,
+    Partial,
+}
+
+#[test]
+fn serial_runs_of_all_kinds_are_well_covered() {
+    let all_finished = |run: &Run| {
+        let calls = run.head.calls.min(MAX_CALLS as u64) as usize;
+        run.sizes().suffice() && (0..calls).all(|call| run.state(call) == FINISHED)
+    };
+    let mut counts: BTreeMap<Outcome, usize> = BTreeMap::new();
+    let moves = cases(SEED, COUNT).0;
+    for case in moves.iter().chain(&serial::cases(SEED, SERIAL)) {
+        let mut player = Player::open(&case.block, case.workers, case.sizes).1;
+        for operation in &case.operations {
+            let before = player.lent();
+            player.play(*operation);
+            if *operation == Operation::Serial {
+                let outcome = match player.lent() {
+                    after if after == before => Outcome::Unchanged,
+                    after if all_finished(&after) => Outcome::Complete,
+                    _ => Outcome::Partial,
+                };
+                *counts.entry(outcome).or_default() += 1;
+            }
+        }
+    }
+    for (outcome, least) in RUNS {
+        let count = counts.get(&outcome).copied().unwrap_or(0);
+        assert!(count >= least, "{counts:?}");
     }
 }
 

@@ -125,7 +125,7 @@ pub fn target(rng: &mut Rng, chosen: Move, uses_cell: bool) -> Target {
 /// The operation that takes a damage back.
 pub fn repair(player: &Player, damage: Operation) -> Operation {
     match damage {
-        Operation::Move(_) | Operation::Sheet { .. } => damage,
+        Operation::Move(_) | Operation::Sheet { .. } | Operation::Serial => damage,
         Operation::Word { buffer, index, .. } => Operation::Word {
             buffer,
             index,

@@ -1,0 +1,32 @@
+//! The serial run on a lent run as it stands: "calls 0, 1, .. each begun and
+//! stepped to its end".
+
+use super::Run;
+use crate::limits::{MAX_CALLS, MAX_STEPS};
+use crate::machine::Move;
+
+/// The worker of the serial run.
+const WORKER: usize = 0;
+
+impl Run {
+    /// Each call in turn is begun on worker 0, which then steps until it holds
+    /// no call. A run whose moves are refused has at most as many calls and
+    /// steps as a good one, and goes on with the next.
+    pub fn run_serially(&mut self, block: &[u8]) {
+        for call in 0..self.head.calls.min(MAX_CALLS as u64) as usize {
+            let _ = self.apply(
+                block,
+                Move::Begin {
+                    worker: WORKER,
+                    call,
+                },
+            );
+            for _ in 0..MAX_STEPS {
+                if self.head.seats[WORKER].call == 0 {
+                    break;
+                }
+                let _ = self.apply(block, Move::Step { worker: WORKER });
+            }
+        }
+    }
+}
