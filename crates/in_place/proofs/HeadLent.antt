@@ -39,7 +39,7 @@ use Rattle.machine.proofs.Answer as answer
 use Rattle.machine.proofs.Answer.Laws as answer-laws
 use Rattle.moves.proofs.Reply as reply
 use Rattle.moves.proofs.Reply.Laws as reply-laws
-use Rattle.in_place.proofs.Passed.{Passing, paramTys, loanTys, locals, relends, operands, Args, valsOf, Blocks, env, nowhere, At, at-tail, at-first, at-behind, count}
+use Rattle.in_place.proofs.Passed.{Passing, paramTys, loanTys, locals, relends, operands, Args, valsOf, Blocks, env, nowhere, At, at-tail, at-front, at-first, at-behind, count}
 use Rattle.in_place.proofs.Passed.{found, alloc-all, pass-all, free-all, params-free, loans-free, relend-all, opds-behind}
 
 -- ---- the code. The locals are the result, the head, the parameters; the reply, the copy of the head, and the loans
@@ -84,7 +84,8 @@ module _ (ps : List Passing) (l₀ l₁ : ℕ) (bs : Blocks (paramTys ps)) (l₂
   params-stand = at-tail _ _ 1 (env (paramTys ps) bs) (at-tail _ _ 0 (env (paramTys ps) bs) (at-first (env (paramTys ps) bs) (behind-params ++ [])))
 
   others-stand : At all-locals (reply-at ps) behind-params
-  others-stand = at-tail _ _ (suc (count ps)) behind-params (at-tail _ _ (count ps) behind-params (at-behind ps bs behind-params []))
+  others-stand =
+      at-tail _ _ (suc (count ps)) behind-params (at-tail _ _ (count ps) behind-params (at-front (env (paramTys ps) bs ++ (behind-params ++ [])) (count ps) behind-params [] (at-behind ps bs (behind-params ++ []))))
 
   reply-stands : getD all-locals (reply-at ps) nowhere ≡ (reply-laws.mir, l₂)
   reply-stands = others-stand .0
@@ -102,10 +103,10 @@ head-val h = LL.val head.the-type head-laws.the-laws h
 abbrev answer-val : Answer → Val
 answer-val r = EL.val answer.the-type answer-laws.the-laws r
 
-abbrev HeadIs : Head → Type 0
+abbrev pub HeadIs : Head → Type 0
 HeadIs h = Is head.the-row h (head-val h ∷ [])
 
-abbrev AnswerIs : Answer → Type 0
+abbrev pub AnswerIs : Answer → Type 0
 AnswerIs r = Is answer.the-row r (answer-val r ∷ [])
 
 reply-head : (y : Reply) (v : Val) → Is reply.the-row y (v ∷ []) → HeadIs (y .head)
@@ -115,18 +116,18 @@ reply-answer : (y : Reply) (v : Val) → Is reply.the-row y (v ∷ []) → Answe
 reply-answer y v is = LL.owed reply.the-type reply-laws.the-laws y (v ∷ []) is .1 .0
 
 module _ {M : Type 1} (𝓤 : URA M) (H : Heap 𝓤) (A : Atoms 𝓤) (W : Given 𝓤 H A) where
-  head-typed : (h : Head) → HeadIs h → T (hasTy head-laws.mir (head-val h)) × WT (head-val h)
+  pub head-typed : (h : Head) → HeadIs h → T (hasTy head-laws.mir (head-val h)) × WT (head-val h)
   head-typed h is = LL.lawful head.the-type head-laws.the-laws 𝓤 H A W .typed h (head-val h ∷ []) is .0
 
-  answer-typed : (r : Answer) → AnswerIs r → T (hasTy answer-laws.mir (answer-val r)) × WT (answer-val r)
-  answer-typed r is = EL.lawful answer.the-type answer-laws.the-laws 𝓤 H A W tt .typed r (answer-val r ∷ []) is .0
+  pub answer-typed : (r : Answer) (v : Val) → Is answer.the-row r (v ∷ []) → T (hasTy answer-laws.mir v) × WT v
+  answer-typed r v is = EL.lawful answer.the-type answer-laws.the-laws 𝓤 H A W tt .typed r (v ∷ []) is .0
 
-  reply-typed : (y : Reply) (v : Val) → Is reply.the-row y (v ∷ []) → T (hasTy reply-laws.mir v) × WT v
+  pub reply-typed : (y : Reply) (v : Val) → Is reply.the-row y (v ∷ []) → T (hasTy reply-laws.mir v) × WT v
   reply-typed y v is = LL.lawful reply.the-type reply-laws.the-laws 𝓤 H A W .typed y (v ∷ []) is .0
 
 -- ---- what is left, in the words of a contract: `others` are the tokens of the other lifetimes, `lasts` says the last values of the parameters, and `says` is the `ensures`, of the answer, the head and those values
 module _ {M : Type 1} (𝓤 : URA M) (H : Heap 𝓤) (A : Atoms 𝓤) (others : SProp 𝓤) (Lasts : Type 0) (lasts : Lasts → Fml) (says : Answer → Head → Lasts → SProp 𝓤) where
-  abbrev Replied : Reply → SProp 𝓤
+  abbrev pub Replied : Reply → SProp 𝓤
   Replied y = ex 𝓤 (λ (ws : Unit {0} × Lasts). sep 𝓤 (sem 𝓤 H A (fsep ftrue (lasts (ws .1)))) (says (y .answer) (y .head) (ws .1)))
 
   -- by the callee, which takes the head by value
@@ -203,7 +204,7 @@ module _ {M : Type 1} (𝓤 : URA M) (H : Heap 𝓤) (A : Atoms 𝓤) (W : Given
         assigns ! (of-opd ! (load ! (found ! (reply-stands ps l₀ l₁ bs l₂ l₃ cs) (fld ! refl (stop !))) (look-in ! 11 (sub ! 0 refl (whole !)))))
         (from ! (hop ! (look ! 13 refl) (stop !))) (store-raw ! 5 refl (head-typed 𝓤 H A W (y .head) (reply-head y v is))) $
         assigns ! (of-opd ! (load ! (found ! (reply-stands ps l₀ l₁ bs l₂ l₃ cs) (fld ! refl (stop !))) (look-in ! 11 (sub ! 1 refl (whole !)))))
-        (from ! (stop !)) (init ! 15 refl (answer-typed 𝓤 H A W (y .answer) (reply-answer y v is))) $
+        (from ! (stop !)) (init ! 15 refl (answer-typed 𝓤 H A W (y .answer) (answer-val (y .answer)) (reply-answer y v is))) $
         -- the borrow is closed, and the locals are freed
         owned ! Hd (Is Hd) (LL.makes head.the-type head-laws.the-plain 𝓤 H A) (y .head) _ (reply-head y v is) $ move ! (6 ∷ 0 ∷ 7 ∷ 8 ∷ 9 ∷ []) $ closes ! tt Hd (y .head) (head-val (y .head) ∷ []) b o $
         -- [obs; the borrow; its token; what the reply owns; the other tokens; what the callee says; the parameters; the loans; the copy; …; the reply; …; the head's pointer; …; the result; …]

@@ -84,17 +84,25 @@ abbrev pub ways : (Rs : List RattleType) → AllOn Rs → List Passing
 ways [] gs = []
 ways (R ∷ Rs) gs = gs .0 .way ∷ ways Rs (gs .1)
 
-abbrev args : (Rs : List RattleType) (gs : AllOn Rs) → Denots Rs → Args (ways Rs gs)
+abbrev pub args : (Rs : List RattleType) (gs : AllOn Rs) → Denots Rs → Args (ways Rs gs)
 args [] gs a = tt
 args (R ∷ Rs) gs a = (gs .0 .arg (a .0), args Rs (gs .1) (a .1))
 
-values : (Rs : List RattleType) (gs : AllOn Rs) (a : Denots Rs) (vss : Valss Rs) → Are Rs (Ises Rs) a vss → flat Rs vss ≡ valsOf (ways Rs gs) (args Rs gs a)
+pub values : (Rs : List RattleType) (gs : AllOn Rs) (a : Denots Rs) (vss : Valss Rs) → Are Rs (Ises Rs) a vss → flat Rs vss ≡ valsOf (ways Rs gs) (args Rs gs a)
 values [] gs a vss are = refl
 values (R ∷ Rs) gs a vss are = λ i. gs .0 .tells (a .0) (vss .0) (are .0) i ++ values Rs (gs .1) (a .1) (vss .1) (are .1) i
 
-well-typed : (Rs : List RattleType) (gs : AllOn Rs) (a : Denots Rs) (vss : Valss Rs) → Are Rs (Ises Rs) a vss → Typed (paramTys (ways Rs gs)) (valsOf (ways Rs gs) (args Rs gs a))
+pub well-typed : (Rs : List RattleType) (gs : AllOn Rs) (a : Denots Rs) (vss : Valss Rs) → Are Rs (Ises Rs) a vss → Typed (paramTys (ways Rs gs)) (valsOf (ways Rs gs) (args Rs gs a))
 well-typed [] gs a vss are = tt
 well-typed (R ∷ Rs) gs a vss are = (gs .0 .typed (a .0) (vss .0) (are .0), well-typed Rs (gs .1) (a .1) (vss .1) (are .1))
+
+-- what the parameters own tells their machine values
+pub known : {M : Type 1} (𝓤 : URA M) (H : Heap 𝓤) (A : Atoms 𝓤) (S : Signature) (κs : Lfts (S .lifetimes)) (qs : Shares (S .lifetimes)) (a : Entry.Args S κs) (vss : Entry.Vals S κs)
+    → ent 𝓤 (sep 𝓤 (onEntry 𝓤 H A S κs qs a vss) (emp 𝓤)) (fact 𝓤 (Are (typesAt (S .params) κs) (Ises (typesAt (S .params) κs)) a vss))
+known 𝓤 H A S κs qs a vss =
+    via 𝓤 (onEntry 𝓤 H A S κs qs a vss) (fst∗ 𝓤 (onEntry 𝓤 H A S κs qs a vss) (emp 𝓤))
+    (via 𝓤 (sem 𝓤 H A (owns (typesAt (S .params) κs) a vss)) (snd∗ 𝓤 (alive 𝓤 H A S κs qs) (sem 𝓤 H A (owns (typesAt (S .params) κs) a vss)))
+    (owns-show 𝓤 H A (typesAt (S .params) κs) (Ises (typesAt (S .params) κs)) (showss 𝓤 H A (typesAt (S .params) κs)) a vss))
 
 -- ---- the signature
 -- the parameters behind the head
@@ -159,13 +167,6 @@ module _ {M : Type 1} (𝓤 : URA M) (H : Heap 𝓤) (A : Atoms 𝓤) {n : ℕ} 
       abbrev Post : Val → SProp 𝓤
       Post = tripleOf 𝓤 H A S promise .post y
 
-      -- what the parameters own tells their machine values
-      known : ent 𝓤 Pre (fact 𝓤 (Are (typesAt (S .params) κs) (Ises (typesAt (S .params) κs)) (y .0 .3) (y .0 .4)))
-      known =
-          via 𝓤 (onEntry 𝓤 H A S κs (y .0 .1) (y .0 .3) (y .0 .4)) (fst∗ 𝓤 (onEntry 𝓤 H A S κs (y .0 .1) (y .0 .3) (y .0 .4)) (emp 𝓤))
-          (via 𝓤 (sem 𝓤 H A (owns (typesAt (S .params) κs) (y .0 .3) (y .0 .4))) (snd∗ 𝓤 (alive 𝓤 H A S κs (y .0 .1)) (sem 𝓤 H A (owns (typesAt (S .params) κs) (y .0 .3) (y .0 .4))))
-          (owns-show 𝓤 H A (typesAt (S .params) κs) (Ises (typesAt (S .params) κs)) (showss 𝓤 H A (typesAt (S .params) κs)) (y .0 .3) (y .0 .4)))
-
       walk : Are (typesAt (S .params) κs) (Ises (typesAt (S .params) κs)) (y .0 .3) (y .0 .4)
           → ent 𝓤 Pre (WpFn 𝓤 H C Λ (lending (suc n) (ways Rs (on κs)) key) (vptr (ptr x .0) (ptr x .1) ∷ valsOf (ways Rs (on κs)) (args Rs (on κs) a)) Post)
       walk are =
@@ -174,7 +175,7 @@ module _ {M : Type 1} (𝓤 : URA M) (H : Heap 𝓤) (A : Atoms 𝓤) {n : ℕ} 
           (subst (λ (us : List Val). ent 𝓤 (given-by-value κs (y .0 .1) x a vss) (C key (head-val (now x) ∷ us) (left-by-value κs (y .0 .1) x a))) (values Rs (on κs) a vss (are .1)) (by-value κs (y .0 .1) x a vss)) (y .0 .4 .0)
 
     pub lent-meets : (f : Fn) → ((κs : Lfts (suc n)) → f ≡ lending (suc n) (ways (typesAt ss κs) (on κs)) key) → Meets 𝓤 H A S (WpFn 𝓤 H C Λ f) promise
-    lent-meets f is y = fact-use 𝓤 (Are (typesAt (S .params) (κs y)) (Ises (typesAt (S .params) (κs y))) (y .0 .3) (y .0 .4)) (known y) (λ are.
+    lent-meets f is y = fact-use 𝓤 (Are (typesAt (S .params) (κs y)) (Ises (typesAt (S .params) (κs y))) (y .0 .3) (y .0 .4)) (known 𝓤 H A S (κs y) (y .0 .1) (y .0 .3) (y .0 .4)) (λ are.
         subst (λ (g : Fn). ent 𝓤 (Pre y) (WpFn 𝓤 H C Λ g (flat (typesAt (S .params) (κs y)) (y .0 .4)) (Post y))) (sym (is (κs y)))
         (subst (λ (us : List Val). ent 𝓤 (Pre y) (WpFn 𝓤 H C Λ (lending (suc n) (ways (Rs y) (on (κs y))) key) us (Post y))) (sym (λ i. are .0 .0 i ++ values (Rs y) (on (κs y)) (a y) (vss y) (are .1) i)) (walk y are)))
 

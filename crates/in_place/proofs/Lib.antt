@@ -1,3 +1,5 @@
 mod HeadLent
+mod HeadOwned
 mod LentMeets
+mod OwnedMeets
 mod Passed

@@ -126,13 +126,20 @@ pub at-tail : (e : Ty × ℕ) (E : List (Ty × ℕ)) (i : ℕ) (es : List (Ty ×
 at-tail e E i [] h = tt
 at-tail e E i (x ∷ es) h = (h .0, at-tail e E (suc i) es (h .1))
 
-pub at-first : (es fs : List (Ty × ℕ)) → At (es ++ fs) zero es
-at-first [] fs = tt
-at-first (e ∷ es) fs = (refl, at-tail e (es ++ fs) zero es (at-first es fs))
+at-all : (es : List (Ty × ℕ)) → At es zero es
+at-all [] = tt
+at-all (e ∷ es) = (refl, at-tail e es zero es (at-all es))
 
-pub at-behind : (ps : List Passing) (bs : Blocks (paramTys ps)) (es fs : List (Ty × ℕ)) → At (env (paramTys ps) bs ++ (es ++ fs)) (count ps) es
-at-behind [] bs es fs = at-first es fs
-at-behind (p ∷ ps) bs es fs = at-tail (paramTy p, bs .0) (env (paramTys ps) (bs .1) ++ (es ++ fs)) (count ps) es (at-behind ps (bs .1) es fs)
+pub at-front : (E : List (Ty × ℕ)) (i : ℕ) (es fs : List (Ty × ℕ)) → At E i (es ++ fs) → At E i es
+at-front E i [] fs h = tt
+at-front E i (e ∷ es) fs h = (h .0, at-front E (suc i) es fs (h .1))
+
+pub at-first : (es fs : List (Ty × ℕ)) → At (es ++ fs) zero es
+at-first es fs = at-front (es ++ fs) zero es fs (at-all (es ++ fs))
+
+pub at-behind : (ps : List Passing) (bs : Blocks (paramTys ps)) (es : List (Ty × ℕ)) → At (env (paramTys ps) bs ++ es) (count ps) es
+at-behind [] bs es = at-all es
+at-behind (p ∷ ps) bs es = at-tail (paramTy p, bs .0) (env (paramTys ps) (bs .1) ++ es) (count ps) es (at-behind ps (bs .1) es)
 
 -- ---- the steps
 module _ {M : Type 1} {𝓤 : URA M} {H : Heap 𝓤} {A : Atoms 𝓤} {K : Type 0} {W : Given 𝓤 H A} where
