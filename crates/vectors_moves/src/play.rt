@@ -8,6 +8,9 @@ use crate::change::part_2;
 use crate::change::with_head;
 use crate::close::close;
 use crate::digest::digest;
+use in_place::lender::begin_lending;
+use in_place::lender::cancel_lending;
+use in_place::lender::step_lending;
 use machine::Head;
 use machine::numbers::answer_number;
 use moves::Reply;
@@ -23,7 +26,7 @@ const SHEET: u64 = 11;
 
 const SERIAL: u64 = 12;
 
-// A move of a record.
+// A move of a record, made on a head that is lent.
 fn make(
     head: Head,
     record: &[u8],
@@ -38,12 +41,12 @@ fn make(
     let worker = part_1(record) as usize;
     if kind == BEGIN {
         let call = part_2(record) as usize;
-        return moves::begin::begin(head, plan, keys, cells, status, olds, worker, call);
+        return begin_lending(head, plan, keys, cells, status, olds, worker, call);
     }
     if kind == STEP {
-        return moves::step::step(head, block, plan, keys, cells, status, olds, worker);
+        return step_lending(head, block, plan, keys, cells, status, olds, worker);
     }
-    moves::cancel::cancel(head, plan, keys, cells, status, olds, worker)
+    cancel_lending(head, plan, keys, cells, status, olds, worker)
 }
 
 // The end of a line: the hash of the run.
