@@ -1,12 +1,16 @@
 //! Cases of serial runs: a block opened, some moves, some damages to what the
 //! moves of the serial run use, the serial run; the damages are taken back, and
-//! the serial run again.
+//! the serial run again. The first case has as many calls and steps as there can
+//! be.
+
+use std::iter::once;
 
 use super::damage::{repair, Aim, Target, OF_BEGIN, OF_STEP};
-use super::{Case, Operation, Player};
+use super::{Case, HeadField, Operation, Player};
+use crate::assemble::assemble;
 use crate::generate::draft::{Draft, CALCULATING, MIXED, PAYING, TOUCHING};
 use crate::lent::Sizes;
-use crate::limits::{MAX_CALLS, MAX_WORKERS};
+use crate::limits::{MAX_CALLS, MAX_INSTRUCTIONS, MAX_WORKERS};
 use crate::machine::Move;
 use crate::rng::Rng;
 
@@ -22,7 +26,33 @@ const GOOD: usize = 6;
 /// The cases of a seed.
 pub fn cases(seed: u64, count: usize) -> Vec<Case> {
     let mut rng = Rng::new(seed);
-    (0..count).map(|index| case(&mut rng, index)).collect()
+    let drawn = (1..count).map(|index| case(&mut rng, index));
+    once(longest()).chain(drawn).collect()
+}
+
+/// 256 calls of 66 steps each, which all change one cell; first with one call
+/// too many in the head.
+fn longest() -> Case {
+    let adds = "add r0 r0 r1\n".repeat(MAX_INSTRUCTIONS - 3);
+    let calls = "call 5 32768 0 0\n".repeat(MAX_CALLS);
+    let text = format!(
+        "function 32768 0\nget r0 1 zero zero\nset r1 1\n{adds}put r0 1 zero zero\n{calls}end\n"
+    );
+    let calls = |value: usize| Operation::Head {
+        field: HeadField::Calls,
+        value: value as u64,
+    };
+    Case {
+        block: assemble(&text).expect("the text is a block's"),
+        sizes: Sizes::FIXED,
+        workers: 1,
+        operations: vec![
+            calls(MAX_CALLS + 1),
+            Operation::Serial,
+            calls(MAX_CALLS),
+            Operation::Serial,
+        ],
+    }
 }
 
 fn case(rng: &mut Rng, index: usize) -> Case {

@@ -128,6 +128,18 @@ fn serial_runs_of_all_kinds_are_well_covered() {
     }
 }
 
+#[test]
+fn the_first_serial_run_is_the_longest() {
+    let case = &serial::cases(SEED, 1)[0];
+    let Some((Answer::Ran, Left::Run(run))) = answers(case).pop() else {
+        panic!("the case ends in a serial run");
+    };
+    for call in 0..MAX_CALLS {
+        assert_eq!(run.status[4 * call..4 * call + 3], [FINISHED, 0, 64]);
+    }
+    assert_eq!(run.cells[..run.head.cells as usize], [256 * 61]);
+}
+
 /// A run that is answered 28 by a short output and 20 with room has a broken
 /// receipt; one that is answered 20 by both has another damage.
 #[test]
