@@ -1,3 +1,4 @@
 mod Counting
 mod Storing
 mod Sizes
+mod Answering

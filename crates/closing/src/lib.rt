@@ -13,8 +13,8 @@ use tests::all_finished;
 use tests::balances_allowed;
 use tests::states_allowed;
 use write::write_sheet;
-ghost use mathlib.Core.Path.{_≡_};
 ghost use Rattle.sheet.specs.Sheet.{sheetOf};
+ghost use Rattle.closing.specs.Answered.{ClosedAs};
 
 // The closing sheet: 20 for the sizes, the number of calls and their states; 27 for a call unfinished; 20 for the number of cells and
 // the balances; 28; 20 for the receipts.
@@ -27,7 +27,7 @@ pub fn sheet(
     olds: &[i64],
     output: &mut [u8],
 ) -> Closing
-    ensures { λ r. ⌜ record { answer = r; output = now (output .exit) } ≡ sheetOf (record { head = head; plan = now (plan .entry); keys = now (keys .entry); cells = now (cells .entry); status = now (status .entry); olds = now (olds .entry) }) (now (output .entry)) ⌝ }
+    ensures { λ r. ⌜ ClosedAs r (now (output .exit)) (sheetOf (record { head = head; plan = now (plan .entry); keys = now (keys .entry); cells = now (cells .entry); status = now (status .entry); olds = now (olds .entry) }) (now (output .entry))) ⌝ }
 {
     let calls = head.calls;
     let count = head.cells;

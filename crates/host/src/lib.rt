@@ -1,54 +1,293 @@
-// What the programs exchange with their host: the file block.bin and standard output.
+// What the programs exchange with their host: the file block.bin, streams on standard input, and standard output. A read or a write that
+// fails is told in one line on standard error, and after it nothing more is written.
+use block::limits::MAX_BYTES;
+use libc::STDIN_FILENO;
 use libc::STDOUT_FILENO;
+use listing::MAX_LISTING;
 use machine::layout::CELLS_SIZE;
 use machine::layout::KEYS_SIZE;
 use machine::layout::OLDS_SIZE;
 use machine::layout::PLAN_SIZE;
 use machine::layout::STATUS_SIZE;
-ghost use Rattle.io.specs.Counts.{Counts};
+ghost use mathlib.Core.Path.{_≡_};
+ghost use mathlib.Core.Bool.{false};
+ghost use Prim.Native.Nat.{_+_, _-_, _^_, _<_, _≤_};
+ghost use lib.ListN.{length, drop};
+ghost use Rattle.wire.specs.Bytes.{stored, repeated};
+ghost use Rattle.machine.specs.Run.{fixedSizes};
+ghost use Rattle.listing.specs.Listing.{listingOf};
+ghost use Rattle.host.specs.Exchange.{Handed, Filled, Reads, FileIn, Inspects};
 
-// The longest text: 256 rows of 1,024 bytes and the line before them.
-const TEXT: usize = 262400;
+// How the exchange stands: whether no read and no write failed, how many bytes came from standard input, and how many were handed to
+// standard output.
+pub struct Exchange {
+    pub ok: bool,
+    pub received: u64,
+    pub sent: usize,
+}
 
-// The bytes of block.bin in the current folder, as many as the buffer takes; a missing file has none. Answers how many.
-pub fn read_block_file(file: &mut [u8]) -> usize
-    ensures { λ r. ⌜ Counts r (now (file .exit)) ⌝ }
+// How a file was read: whether it could be, how many bytes, and whether its end was met.
+pub struct FileRead {
+    pub ok: bool,
+    pub length: usize,
+    pub ended: bool,
+}
+
+// A part of a stream: whether there was one, and its length.
+pub struct Part {
+    pub found: bool,
+    pub length: usize,
+}
+
+// block.bin, listed: whether it could be read and its end was met, and how the exchange stands.
+pub struct Inspected {
+    pub file_ok: bool,
+    pub file_ended: bool,
+    pub exchange: Exchange,
+}
+
+// One byte more than a block may have is read, so that 1 is told.
+pub const FILE_BYTES: usize = MAX_BYTES + 1;
+
+// The largest number of bytes that can be counted.
+const MAX_SENT: usize = 18446744073709551615;
+
+// A text stored from a position of the transcript on, as far as it fits.
+fn keep(transcript: &mut [u8], from: usize, text: &[u8])
+    requires { ⌜ from + length (now text) < 2 ^ 64 ⌝ }
+    ensures { λ r. ⌜ now (transcript .exit) ≡ stored (now (transcript .entry)) from (now (text .entry)) ⌝ }
+{
+    let mut i = 0;
+    while i < text.len() {
+        let at = from + i;
+        if transcript.len() <= at {
+            return;
+        }
+        transcript[at] = text[i];
+        i += 1;
+    }
+}
+
+// Tells on standard error that standard output took no more.
+fn fail_output() {
+    os::fail(b"standard output");
+}
+
+// Hands a text to standard output, whole, and keeps it in the transcript behind what was handed over before. A write that fails is told on
+// standard error; after a failure nothing is handed over.
+pub fn print(x: Exchange, text: &[u8], transcript: &mut [u8]) -> Exchange
+    ensures text { λ r. ⌜ Handed (now (transcript .entry)) x (now (text .entry)) (now (transcript .exit)) r ⌝ }
+    ensures received { λ r. ⌜ r .received ≡ x .received ⌝ }
+{
+    let received = x.received;
+    let sent = x.sent;
+    if !x.ok {
+        return x;
+    }
+    if MAX_SENT - sent < text.len() {
+        return Exchange {
+            ok: false,
+            received,
+            sent,
+        };
+    }
+    if !io::write_all(STDOUT_FILENO, text) {
+        fail_output();
+        return Exchange {
+            ok: false,
+            received,
+            sent,
+        };
+    }
+    keep(transcript, sent, text);
+    Exchange {
+        ok: true,
+        received,
+        sent: sent + text.len(),
+    }
+}
+
+// The bytes from a position on become zero.
+fn clear_from(file: &mut [u8], from: usize)
+    requires { ⌜ from ≤ length (now file) ⌝ }
+    ensures { λ r. ⌜ drop from (now (file .exit)) ≡ repeated (length (now (file .entry)) - from) 0 ⌝ }
+{
+    let rest = &mut file[from..];
+    wire::clear_bytes(rest);
+}
+
+// What one read gave.
+struct Got {
+    ok: bool,
+    count: usize,
+}
+
+// One read of the file into the buffer from a position on: how many bytes came, 0 at the file's end.
+fn read_from(fd: i32, file: &mut [u8], from: usize) -> Got
+    requires { ⌜ from ≤ length (now file) ⌝ }
+    ensures { λ r. ⌜ from + r .count ≤ length (now (file .entry)) ⌝ }
+{
+    let rest = &mut file[from..];
+    let got = libc::read(fd, rest);
+    Got {
+        ok: 0 <= got,
+        count: io::count(got, rest),
+    }
+}
+
+// Tells on standard error that block.bin cannot be read.
+fn fail_file() -> FileRead
+    ensures { λ r. ⌜ r ≡ record { ok = false; length = 0; ended = false } ⌝ }
+{
+    os::fail(b"block.bin");
+    FileRead {
+        ok: false,
+        length: 0,
+        ended: false,
+    }
+}
+
+// Reads the file until the buffer is full or the file ends.
+fn read_all(fd: i32, file: &mut [u8]) -> FileRead
+    ensures { λ r. ⌜ Reads (length (now (file .entry))) r ⌝ }
+{
+    let mut done = 0;
+    while done < file.len() {
+        let got = read_from(fd, file, done);
+        if !got.ok {
+            return fail_file();
+        }
+        if got.count == 0 {
+            return FileRead {
+                ok: true,
+                length: done,
+                ended: true,
+            };
+        }
+        done += got.count;
+    }
+    FileRead {
+        ok: true,
+        length: done,
+        ended: false,
+    }
+}
+
+// What an opened file holds; below 0 it was not opened, and one that is missing is empty.
+fn read_opened(fd: i32, file: &mut [u8]) -> FileRead
+    ensures { λ r. ⌜ Reads (length (now (file .entry))) r ⌝ }
+{
+    if 0 <= fd {
+        let r = read_all(fd, file);
+        libc::close(fd);
+        return r;
+    }
+    if os::errno() == libc::ENOENT {
+        return FileRead {
+            ok: true,
+            length: 0,
+            ended: true,
+        };
+    }
+    fail_file()
+}
+
+// The file block.bin of the current folder, as much as the buffer takes, with zeros behind it; a missing file is read as empty. A file that
+// cannot be read is told on standard error.
+pub fn read_block_file(file: &mut [u8]) -> FileRead
+    ensures { λ r. ⌜ FileIn (now (file .entry)) (now (file .exit)) r ⌝ }
 {
     let fd = os::open_read(b"block.bin");
-    if fd < 0 {
+    let r = read_opened(fd, file);
+    let length = r.length;
+    clear_from(file, length);
+    r
+}
+
+// The next n bytes of standard input in the buffer's first bytes, with zeros behind them; none where the buffer has fewer. Answers how many came.
+pub fn read_bytes(buffer: &mut [u8], n: usize) -> usize
+    ensures { λ r. ⌜ Filled (now (buffer .entry)) (now (buffer .exit)) r ⌝ }
+{
+    if buffer.len() < n {
+        clear_from(buffer, 0);
         return 0;
     }
-    let n = io::read_full(fd, file);
-    libc::close(fd);
-    n
+    let got = io::read_full(STDIN_FILENO, &mut buffer[..n]);
+    clear_from(buffer, got);
+    got
 }
 
-// Writes the first n bytes of the text, or nothing where it has fewer. It answers nothing and is lent nothing to be written, so there is
-// nothing to ensure but that it ends.
-pub fn print(text: &[u8], n: usize) {
-    if n <= text.len() {
-        io::write_all(STDOUT_FILENO, &text[..n]);
+// A length has four bytes.
+const LENGTHS: u64 = 4294967296;
+
+// The next length of a stream on standard input, in four bytes, little-endian; none at the input's end.
+pub fn next_length() -> Part
+    ensures { λ r. ⌜ r .length < 2 ^ 32 ⌝ }
+{
+    let mut head = [0u8; 4];
+    if io::read_full(STDIN_FILENO, &mut head) < 4 {
+        return Part {
+            found: false,
+            length: 0,
+        };
+    }
+    Part {
+        found: true,
+        length: (wire::get32(&head, 0) % LENGTHS) as usize,
     }
 }
 
-// Writes the listing of the file's first n bytes.
-pub fn print_listing(file: &[u8], n: usize) {
+// The next part of a stream on standard input, behind its length, in the buffer's first bytes, with zeros behind them.
+pub fn read_part(buffer: &mut [u8]) -> Part
+    ensures { λ r. ⌜ Filled (now (buffer .entry)) (now (buffer .exit)) (r .length) ⌝ }
+{
+    let head = next_length();
+    let length = read_bytes(buffer, head.length);
+    Part {
+        found: head.found,
+        length,
+    }
+}
+
+// The listing of a block, handed to standard output.
+pub fn print_listing(x: Exchange, block: &[u8], transcript: &mut [u8]) -> Exchange
+    ensures text { λ r. ⌜ Handed (now (transcript .entry)) x (listingOf fixedSizes (now (block .entry))) (now (transcript .exit)) r ⌝ }
+    ensures received { λ r. ⌜ r .received ≡ x .received ⌝ }
+{
     let mut plan = [0u64; PLAN_SIZE];
     let mut keys = [0u64; KEYS_SIZE];
     let mut cells = [0i64; CELLS_SIZE];
     let mut status = [0u64; STATUS_SIZE];
     let mut olds = [0i64; OLDS_SIZE];
-    let mut text = [0u8; TEXT];
-    if n <= file.len() {
-        let length = listing::list(
-            &file[..n],
-            &mut plan,
-            &mut keys,
-            &mut cells,
-            &mut status,
-            &mut olds,
-            &mut text,
-        );
-        print(&text, length);
+    let mut text = [0u8; MAX_LISTING];
+    let length = listing::list(
+        block,
+        &mut plan,
+        &mut keys,
+        &mut cells,
+        &mut status,
+        &mut olds,
+        &mut text,
+    );
+    print(x, &text[..length], transcript)
+}
+
+// Lists block.bin of the current folder. A missing file is read as empty; where a file cannot be read nothing is listed.
+pub fn inspect(transcript: &mut [u8]) -> Inspected
+    ensures { λ r. ⌜ Inspects (now (transcript .entry)) r (now (transcript .exit)) ⌝ }
+{
+    let mut file = [0u8; FILE_BYTES];
+    let f = read_block_file(&mut file);
+    let length = f.length;
+    let x = Exchange {
+        ok: f.ok,
+        received: 0,
+        sent: 0,
+    };
+    let exchange = print_listing(x, &file[..length], transcript);
+    Inspected {
+        file_ok: f.ok,
+        file_ended: f.ended,
+        exchange,
     }
 }

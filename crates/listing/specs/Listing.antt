@@ -32,6 +32,14 @@ listingOf s file =
     listingText (length (blockOf file .functions)) (length (blockOf file .cells)) (o .run .head .calls) (o .run .head .cells) (o .run .plan)
     (o .answer)
 
+-- The longest line of a row: its letter, a call and its earlier calls of three digits behind a space each, and a line feed.
+abbrev pub maxRowText : ℕ
+maxRowText = 4 * maxCalls + 6
+
+-- The longest listing: its first line has four numbers of at most 20 digits.
+abbrev pub maxListing : ℕ
+maxListing = maxCalls * maxRowText + 86
+
 -- The four words of a call's row, 0 past the plan's end.
 abbrev pub rowWords : List ℕ → ℕ → List ℕ
 rowWords plan j =

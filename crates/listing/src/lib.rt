@@ -17,6 +17,12 @@ ghost use Rattle.text.specs.Written.{Written};
 ghost use Rattle.opening.specs.Opened.{sizesFor};
 ghost use Rattle.listing.specs.Listing.{rowWords, rowsText, listingText, Listed};
 
+// The longest line of a row: its letter, a call and its earlier calls of three digits behind a space each, and a line feed.
+const MAX_ROW_TEXT: usize = 4 * MAX_CALLS + 6;
+
+// The longest listing: its first line has four numbers of at most 20 digits.
+pub const MAX_LISTING: usize = MAX_CALLS * MAX_ROW_TEXT + 86;
+
 // A call's row in the plan; words past its end count as 0.
 fn row_in(plan: &[u64], call: usize) -> [u64; 4]
     requires { ⌜ call < maxCalls ⌝ }

@@ -11,6 +11,7 @@ use Rattle.arith.specs.Choice.{if_then_else_}
 use Rattle.arith.specs.ChoiceLaws.{both}
 use Rattle.wire.specs.Bytes.{repeated}
 use Rattle.block.specs.Limits.{maxWorkers}
+use Rattle.block.specs.Refusal.{verdictNumber, verdictOffset}
 use Rattle.block.specs.Reader as reading
 use Rattle.block.specs.Reader.{Read, readBlock}
 use Rattle.block.specs.Record.{Block}
@@ -27,7 +28,7 @@ use Rattle.machine.specs.Opening as machine
 use Rattle.machine.specs.Opening.{headOf, refusedRun, openPrepared, openingOf}
 use Rattle.machine.specs.Run.{Sizes, fixedSizes, roomIn, largeEnough}
 use Rattle.opening.specs.declared.Opened.{Opened}
-use Rattle.opening.specs.Opened.{sizesFor, opening, testedFor, openedBy, noneOf}
+use Rattle.opening.specs.Opened.{sizesFor, opening, testedFor, openedBy, noneOf, OpenedAs}
 
 -- ---- the tests before the block is read
 
@@ -192,3 +193,13 @@ module _ (n m k t o : ℕ) (file : List ℕ) (workers : ℕ) (plan keys : List �
 
       same : (n m k n′ m′ k′ : ℕ) → n′ ≡ n → m′ ≡ m → k′ ≡ k → roomOf n′ m′ k′ ≡ roomOf n m k
       same n m k n′ m′ k′ a b c = rw (a, b, c)
+
+-- Equal answers have equal numbers and offsets.
+pub opened-as : {r : Opened} {plan keys : List ℕ} {cells : List ℤ} {status : List ℕ} {olds : List ℤ} {o : machine.Opened}
+    → opening r plan keys cells status olds ≡ o → OpenedAs r plan keys cells status olds o
+opened-as e =
+    record {
+      same = e;
+      number = ap (λ (x : machine.Opened). verdictNumber (x .answer)) e;
+      offset = ap (λ (x : machine.Opened). verdictOffset (x .answer)) e;
+    }

@@ -1,4 +1,5 @@
 -- What `open` answers, put together with the buffers that it leaves. Assumes nothing.
+use mathlib.Core.Path.{_≡_}
 use mathlib.Core.Bool.{Bool, _||_, not}
 use mathlib.Core.List.{List}
 use Prim.Native.Nat.{ℕ}
@@ -6,6 +7,7 @@ use lib.Dec.{eqb, ltb}
 use lib.IntN.{ℤ}
 use Rattle.arith.specs.Choice.{if_then_else_}
 use Rattle.block.specs.Limits.{maxWorkers}
+use Rattle.block.specs.Refusal.{verdictNumber, verdictOffset}
 use Rattle.block.specs.declared.Refusal.{Refusal}
 use Rattle.block.specs.declared.Refusal.the-variants.{Workers, Buffers}
 use Rattle.block.specs.declared.Verdict.{Verdict}
@@ -45,3 +47,9 @@ testedFor large workers =
     else if eqb workers 0 || ltb maxWorkers workers
     then verdict.Refused Workers
     else verdict.Accepted
+
+-- The answer and the buffers are the definition's, and so are the verdict's number and offset.
+pub record OpenedAs (r : Opened) (plan keys : List ℕ) (cells : List ℤ) (status : List ℕ) (olds : List ℤ) (o : machine.Opened) : Type 0 where
+  pub same : opening r plan keys cells status olds ≡ o
+  pub number : verdictNumber (r .verdict) ≡ verdictNumber (o .answer)
+  pub offset : verdictOffset (r .verdict) ≡ verdictOffset (o .answer)

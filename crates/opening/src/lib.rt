@@ -11,7 +11,7 @@ ghost use lib.IntN.{pos};
 ghost use lib.ListN.{length};
 ghost use Rattle.wire.specs.Bytes.{repeated};
 ghost use Rattle.machine.specs.Opening.{headOf, openingOf};
-ghost use Rattle.opening.specs.Opened.{sizesFor, opening, testedFor, openedBy, noneOf};
+ghost use Rattle.opening.specs.Opened.{sizesFor, OpenedAs, testedFor, openedBy, noneOf};
 
 // What a block is opened to: its verdict, and the head of its run, all zero if it is refused.
 pub struct Opened {
@@ -118,7 +118,7 @@ pub fn open(
     status: &mut [u64],
     olds: &mut [i64],
 ) -> Opened
-    ensures { λ r. ⌜ opening r (now (plan .exit)) (now (keys .exit)) (now (cells .exit)) (now (status .exit)) (now (olds .exit)) ≡ openingOf (sizesFor (length (now (plan .entry))) (length (now (keys .entry))) (length (now (cells .entry))) (length (now (status .entry))) (length (now (olds .entry)))) (now (file .entry)) workers ⌝ }
+    ensures { λ r. ⌜ OpenedAs r (now (plan .exit)) (now (keys .exit)) (now (cells .exit)) (now (status .exit)) (now (olds .exit)) (openingOf (sizesFor (length (now (plan .entry))) (length (now (keys .entry))) (length (now (cells .entry))) (length (now (status .entry))) (length (now (olds .entry)))) (now (file .entry)) workers) ⌝ }
 {
     clear_all(plan, keys, cells, status, olds);
     let large = large_enough(

@@ -4,3 +4,4 @@ mod AnswerLaws
 pub mod TextLaws
 mod GoingLaws
 mod RecordLaws
+pub mod CloseLaws

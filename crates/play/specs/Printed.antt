@@ -4,6 +4,7 @@ use mathlib.Core.List.{List}
 use Prim.Native.Nat.{ℕ, _+_, _*_, _≤_, _<_}
 use lib.ListN.{length, drop}
 use Rattle.wire.specs.Bytes.{stored}
+use Rattle.block.specs.Limits.{maxCalls, maxKeys}
 use Rattle.console.specs.Text.{recordsText}
 use Rattle.play.specs.declared.Reading.{Reading}
 
@@ -14,6 +15,10 @@ linesLeft sheet p = recordsText (p .left) (p .call) (drop (p .at) sheet)
 -- A record's line is a letter, five numbers of at most 21 characters behind a space each, and a line feed.
 abbrev pub maxRecordText : ℕ
 maxRecordText = 108
+
+-- The longest text of a close: a line for each cell and each receipt.
+abbrev pub maxCloseText : ℕ
+maxCloseText = maxRecordText * (maxKeys + maxCalls)
 
 -- Every turn takes a record of at most 65,539 bytes, and one line.
 pub record Within (turns : ℕ) (p : Reading) : Type 0 where

@@ -28,6 +28,9 @@ ghost use Rattle.play.specs.Passed.{Passed, maxAnswer};
 
 const LINE_FEED: u8 = 10;
 
+// An answer is a letter, two numbers of at most 20 digits behind a space each, and a line feed.
+pub const MAX_ANSWER: usize = 44;
+
 // Lines are numbered up to 2^32.
 const MAX_LINES: u64 = 4294967296;
 

@@ -1,6 +1,8 @@
 // The records of a sheet as lines of text.
 use crate::Reading;
 use crate::input::at_most;
+use block::limits::MAX_CALLS;
+use block::limits::MAX_KEYS;
 use block::record::CELL_KIND;
 use block::record::HEAD_BYTES;
 use block::record::RECEIPT_KIND;
@@ -11,6 +13,12 @@ ghost use lib.ListN.{length, take, drop};
 ghost use Rattle.text.specs.Written.{Written};
 ghost use Rattle.console.specs.Text.{cellLine, receiptLine, sheetText};
 ghost use Rattle.play.specs.Printed.{Within, Printed};
+
+// A record's line is a letter, five numbers of at most 21 characters behind a space each, and a line feed.
+const MAX_RECORD_TEXT: usize = 108;
+
+// The longest text of a close: a line for each cell and each receipt.
+pub const MAX_CLOSE_TEXT: usize = MAX_RECORD_TEXT * (MAX_KEYS + MAX_CALLS);
 
 // The line of a cell, from the body of its record on.
 fn put_cell(sheet: &[u8], body: usize, out: &mut [u8], from: u32) -> usize

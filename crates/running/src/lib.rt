@@ -1,11 +1,20 @@
 // A block run with the move lines of standard input, and what is printed of it. A refused move prints `r`, its line, its number; a refused
-// block only `e`, number, offset; then the closing sheet is printed, or `r 0 27` for an unfinished run.
+// block only `e`, number, offset; then the closing sheet is printed, or `r 0 27` for an unfinished run. What is handed to standard output is
+// kept in a transcript that the caller lends, as far as it fits; its length changes nothing else.
 use block::Refusal;
 use block::Verdict;
+use block::limits::MAX_CALLS;
+use block::limits::MAX_KEYS;
+use block::limits::MAX_WORKERS;
 use block::numbers::number_of;
 use block::numbers::offset_of;
+use block::record::CELL_BYTES;
+use block::record::HEAD_BYTES;
+use block::record::RECEIPT_BYTES;
 use closing::sheet;
 use console::Line;
+use host::Exchange;
+use host::FILE_BYTES;
 use libc::STDIN_FILENO;
 use machine::Head;
 use machine::layout::CELLS_SIZE;
@@ -13,54 +22,119 @@ use machine::layout::KEYS_SIZE;
 use machine::layout::OLDS_SIZE;
 use machine::layout::PLAN_SIZE;
 use machine::layout::STATUS_SIZE;
+use machine::numbers::answer_number;
 use play::Session;
-use play::input::answer_line;
+use play::input::MAX_ANSWER;
 use play::input::play_chunk;
 use play::input::play_end;
+use play::records::MAX_CLOSE_TEXT;
 use play::records::sheet_text;
 use sheet::Closing;
-ghost use Prim.Native.Nat.{_≤_};
+ghost use mathlib.Core.Path.{_≡_};
+ghost use Prim.Native.Nat.{_*_, _≤_, _<_};
+ghost use lib.ListN.{length};
+ghost use Rattle.block.specs.Refusal.{numberOf, offsetOf};
+ghost use Rattle.text.specs.Lines.{blockRefusedText};
+ghost use Rattle.text.specs.Written.{Written};
+ghost use Rattle.moves.specs.Lent.{lent};
+ghost use Rattle.console.specs.Register.{closeRun};
+ghost use Rattle.console.specs.declared.Line.the-variants.{Empty};
+ghost use Rattle.play.specs.Shown.{begun};
+ghost use Rattle.play.specs.Pieces.{endText};
+ghost use Rattle.play.specs.Passed.{maxAnswer};
+ghost use Rattle.host.specs.Exchange.{Handed};
+ghost use Rattle.running.specs.Runs.{Read, PiecePlayed, InputPlayed, RunsOn, Runs, Registers};
 
-// The input is read in pieces; a byte of it makes at most 44 bytes of answers.
+// The input is read in pieces of at most so many bytes, and each byte of it makes at most MAX_ANSWER bytes of answers.
 const CHUNK: usize = 4096;
 
-const ANSWERS: usize = 180224;
+const ANSWERS: usize = MAX_ANSWER * CHUNK;
 
-// The longest sheet, and its text: at most 57 bytes for a cell and 12 for a receipt.
-const SHEET: usize = 26628;
+// The longest sheet: its cells, its receipts and its end.
+const MAX_SHEET: usize = MAX_KEYS * (HEAD_BYTES + CELL_BYTES)
+    + MAX_CALLS * (HEAD_BYTES + RECEIPT_BYTES)
+    + HEAD_BYTES;
 
-const TEXT: usize = 65536;
+// "Standard input counts as ended after 2^32 - 1 bytes."
+const MAX_INPUT: u32 = 4294967295;
 
-// One read of standard input into the buffer's first bytes, `left` at most; answers how many bytes came.
-fn read_up_to(chunk: &mut [u8], left: u64) -> usize {
-    if left < chunk.len() as u64 {
-        let part = &mut chunk[..left as usize];
-        return io::count(libc::read(STDIN_FILENO, part), part);
-    }
-    io::count(libc::read(STDIN_FILENO, chunk), chunk)
-}
-
-// The next piece of the input, of at most `left` bytes; answers its length, 0 at the input's end.
-fn read_some(chunk: &mut [u8], left: u64) -> u16
-    ensures { λ r. ⌜ r ≤ left ⌝ }
-{
-    let got = read_up_to(chunk, left);
-    if got < CHUNK + 1 {
-        if left < got as u64 {
-            return left as u16;
-        }
-        return got as u16;
-    }
-    0
+// A read of standard input: how the exchange stands behind it, and how many bytes came, 0 at the input's end.
+struct Got {
+    exchange: Exchange,
+    count: u16,
 }
 
 // A piece of the input, played, with its length.
-struct Piece {
-    session: Session,
-    taken: u16,
+pub struct Piece {
+    pub session: Session,
+    pub exchange: Exchange,
+    pub taken: u16,
 }
 
-// Plays the next piece of the input, of at most `left` bytes, and prints the answers.
+// The input, played: the session behind it, how the exchange stands, and whether the input's end was met.
+pub struct Input {
+    pub session: Session,
+    pub exchange: Exchange,
+    pub ended: bool,
+}
+
+// A block, run: whether it was opened, whether the input's end was met, and how the exchange stands.
+pub struct Ran {
+    pub opened: bool,
+    pub ended: bool,
+    pub exchange: Exchange,
+}
+
+// REGISTER, done: whether block.bin could be read and its end was met, whether it was opened, whether the input's end was met, and how the
+// exchange stands.
+pub struct Registered {
+    pub file_ok: bool,
+    pub file_ended: bool,
+    pub opened: bool,
+    pub input_ended: bool,
+    pub exchange: Exchange,
+}
+
+// Tells on standard error that standard input cannot be read.
+fn fail_input() {
+    os::fail(b"standard input");
+}
+
+// One read of standard input into the buffer's first bytes, `limit` at most.
+fn read_some(x: Exchange, chunk: &mut [u8], limit: usize) -> Got
+    requires { ⌜ limit ≤ length (now chunk) ⌝ }
+    requires { ⌜ limit < 65536 ⌝ }
+    requires { ⌜ x .received < 4294967296 ⌝ }
+    ensures { λ r. ⌜ r .count ≤ limit ⌝ }
+    ensures { λ r. ⌜ Read x (r .count) (r .exchange) ⌝ }
+{
+    let part = &mut chunk[..limit];
+    let got = libc::read(STDIN_FILENO, part);
+    let n = io::count(got, part);
+    let received = x.received + n as u64;
+    let sent = x.sent;
+    if got < 0 {
+        fail_input();
+        return Got {
+            exchange: Exchange {
+                ok: false,
+                received,
+                sent,
+            },
+            count: n as u16,
+        };
+    }
+    Got {
+        exchange: Exchange {
+            ok: x.ok,
+            received,
+            sent,
+        },
+        count: n as u16,
+    }
+}
+
+// Plays the next piece of the input, of at most `limit` bytes, and prints the answers.
 fn play_some(
     s: Session,
     block: &[u8],
@@ -69,13 +143,20 @@ fn play_some(
     cells: &mut [i64],
     status: &mut [u64],
     olds: &mut [i64],
-    left: u64,
+    x: Exchange,
+    limit: usize,
     chunk: &mut [u8],
     answers: &mut [u8],
+    transcript: &mut [u8],
 ) -> Piece
-    ensures { λ r. ⌜ r .taken ≤ left ⌝ }
+    requires { ⌜ limit ≤ 4096 ⌝ }
+    requires { ⌜ 4096 ≤ length (now chunk) ⌝ }
+    requires { ⌜ maxAnswer * 4096 ≤ length (now answers) ⌝ }
+    requires { ⌜ x .received < 4294967296 ⌝ }
+    ensures { λ r. ⌜ PiecePlayed (now (block .entry)) (begun (s .number) (s .line) (lent (s .head) (now (plan .entry)) (now (keys .entry)) (now (cells .entry)) (now (status .entry)) (now (olds .entry)))) x limit (now (transcript .entry)) r (lent (r .session .head) (now (plan .entry)) (now (keys .entry)) (now (cells .exit)) (now (status .exit)) (now (olds .exit))) (now (transcript .exit)) ⌝ }
 {
-    let taken = read_some(chunk, left);
+    let got = read_some(x, chunk, limit);
+    let taken = got.count;
     let p = play_chunk(
         s,
         block,
@@ -88,14 +169,30 @@ fn play_some(
         taken,
         answers,
     );
-    host::print(answers, p.length);
+    let n = p.length;
+    let before = got.exchange;
+    let exchange = host::print(before, &answers[..n], transcript);
     let session = p.session;
-    Piece { session, taken }
+    Piece {
+        session,
+        exchange,
+        taken,
+    }
 }
 
-// Plays the input to its end, `input` bytes at most.
+// How many bytes the next piece may have.
+fn piece_limit(left: u32) -> usize
+    ensures { λ r. ⌜ r ≤ 4096 ⌝ }
+    ensures { λ r. ⌜ r ≤ left ⌝ }
+{
+    if left as usize <= CHUNK {
+        return left as usize;
+    }
+    CHUNK
+}
+
+// Plays the input to its end, `limit` bytes at most, or until something fails.
 fn play_input(
-    input: u64,
     head: Head,
     block: &[u8],
     plan: &[u64],
@@ -103,16 +200,26 @@ fn play_input(
     cells: &mut [i64],
     status: &mut [u64],
     olds: &mut [i64],
+    x: Exchange,
+    limit: u32,
     chunk: &mut [u8],
     answers: &mut [u8],
-) -> Session {
+    transcript: &mut [u8],
+) -> Input
+    requires { ⌜ 4096 ≤ length (now chunk) ⌝ }
+    requires { ⌜ maxAnswer * 4096 ≤ length (now answers) ⌝ }
+    requires { ⌜ x .received ≡ 0 ⌝ }
+    ensures { λ r. ⌜ InputPlayed (now (block .entry)) (begun 1 Empty (lent head (now (plan .entry)) (now (keys .entry)) (now (cells .entry)) (now (status .entry)) (now (olds .entry)))) x limit (now (transcript .entry)) r (lent (r .session .head) (now (plan .entry)) (now (keys .entry)) (now (cells .exit)) (now (status .exit)) (now (olds .exit))) (now (transcript .exit)) ⌝ }
+{
     let mut s = Session {
         number: 1,
         line: Line::Empty,
         head,
     };
-    let mut left = input;
+    let mut exchange = x;
+    let mut left = limit;
     while 0 < left {
+        let most = piece_limit(left);
         let piece = play_some(
             s,
             block,
@@ -121,38 +228,76 @@ fn play_input(
             cells,
             status,
             olds,
-            left,
+            exchange,
+            most,
             chunk,
             answers,
+            transcript,
         );
         s = piece.session;
+        exchange = piece.exchange;
         if piece.taken == 0 {
-            return s;
+            return Input {
+                session: s,
+                exchange,
+                ended: true,
+            };
         }
-        left -= piece.taken as u64;
+        if !exchange.ok {
+            return Input {
+                session: s,
+                exchange,
+                ended: false,
+            };
+        }
+        left -= piece.taken as u32;
     }
-    s
+    Input {
+        session: s,
+        exchange,
+        ended: false,
+    }
 }
 
-// Prints the sheet's cells and receipts, or its refusal.
-fn close(head: Head, plan: &[u64], keys: &[u64], cells: &[i64], status: &[u64], olds: &[i64]) {
-    let mut bytes = [0u8; SHEET];
-    let mut text = [0u8; TEXT];
+// The text of a run's close: the cells and receipts of its sheet, or the sheet's refusal, stored from the buffer's start on; answers its length.
+pub fn close_text(
+    head: Head,
+    plan: &[u64],
+    keys: &[u64],
+    cells: &[i64],
+    status: &[u64],
+    olds: &[i64],
+    text: &mut [u8],
+) -> usize
+    ensures { λ r. ⌜ Written (now (text .entry)) (now (text .exit)) 0 r (closeRun (lent head (now (plan .entry)) (now (keys .entry)) (now (cells .entry)) (now (status .entry)) (now (olds .entry)))) ⌝ }
+{
+    let mut bytes = [0u8; MAX_SHEET];
     match sheet(head, plan, keys, cells, status, olds, &mut bytes) {
-        Closing::Written(n) => {
-            if n <= SHEET {
-                let length = sheet_text(&bytes, n as u16, &mut text);
-                host::print(&text, length);
-            }
-        }
-        Closing::Refused(answer) => {
-            let length = answer_line(&mut text, 0, 0, answer);
-            host::print(&text, length);
-        }
+        Closing::Written(n) => sheet_text(&bytes, n as u16, text),
+        Closing::Refused(answer) => text::refused_line(text, 0, 0, answer_number(answer)),
     }
 }
 
-// The last line of the input, if it has no line feed, and the sheet.
+// Prints the close of a run.
+fn close(
+    head: Head,
+    plan: &[u64],
+    keys: &[u64],
+    cells: &[i64],
+    status: &[u64],
+    olds: &[i64],
+    x: Exchange,
+    transcript: &mut [u8],
+) -> Exchange
+    ensures text { λ r. ⌜ Handed (now (transcript .entry)) x (closeRun (lent head (now (plan .entry)) (now (keys .entry)) (now (cells .entry)) (now (status .entry)) (now (olds .entry)))) (now (transcript .exit)) r ⌝ }
+    ensures received { λ r. ⌜ r .received ≡ x .received ⌝ }
+{
+    let mut text = [0u8; MAX_CLOSE_TEXT];
+    let n = close_text(head, plan, keys, cells, status, olds, &mut text);
+    host::print(x, &text[..n], transcript)
+}
+
+// The last line of the input, if it has no line feed, and the close.
 fn finish(
     s: Session,
     block: &[u8],
@@ -161,66 +306,152 @@ fn finish(
     cells: &mut [i64],
     status: &mut [u64],
     olds: &mut [i64],
-) {
-    let mut answers = [0u8; 64];
+    x: Exchange,
+    transcript: &mut [u8],
+) -> Exchange
+    ensures text { λ r. ⌜ Handed (now (transcript .entry)) x (endText (now (block .entry)) (s .number) (s .line) (lent (s .head) (now (plan .entry)) (now (keys .entry)) (now (cells .entry)) (now (status .entry)) (now (olds .entry)))) (now (transcript .exit)) r ⌝ }
+    ensures received { λ r. ⌜ r .received ≡ x .received ⌝ }
+{
+    let mut answers = [0u8; MAX_ANSWER];
     let p = play_end(s, block, plan, keys, cells, status, olds, &mut answers);
-    host::print(&answers, p.length);
+    let n = p.length;
+    let after = host::print(x, &answers[..n], transcript);
     let session = p.session;
     let head = session.head;
-    close(head, plan, keys, cells, status, olds);
+    close(head, plan, keys, cells, status, olds, after, transcript)
 }
 
 // Prints the line of a refused block.
-fn print_refusal(why: Refusal) {
-    let mut text = [0u8; 64];
-    let length = text::block_refused_line(&mut text, 0, number_of(why), offset_of(why));
-    host::print(&text, length);
+fn print_refusal(why: Refusal, x: Exchange, transcript: &mut [u8]) -> Exchange
+    ensures text { λ r. ⌜ Handed (now (transcript .entry)) x (blockRefusedText (numberOf why) (offsetOf why)) (now (transcript .exit)) r ⌝ }
+    ensures received { λ r. ⌜ r .received ≡ x .received ⌝ }
+{
+    let mut text = [0u8; MAX_ANSWER];
+    let n = text::block_refused_line(&mut text, 0, number_of(why), offset_of(why));
+    host::print(x, &text[..n], transcript)
 }
 
-// The file's first n bytes as a block: its refusal, or its run with at most `input` bytes of standard input. Answers whether it was run.
-pub fn run(file: &[u8], n: usize, input: u64) -> bool {
+// A block that is opened, run with at most `limit` bytes of input and closed.
+fn run_opened(
+    head: Head,
+    block: &[u8],
+    plan: &[u64],
+    keys: &[u64],
+    cells: &mut [i64],
+    status: &mut [u64],
+    olds: &mut [i64],
+    x: Exchange,
+    limit: u32,
+    transcript: &mut [u8],
+) -> Ran
+    requires { ⌜ x .received ≡ 0 ⌝ }
+    ensures { λ r. ⌜ RunsOn (now (block .entry)) (lent head (now (plan .entry)) (now (keys .entry)) (now (cells .entry)) (now (status .entry)) (now (olds .entry))) x limit (now (transcript .entry)) r (now (transcript .exit)) ⌝ }
+{
+    let mut chunk = [0u8; CHUNK];
+    let mut answers = [0u8; ANSWERS];
+    let i = play_input(
+        head,
+        block,
+        plan,
+        keys,
+        cells,
+        status,
+        olds,
+        x,
+        limit,
+        &mut chunk,
+        &mut answers,
+        transcript,
+    );
+    let s = i.session;
+    let behind = i.exchange;
+    let exchange = finish(
+        s,
+        block,
+        plan,
+        keys,
+        cells,
+        status,
+        olds,
+        behind,
+        transcript,
+    );
+    Ran {
+        opened: true,
+        ended: i.ended,
+        exchange,
+    }
+}
+
+// A block: its refusal, or its run with at most `limit` bytes of standard input.
+pub fn run(block: &[u8], x: Exchange, limit: u32, transcript: &mut [u8]) -> Ran
+    ensures { λ r. ⌜ Runs (now (block .entry)) x limit (now (transcript .entry)) r (now (transcript .exit)) ⌝ }
+{
     let mut plan = [0u64; PLAN_SIZE];
     let mut keys = [0u64; KEYS_SIZE];
     let mut cells = [0i64; CELLS_SIZE];
     let mut status = [0u64; STATUS_SIZE];
     let mut olds = [0i64; OLDS_SIZE];
-    let mut chunk = [0u8; CHUNK];
-    let mut answers = [0u8; ANSWERS];
-    if n <= file.len() {
-        let block = &file[..n];
-        let o = opening::open(
+    let start = Exchange {
+        ok: x.ok,
+        received: 0,
+        sent: x.sent,
+    };
+    let o = opening::open(
+        block,
+        MAX_WORKERS,
+        &mut plan,
+        &mut keys,
+        &mut cells,
+        &mut status,
+        &mut olds,
+    );
+    let verdict = o.verdict;
+    let head = o.head;
+    match verdict {
+        Verdict::Refused(why) => {
+            let exchange = print_refusal(why, start, transcript);
+            Ran {
+                opened: false,
+                ended: false,
+                exchange,
+            }
+        }
+        Verdict::Accepted => run_opened(
+            head,
             block,
-            8,
-            &mut plan,
-            &mut keys,
+            &plan,
+            &keys,
             &mut cells,
             &mut status,
             &mut olds,
-        );
-        let verdict = o.verdict;
-        let head = o.head;
-        match verdict {
-            Verdict::Refused(why) => {
-                print_refusal(why);
-                return false;
-            }
-            Verdict::Accepted => {
-                let s = play_input(
-                    input,
-                    head,
-                    block,
-                    &plan,
-                    &keys,
-                    &mut cells,
-                    &mut status,
-                    &mut olds,
-                    &mut chunk,
-                    &mut answers,
-                );
-                finish(s, block, &plan, &keys, &mut cells, &mut status, &mut olds);
-                return true;
-            }
-        }
+            start,
+            limit,
+            transcript,
+        ),
     }
-    false
+}
+
+// REGISTER: opens block.bin of the current folder for 8 workers, plays the move lines of standard input, and prints the closing sheet. A
+// missing file is read as empty; where a file cannot be read nothing is printed.
+pub fn register(transcript: &mut [u8]) -> Registered
+    ensures { λ r. ⌜ Registers (now (transcript .entry)) r (now (transcript .exit)) ⌝ }
+{
+    let mut file = [0u8; FILE_BYTES];
+    let f = host::read_block_file(&mut file);
+    let length = f.length;
+    let x = Exchange {
+        ok: f.ok,
+        received: 0,
+        sent: 0,
+    };
+    let r = run(&file[..length], x, MAX_INPUT, transcript);
+    let exchange = r.exchange;
+    Registered {
+        file_ok: f.ok,
+        file_ended: f.ended,
+        opened: r.opened,
+        input_ended: r.ended,
+        exchange,
+    }
 }

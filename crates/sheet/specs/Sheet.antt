@@ -27,6 +27,11 @@ unfoldable pub closingNumber : Closing → ℕ
 closingNumber (Written n) = 0
 closingNumber (Refused a) = answerNumber a
 
+-- The length of a written sheet; 0 stands for a refusal.
+unfoldable pub closingLength : Closing → ℕ
+closingLength (Written n) = n
+closingLength (Refused a) = 0
+
 -- The two words of a cell's key: address, field and a; then b.
 abbrev pub keyHigh : List ℕ → ℕ → ℕ
 keyHigh keys n = getD keys (2 * n) 0

@@ -1,9 +1,7 @@
 // Runs the blocks of standard input as REGISTER does, each with its moves: a block behind its length in four bytes, little-endian, then
 // its moves likewise.
-use libc::STDIN_FILENO;
-
-// One byte more than a block may have.
-const FILE_BYTES: usize = 65537;
+use host::Exchange;
+use host::FILE_BYTES;
 
 // More blocks than any input here has.
 const MAX_BLOCKS: usize = 1000000;
@@ -11,46 +9,45 @@ const MAX_BLOCKS: usize = 1000000;
 // The moves of a refused block are passed over; none is longer.
 const MOVES_BYTES: usize = 131072;
 
-// The next length of the stream, or 2^32 at its end.
-fn next_length() -> u64 {
-    let mut head = [0u8; 4];
-    if io::read_full(STDIN_FILENO, &mut head) < 4 {
-        return 4294967296;
+// Passes over the moves of a block that was not opened.
+fn pass_moves(opened: bool, moves: &mut [u8], length: usize) {
+    if opened {
+        return;
     }
-    wire::get32(&head, 0)
+    host::read_bytes(moves, length);
 }
 
-// Reads the next `length` bytes of the stream into the buffer; answers how many came.
-fn read_next(buffer: &mut [u8], length: u64) -> usize {
-    if length <= buffer.len() as u64 {
-        return io::read_full(STDIN_FILENO, &mut buffer[..length as usize]);
-    }
-    0
+// Runs the next block with its moves in these buffers; where there was none, or something failed, the exchange is not ok.
+fn run_in(x: Exchange, file: &mut [u8], moves: &mut [u8]) -> Exchange {
+    let mut transcript = [0u8; 0];
+    let part = host::read_part(file);
+    let length = part.length;
+    let input = host::next_length();
+    let next = Exchange {
+        ok: x.ok & part.found & input.found,
+        received: 0,
+        sent: 0,
+    };
+    let ran = running::run(&file[..length], next, input.length as u32, &mut transcript);
+    pass_moves(ran.opened, moves, input.length);
+    ran.exchange
 }
 
-// Runs the next block with its moves in this buffer; answers whether there was one.
-fn run_in(file: &mut [u8], moves: &mut [u8]) -> bool {
-    let length = next_length();
-    if (file.len() as u64) < length {
-        return false;
-    }
-    let n = read_next(file, length);
-    let input = next_length();
-    if !running::run(file, n, input) {
-        read_next(moves, input);
-    }
-    true
-}
-
-fn run_next() -> bool {
+fn run_next(x: Exchange) -> Exchange {
     let mut file = [0u8; FILE_BYTES];
     let mut moves = [0u8; MOVES_BYTES];
-    run_in(&mut file, &mut moves)
+    run_in(x, &mut file, &mut moves)
 }
 
 fn main() {
+    let mut x = Exchange {
+        ok: true,
+        received: 0,
+        sent: 0,
+    };
     let mut left = MAX_BLOCKS;
-    while left > 0 && run_next() {
+    while left > 0 && x.ok {
+        x = run_next(x);
         left -= 1;
     }
 }

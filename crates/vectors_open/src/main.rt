@@ -1,35 +1,37 @@
 // Lists the blocks of standard input, each behind its length in four bytes, little-endian.
-use libc::STDIN_FILENO;
-
-// One byte more than a block may have.
-const FILE_BYTES: usize = 65537;
+use host::Exchange;
+use host::FILE_BYTES;
 
 // More blocks than any input here has.
 const MAX_BLOCKS: usize = 1000000;
 
-// Reads and lists the next block in this buffer; answers whether there was one.
-fn list_in(file: &mut [u8]) -> bool {
-    let mut head = [0u8; 4];
-    if io::read_full(STDIN_FILENO, &mut head) < 4 {
-        return false;
-    }
-    let length = wire::get32(&head, 0) as usize;
-    if file.len() < length {
-        return false;
-    }
-    let n = io::read_full(STDIN_FILENO, &mut file[..length]);
-    host::print_listing(file, n);
-    true
+// Reads and lists the next block in this buffer; where there was none, or a write failed, the exchange is not ok.
+fn list_in(x: Exchange, file: &mut [u8]) -> Exchange {
+    let mut transcript = [0u8; 0];
+    let part = host::read_part(file);
+    let length = part.length;
+    let next = Exchange {
+        ok: x.ok & part.found,
+        received: 0,
+        sent: 0,
+    };
+    host::print_listing(next, &file[..length], &mut transcript)
 }
 
-fn list_next() -> bool {
+fn list_next(x: Exchange) -> Exchange {
     let mut file = [0u8; FILE_BYTES];
-    list_in(&mut file)
+    list_in(x, &mut file)
 }
 
 fn main() {
+    let mut x = Exchange {
+        ok: true,
+        received: 0,
+        sent: 0,
+    };
     let mut left = MAX_BLOCKS;
-    while left > 0 && list_next() {
+    while left > 0 && x.ok {
+        x = list_next(x);
         left -= 1;
     }
 }

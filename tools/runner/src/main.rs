@@ -30,6 +30,8 @@ const USAGE: &str = "usage:
   runner vectors moves SEED COUNT DIR
                                     moves, sheets and serial runs on damaged runs as DIR/stdin,
                                     DIR/stdout
+  runner vectors examples DIR       the documents' examples as DIR/stdin, DIR/stdout
+  runner vectors files DIR          edges as folders with data/block.bin, stdin, stdout
 ";
 
 /// How many cases of moves there are for one of sheets.
@@ -84,7 +86,6 @@ fn run(words: &[&str]) -> Result<(), Failure> {
             write_vectors(seed.parse()?, count.parse()?, Path::new(directory))
         }
         ["vectors", "examples", directory] => write_stream(&vectors::titled::examples(), directory),
-        ["vectors", "edges", directory] => write_stream(&vectors::titled::edges(), directory),
         ["vectors", "files", directory] => write_folders(Path::new(directory)),
         _ => Err(USAGE.into()),
     }

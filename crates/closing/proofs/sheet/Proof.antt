@@ -3,6 +3,7 @@ use borrow.Author.Needs.{needs}
 use mathlib.Core.Path.{sym, _∙_}
 use borrow.Author.Tests.{not-true, not-false, lt-ltb, le-ltb}
 use Rattle.sheet.specs.Sheet.{sheetBytes, sheetOf}
+use Rattle.closing.proofs.Answering.{closed-as}
 use Rattle.closing.proofs.sheet.Statement.{statement}
 use Rattle.closing.proofs.sheet.Tie as tie
 
@@ -11,36 +12,36 @@ large-enough-requires c κs = search needs
 
 returns : tie.Need-returns
 unfolding sheetOf
-returns c = simp (sym (c .before .large-enough .ensures) ∙ not-true _ (c .if1 .taken))
+returns c = closed-as (simp (sym (c .before .large-enough .ensures) ∙ not-true _ (c .if1 .taken)))
 
 returns-2 : tie.Need-returns-2
 unfolding sheetOf
-returns-2 c = simp (lt-ltb _ _ (c .if2 .taken), sym (c .before .before .large-enough .ensures) ∙ not-false _ (c .before .if1 .left))
+returns-2 c = closed-as (simp (lt-ltb _ _ (c .if2 .taken), sym (c .before .before .large-enough .ensures) ∙ not-false _ (c .before .if1 .left)))
 
 states-allowed-requires : tie.Need-states-allowed-requires
 states-allowed-requires c κs = search needs
 
 returns-3 : tie.Need-returns-3
 unfolding sheetOf
-returns-3 c = simp (sym (c .before .states-allowed .ensures) ∙ not-true _ (c .if3 .taken), le-ltb _ _ (c .before .before .if2 .left), sym (c .before .before .before .before .large-enough .ensures) ∙ not-false _ (c .before .before .before .if1 .left))
+returns-3 c = closed-as (simp (sym (c .before .states-allowed .ensures) ∙ not-true _ (c .if3 .taken), le-ltb _ _ (c .before .before .if2 .left), sym (c .before .before .before .before .large-enough .ensures) ∙ not-false _ (c .before .before .before .if1 .left)))
 
 all-finished-requires : tie.Need-all-finished-requires
 all-finished-requires c κs = search needs
 
 returns-4 : tie.Need-returns-4
 unfolding sheetOf
-returns-4 c = simp (sym (c .before .all-finished .ensures) ∙ not-true _ (c .if4 .taken), sym (c .before .before .before .states-allowed .ensures) ∙ not-false _ (c .before .before .if3 .left), le-ltb _ _ (c .before .before .before .before .if2 .left), sym (c .before .before .before .before .before .before .large-enough .ensures) ∙ not-false _ (c .before .before .before .before .before .if1 .left))
+returns-4 c = closed-as (simp (sym (c .before .all-finished .ensures) ∙ not-true _ (c .if4 .taken), sym (c .before .before .before .states-allowed .ensures) ∙ not-false _ (c .before .before .if3 .left), le-ltb _ _ (c .before .before .before .before .if2 .left), sym (c .before .before .before .before .before .before .large-enough .ensures) ∙ not-false _ (c .before .before .before .before .before .if1 .left)))
 
 returns-5 : tie.Need-returns-5
 unfolding sheetOf
-returns-5 c = simp (lt-ltb _ _ (c .if5 .taken), sym (c .before .before .all-finished .ensures) ∙ not-false _ (c .before .if4 .left), sym (c .before .before .before .before .states-allowed .ensures) ∙ not-false _ (c .before .before .before .if3 .left), le-ltb _ _ (c .before .before .before .before .before .if2 .left), sym (c .before .before .before .before .before .before .before .large-enough .ensures) ∙ not-false _ (c .before .before .before .before .before .before .if1 .left))
+returns-5 c = closed-as (simp (lt-ltb _ _ (c .if5 .taken), sym (c .before .before .all-finished .ensures) ∙ not-false _ (c .before .if4 .left), sym (c .before .before .before .before .states-allowed .ensures) ∙ not-false _ (c .before .before .before .if3 .left), le-ltb _ _ (c .before .before .before .before .before .if2 .left), sym (c .before .before .before .before .before .before .before .large-enough .ensures) ∙ not-false _ (c .before .before .before .before .before .before .if1 .left)))
 
 balances-allowed-requires : tie.Need-balances-allowed-requires
 balances-allowed-requires c κs = search needs
 
 returns-6 : tie.Need-returns-6
 unfolding sheetOf
-returns-6 c = simp (sym (c .before .balances-allowed .ensures) ∙ not-true _ (c .if6 .taken), le-ltb _ _ (c .before .before .if5 .left), sym (c .before .before .before .before .all-finished .ensures) ∙ not-false _ (c .before .before .before .if4 .left), sym (c .before .before .before .before .before .before .states-allowed .ensures) ∙ not-false _ (c .before .before .before .before .before .if3 .left), le-ltb _ _ (c .before .before .before .before .before .before .before .if2 .left), sym (c .before .before .before .before .before .before .before .before .before .large-enough .ensures) ∙ not-false _ (c .before .before .before .before .before .before .before .before .if1 .left))
+returns-6 c = closed-as (simp (sym (c .before .balances-allowed .ensures) ∙ not-true _ (c .if6 .taken), le-ltb _ _ (c .before .before .if5 .left), sym (c .before .before .before .before .all-finished .ensures) ∙ not-false _ (c .before .before .before .if4 .left), sym (c .before .before .before .before .before .before .states-allowed .ensures) ∙ not-false _ (c .before .before .before .before .before .if3 .left), le-ltb _ _ (c .before .before .before .before .before .before .before .if2 .left), sym (c .before .before .before .before .before .before .before .before .before .large-enough .ensures) ∙ not-false _ (c .before .before .before .before .before .before .before .before .if1 .left)))
 
 write-sheet-requires : tie.Need-write-sheet-requires
 write-sheet-requires c κs = search needs
@@ -50,7 +51,7 @@ same-length c = search needs
 
 returns-7 : tie.Need-returns-7
 unfolding sheetOf sheetBytes
-returns-7 c = simp (sym (c .before .before .before .before .before .balances-allowed .ensures) ∙ not-false _ (c .before .before .before .before .if6 .left), le-ltb _ _ (c .before .before .before .before .before .before .if5 .left), sym (c .before .before .before .before .before .before .before .before .all-finished .ensures) ∙ not-false _ (c .before .before .before .before .before .before .before .if4 .left), sym (c .before .before .before .before .before .before .before .before .before .before .states-allowed .ensures) ∙ not-false _ (c .before .before .before .before .before .before .before .before .before .if3 .left), le-ltb _ _ (c .before .before .before .before .before .before .before .before .before .before .before .if2 .left), sym (c .before .before .before .before .before .before .before .before .before .before .before .before .before .large-enough .ensures) ∙ not-false _ (c .before .before .before .before .before .before .before .before .before .before .before .before .if1 .left)) (c .before .before .write-sheet .ensures)
+returns-7 c = closed-as (simp (sym (c .before .before .before .before .before .balances-allowed .ensures) ∙ not-false _ (c .before .before .before .before .if6 .left), le-ltb _ _ (c .before .before .before .before .before .before .if5 .left), sym (c .before .before .before .before .before .before .before .before .all-finished .ensures) ∙ not-false _ (c .before .before .before .before .before .before .before .if4 .left), sym (c .before .before .before .before .before .before .before .before .before .before .states-allowed .ensures) ∙ not-false _ (c .before .before .before .before .before .before .before .before .before .if3 .left), le-ltb _ _ (c .before .before .before .before .before .before .before .before .before .before .before .if2 .left), sym (c .before .before .before .before .before .before .before .before .before .before .before .before .before .large-enough .ensures) ∙ not-false _ (c .before .before .before .before .before .before .before .before .before .before .before .before .if1 .left)) (c .before .before .write-sheet .ensures))
 
 pub sheet-spec : {M : Type 1} → statement M
 sheet-spec =

@@ -1,17 +1,14 @@
--- `host::print_listing` keeps to its buffers: the part that is lent is no longer than the whole. Assumes nothing.
-use mathlib.Core.Path.{sym}
+-- `host::print_listing` meets its contract: the listing fits its buffer, and all of it is handed over. Assumes nothing.
+use mathlib.Core.Path.{refl, sym}
 use native.Mathlib.Omega.{arith}
 use lib.Seq.{length-take-le}
+use Rattle.host.proofs.Laws.{listing-room, listing-front, handed-as}
 use borrow.Author.Needs.{needs}
 use Rattle.host.proofs.print_listing.Statement.{statement}
 use Rattle.host.proofs.print_listing.Tie as tie
-use Rattle.host.proofs.print_listing.Reads as reads
-use Rattle.host.proofs.print_listing.Lts as lts
-use Rattle.host.proofs.print.Reads as print-reads
-use Rattle.listing.proofs.list.Reads as list-reads
 
 slice-aggregate-list : tie.Need-slice-aggregate-list
-slice-aggregate-list c = sym (length-take-le _ _ (omega arith))
+slice-aggregate-list c = search needs
 
 slice-aggregate-list-2 : tie.Need-slice-aggregate-list-2
 slice-aggregate-list-2 c = search needs
@@ -28,23 +25,23 @@ slice-aggregate-list-5 c = search needs
 slice-aggregate-list-6 : tie.Need-slice-aggregate-list-6
 slice-aggregate-list-6 c = search needs
 
-slice-aggregate-list-7 : tie.Need-slice-aggregate-list-7
-slice-aggregate-list-7 c = search needs
-
 list-requires : tie.Need-list-requires
 list-requires c κs = search needs
 
+array-share-prefix-text : tie.Need-array-share-prefix-text
+array-share-prefix-text c = omega (arith, listing-room (c .before .before .before .before .before .before .list .ensures))
+
 slice-aggregate-print : tie.Need-slice-aggregate-print
-slice-aggregate-print c = search needs
+slice-aggregate-print c = sym (length-take-le _ _ (omega (arith, listing-room (c .before .before .before .before .before .before .before .list .ensures))))
 
 print-requires : tie.Need-print-requires
 print-requires c κs = search needs
 
-returns : tie.Need-returns
-returns c = search needs
+same-length : tie.Need-same-length
+same-length c = search needs
 
-returns-2 : tie.Need-returns-2
-returns-2 c = search needs
+returns : tie.Need-returns
+returns c = (handed-as (listing-front (c .before .before .before .before .before .before .before .before .before .before .before .list .ensures) refl (omega arith)) (c .before .before .print .ensures .0), c .before .before .print .ensures .1)
 
 pub print-listing-spec : {M : Type 1} → statement M
 print-listing-spec =
@@ -56,9 +53,9 @@ print-listing-spec =
     slice-aggregate-list-4
     slice-aggregate-list-5
     slice-aggregate-list-6
-    slice-aggregate-list-7
     list-requires
+    array-share-prefix-text
     slice-aggregate-print
     print-requires
-    returns
-    returns-2)
+    same-length
+    returns)

@@ -37,7 +37,7 @@ same-length-6 : tie.Need-same-length-6
 same-length-6 c = search needs
 
 returns : tie.Need-returns
-returns c = all-listed _ _ _ _ _ _ _ _ _ _ _ _ (c .before .before .before .before .before .before .before .before .before .before .before .before .before .before .before .«open» .ensures) (c .before .before .before .before .before .read-block .ensures) (c .before .before .listing .ensures)
+returns c = all-listed _ _ _ _ _ _ _ _ _ _ _ _ (c .before .before .before .before .before .before .before .before .before .before .before .before .before .before .before .«open» .ensures .same) (c .before .before .before .before .before .read-block .ensures) (c .before .before .listing .ensures)
 
 pub list-spec : {M : Type 1} → statement M
 list-spec =

@@ -1,5 +1,5 @@
 -- `opening::open` meets its contract: the buffers are zero before anything is tested, and the block is prepared in three of them. Assumes nothing.
-use Rattle.opening.proofs.Laws.{open-refused, open-passed}
+use Rattle.opening.proofs.Laws.{open-refused, open-passed, opened-as}
 use borrow.Author.Needs.{needs}
 use Rattle.opening.proofs.open.Statement.{statement}
 use Rattle.opening.proofs.open.Tie as tie
@@ -47,6 +47,7 @@ returns : tie.Need-returns
 returns c =
     let s = c .before .before .before .before .before .before .before .before .before .before .before .before .before .before .before .before .before .before .before .before .before .before .before .before in
     let k = c .before .before .before .before .before .before .before .before .before .before .before .before .before .before .clear-all in
+    opened-as (
     open-refused _ _ _ _ _ (s .args .file .now) (s .args .workers) (k .last .0) (k .last .1 .0) (k .last .1 .1 .0) (k .last .1 .1 .1 .0) (k .last .1 .1 .1 .1 .0)
     (record {
       plan-kept = k .kept .0;
@@ -61,6 +62,7 @@ returns c =
       olds-zero = k .ensures .1 .1 .1 .1;
     })
     _ (c .before .before .before .before .before .large-enough .ensures) _ (c .before .before .before .before .tested .ensures) _ _ (c .before .before .why .given .1) (c .refused .ensures)
+    )
 
 same-length-6 : tie.Need-same-length-6
 same-length-6 c = search needs
@@ -81,6 +83,7 @@ returns-2 : tie.Need-returns-2
 returns-2 c =
     let s = c .before .before .before .before .before .before .before .before .before .before .before .before .before .before .before .before .before .before .before .before .before .before .before .before .before .before .before .before .before .before .before .before in
     let k = c .before .before .before .before .before .before .before .before .before .before .before .before .before .before .before .before .before .before .before .before .before .before .clear-all in
+    opened-as (
     open-passed _ _ _ _ _ (s .args .file .now) (s .args .workers) (k .last .0) (k .last .1 .0) (k .last .1 .1 .0) (k .last .1 .1 .1 .0) (k .last .1 .1 .1 .1 .0)
     (record {
       plan-kept = k .kept .0;
@@ -95,6 +98,7 @@ returns-2 c =
       olds-zero = k .ensures .1 .1 .1 .1;
     })
     _ (c .before .before .before .before .before .before .before .before .before .before .before .before .before .large-enough .ensures) _ (c .before .before .before .before .before .before .before .before .before .before .before .before .tested .ensures) _ _ _ _ _ (c .before .before .before .before .before .before .before .before .before .before .enum-told .given .1) (c .before .before .before .before .before .before .prepare .ensures) (c .answered .ensures)
+    )
 
 pub open-spec : {M : Type 1} → statement M
 open-spec =

@@ -2,15 +2,12 @@
 use native.Mathlib.Omega.{arith}
 use Rattle.vectors_open.proofs.main.Statement.{statement}
 use Rattle.vectors_open.proofs.main.Tie as tie
-use Rattle.vectors_open.proofs.main.Reads as reads
-use Rattle.vectors_open.proofs.main.Lts as lts
-use Rattle.vectors_open.proofs.list_next.Reads as list-next-reads
 
 abbrev Inv-loop : tie.InvT-loop
-Inv-loop left₀ left = Unit {0}
+Inv-loop x₀ left₀ x left = Unit {0}
 
 abbrev μ-loop : tie.MeasureT-loop
-μ-loop left₀ left = left
+μ-loop x₀ left₀ x left = left
 
 loop-holds : tie.Need-loop-holds Inv-loop μ-loop
 loop-holds c = tt

@@ -1,6 +1,6 @@
 //! Streams of titled blocks with moves. A case is its title, its block and its
 //! moves, each as its length in four bytes, little-endian, and its bytes. For each
-//! a program prints `# ` and the title, and then what the stream is for.
+//! a program prints `# ` and the title, its listing and what REGISTER prints.
 
 use super::blocks::{put, Stream};
 use super::edges;
@@ -34,14 +34,10 @@ impl Titled {
     }
 }
 
-/// The examples of the documents: for each its listing and what REGISTER prints.
+/// The examples of the documents, then edges of the input: for each its listing
+/// and what REGISTER prints.
 pub fn examples() -> Stream {
-    stream(&example_cases(), Titled::listed_and_registered)
-}
-
-/// Edges of the input: for each what REGISTER prints.
-pub fn edges() -> Stream {
-    stream(&edges::cases(), Titled::registered)
+    stream(&[example_cases(), edges::cases()].concat())
 }
 
 /// The examples as titled cases.
@@ -56,7 +52,7 @@ pub fn example_cases() -> Vec<Titled> {
         .collect()
 }
 
-fn stream(cases: &[Titled], printed: impl Fn(&Titled) -> String) -> Stream {
+fn stream(cases: &[Titled]) -> Stream {
     let mut stream = Stream {
         input: Vec::new(),
         output: Vec::new(),
@@ -65,7 +61,7 @@ fn stream(cases: &[Titled], printed: impl Fn(&Titled) -> String) -> Stream {
         put(&mut stream.input, case.title.as_bytes());
         put(&mut stream.input, &case.block);
         put(&mut stream.input, &case.moves);
-        let text = format!("# {}\n{}", case.title, printed(case));
+        let text = format!("# {}\n{}", case.title, case.listed_and_registered());
         stream.output.extend_from_slice(text.as_bytes());
     }
     stream

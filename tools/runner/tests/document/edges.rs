@@ -12,7 +12,7 @@ use runner::limits::MAX_WORKERS;
 use runner::machine::open;
 use runner::vectors::edges::cases;
 use runner::vectors::files::{folders, Folder};
-use runner::vectors::titled::{edges, example_cases, examples, Titled, MAX_TITLE_BYTES};
+use runner::vectors::titled::{example_cases, examples, Titled, MAX_TITLE_BYTES};
 
 /// Most bytes of the stored file of edges.
 const MOST_BYTES: usize = 700_000;
@@ -106,10 +106,10 @@ fn decoded(mut stream: &[u8]) -> Vec<Titled> {
 }
 
 #[test]
-fn streams_carry_their_cases() {
-    assert_eq!(decoded(&examples().input), example_cases());
-    assert_eq!(decoded(&edges().input), cases());
-    assert!(edges().input.len() < MOST_BYTES);
+fn the_stream_carries_its_cases() {
+    let all = [example_cases(), cases()].concat();
+    assert_eq!(decoded(&examples().input), all);
+    assert!(examples().input.len() < MOST_BYTES);
 }
 
 #[test]
@@ -132,7 +132,8 @@ fn examples_print_title_listing_and_output_in_the_documents_order() {
     let refused = "\n# keys25: a call of 25 keys\ne 11 208\ne 11 208\n# empty_code";
     assert!(printed.contains(refused));
     let titles = printed.lines().filter(|line| line.starts_with('#'));
-    let names = EXAMPLES.iter().map(|one| format!("# {}", one.title()));
+    let all = [example_cases(), cases()].concat();
+    let names = all.iter().map(|one| format!("# {}", one.title));
     assert!(titles.eq(names));
 }
 
@@ -142,9 +143,10 @@ fn edges_print_their_answers() {
         let expected = refused.to_string() + if sheet { P } else { "" };
         assert_eq!(edge(name).registered(), expected, "{name}");
     }
-    let printed = String::from_utf8(edges().output).unwrap();
-    assert!(printed.starts_with("# no_input: no input on block P\nr 0 27\n# one_line_feed"));
-    assert!(printed.ends_with("nothing is printed\n"));
+    let printed = String::from_utf8(examples().output).unwrap();
+    let first = "\n# no_input: no input on block P\nn 3 1 3 4\nw 0\nw 1 0\nw 2 1\nr 0 27\n# one_line_feed";
+    assert!(printed.contains(first));
+    assert!(printed.ends_with("nothing is printed\nn 0 0 0 0\n"));
 }
 
 #[test]
@@ -261,12 +263,10 @@ fn folders_are_written_with_their_files() {
 #[test]
 fn the_commands_write_streams_and_folders() {
     let directory = scratch("commands");
-    for (kind, stream) in [("examples", examples()), ("edges", edges())] {
-        let home = directory.join(kind);
-        vectors(kind, &home);
-        assert_eq!(fs::read(home.join("stdin")).unwrap(), stream.input);
-        assert_eq!(fs::read(home.join("stdout")).unwrap(), stream.output);
-    }
+    let home = directory.join("examples");
+    vectors("examples", &home);
+    assert_eq!(fs::read(home.join("stdin")).unwrap(), examples().input);
+    assert_eq!(fs::read(home.join("stdout")).unwrap(), examples().output);
     vectors("files", &directory);
     assert!(directory.join("edge_full/data/block.bin").exists());
 }

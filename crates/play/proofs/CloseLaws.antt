@@ -1,0 +1,177 @@
+-- How long the text of a close can be: a line for each cell and each receipt. Assumes nothing.
+use mathlib.Core.Path.{_≡_, refl, sym, ap, _∙_}
+use mathlib.Core.Bool.{Bool, true, false, _||_, not}
+use mathlib.Core.List.{List, [], _∷_, _++_, append-assoc, append-nil}
+use Prim.Native.Nat.{ℕ, zero, suc, _+_, _*_, _^_, _≤_, _<_}
+use native.Mathlib.Omega.{arith}
+use lib.Dec.{eqb, leb, ltb}
+use lib.IntN.{ℤ}
+use lib.ListN.{length, drop, take, length-append, length-replicate}
+use lib.Seq.{drop-append-seam, take-append-seam}
+use borrow.Author.Tests.{ltb-false}
+use Rattle.arith.specs.Choice.{if_then_else_}
+use Rattle.arith.specs.ChoiceLaws.{if-all, neither}
+use Rattle.arith.specs.Exact.{signed, unsigned}
+use Rattle.wire.specs.Bytes.{number, readLe, bytesOf, stored, repeated}
+use Rattle.wire.specs.Laws.{number-bytesOf, stored-inside}
+use Rattle.wire.specs.Decimal.{decimal, parts}
+use Rattle.block.specs.Limits.{maxCalls, maxKeys}
+use Rattle.block.specs.Record.{recordOf, headBytes, cellKind, receiptKind, endKind}
+use Rattle.machine.specs.Run.{Run, sizesOf, largeEnough, statusWord}
+use Rattle.machine.specs.Step.{cellAt}
+use Rattle.machine.specs.Answer.{answerNumber}
+use Rattle.machine.specs.declared.Answer.{Answer}
+use Rattle.text.specs.Lines.{refusedText}
+use Rattle.text.proofs.Laws.{digits-length}
+use Rattle.sheet.specs.Sheet.{Closed, keyHigh, keyLow, keyBytes, cellRecords, receiptRecords, sheetBytes, statesAllowed, allFinished, balancesAllowed, receiptsAllowed, unwritten, filled, writtenIf, sheetOf}
+use Rattle.sheet.specs.declared.Closing.{Closing}
+use Rattle.sheet.specs.declared.Closing.the-variants.{Written, Refused}
+use Rattle.console.specs.Text.{cellLine, receiptLine, recordsText, sheetText}
+use Rattle.console.specs.Register.{closingText, closeRun, maxSheet}
+use Rattle.play.specs.Printed.{maxRecordText, maxCloseText}
+use Rattle.play.proofs.TextLaws.{cell-short, receipt-short}
+
+-- ---- one record in front of others
+
+module _ (kind : ℕ) (body more : List ℕ) (short : length body < 65536) where
+  head-size : number 2 (recordOf kind body ++ more) ≡ length body
+  unfolding bytesOf
+  head-size = number-bytesOf 2 (length body) _ short
+
+  head-kind : kind < 65536 → readLe 2 (recordOf kind body ++ more) 2 ≡ kind
+  unfolding bytesOf
+  head-kind h = number-bytesOf 2 kind _ h
+
+  head-body : drop headBytes (recordOf kind body ++ more) ≡ body ++ more
+  unfolding bytesOf
+  head-body = refl
+
+  head-rest : drop (number 2 (recordOf kind body ++ more)) (drop headBytes (recordOf kind body ++ more)) ≡ more
+  head-rest = ap (λ (n : ℕ). drop n (drop headBytes (recordOf kind body ++ more))) head-size ∙ ap (drop (length body)) head-body ∙ drop-append-seam body more
+
+-- A line is short, and the text of what is left is no longer than said.
+cell-front : (turns call : ℕ) (body more : List ℕ) (n : ℕ) → length body < 65536 → ((t : ℕ) → length (recordsText t call more) ≤ n)
+    → length (recordsText turns call (recordOf cellKind body ++ more)) ≤ maxRecordText + n
+unfolding recordsText
+cell-front zero call body more n short rest = omega arith
+cell-front (suc turns) call body more n short rest =
+    let s : List ℕ = recordOf cellKind body ++ more in
+    let b : List ℕ = drop headBytes s in
+    let e : eqb (readLe 2 s 2) cellKind ≡ true = ap (λ (k : ℕ). eqb k cellKind) (head-kind cellKind body more short (omega arith)) in
+    let line : length (cellLine b) ≤ maxRecordText = cell-short (number 2 b) (readLe 2 b 2) (readLe 4 b 4) (readLe 4 b 8) (signed 64 (readLe 8 b 12)) in
+    let left : length (recordsText turns call (drop (number 2 s) b)) ≤ n = rw (head-rest cellKind body more short) (rest turns) in
+    rw (e, recordsText) (omega (arith, length-append (cellLine b) (recordsText turns call (drop (number 2 s) b))))
+
+receipt-front : (turns call : ℕ) (body more : List ℕ) (n : ℕ) → length body < 65536 → ((t : ℕ) → length (recordsText t (call + 1) more) ≤ n)
+    → length (recordsText turns call (recordOf receiptKind body ++ more)) ≤ maxRecordText + n
+unfolding recordsText
+receipt-front zero call body more n short rest = omega arith
+receipt-front (suc turns) call body more n short rest =
+    let s : List ℕ = recordOf receiptKind body ++ more in
+    let b : List ℕ = drop headBytes s in
+    let k : readLe 2 s 2 ≡ receiptKind = head-kind receiptKind body more short (omega arith) in
+    let e : eqb (readLe 2 s 2) cellKind ≡ false = ap (λ (k : ℕ). eqb k cellKind) k in
+    let f : eqb (readLe 2 s 2) receiptKind ≡ true = ap (λ (k : ℕ). eqb k receiptKind) k in
+    let line : length (receiptLine call b) ≤ maxRecordText = receipt-short call (number 2 b) (readLe 2 b 2) in
+    let left : length (recordsText turns (call + 1) (drop (number 2 s) b)) ≤ n = rw (head-rest receiptKind body more short) (rest turns) in
+    rw (e, f, recordsText) (omega (arith, length-append (receiptLine call b) (recordsText turns (call + 1) (drop (number 2 s) b))))
+
+-- ---- the records of a sheet
+
+end-none : (turns call : ℕ) → length (recordsText turns call (recordOf endKind [])) ≤ 0
+unfolding recordsText bytesOf number
+end-none zero call = omega arith
+end-none (suc turns) call = omega arith
+
+receipt-size : (outcome count : ℕ) → length (bytesOf 2 outcome ++ bytesOf 2 count) < 65536
+unfolding bytesOf
+receipt-size outcome count = omega arith
+
+cell-size : (high low bits : ℕ) → length (keyBytes high low ++ bytesOf 8 bits) < 65536
+unfolding bytesOf
+cell-size high low bits = omega arith
+
+module _ (status : List ℕ) where
+  receipts-text : (left c turns call : ℕ) → length (recordsText turns call (receiptRecords status left c ++ recordOf endKind [])) ≤ maxRecordText * left
+  unfolding receiptRecords
+  receipts-text zero c turns call = end-none turns call
+  receipts-text (suc left) c turns call =
+      let body : List ℕ = bytesOf 2 (statusWord status c 1) ++ bytesOf 2 (statusWord status c 2) in
+      let more : List ℕ = receiptRecords status left (c + 1) in
+      let bound : length (recordsText turns call (recordOf receiptKind body ++ (more ++ recordOf endKind []))) ≤ maxRecordText + maxRecordText * left =
+      receipt-front turns call body (more ++ recordOf endKind []) (maxRecordText * left) (receipt-size (statusWord status c 1) (statusWord status c 2)) (λ t. receipts-text left (c + 1) t (call + 1)) in
+      rw (append-assoc (recordOf receiptKind body) more (recordOf endKind [])) (omega arith)
+
+module _ (keys : List ℕ) (cells : List ℤ) (rest : List ℕ) (n : ℕ) where
+  cells-text : (left at turns call : ℕ) → ((t : ℕ) → length (recordsText t call rest) ≤ n)
+      → length (recordsText turns call (cellRecords keys cells left at ++ rest)) ≤ maxRecordText * left + n
+  unfolding cellRecords
+  cells-text zero at turns call small = omega (arith, small turns)
+  cells-text (suc left) at turns call small = go (eqb bits 0) (λ t. cells-text left (at + 1) t call small)
+    where
+      bits : ℕ
+      bits = unsigned 64 (cellAt cells at)
+
+      own : List ℕ
+      own = recordOf cellKind (keyBytes (keyHigh keys at) (keyLow keys at) ++ bytesOf 8 bits)
+
+      more : List ℕ
+      more = cellRecords keys cells left (at + 1)
+
+      go : (zero-cell : Bool) → ((t : ℕ) → length (recordsText t call (more ++ rest)) ≤ maxRecordText * left + n)
+          → length (recordsText turns call (((if zero-cell then [] else own) ++ more) ++ rest)) ≤ maxRecordText * suc left + n
+      go true ih = omega (arith, ih turns)
+      go false ih =
+          let bound : length (recordsText turns call (own ++ (more ++ rest))) ≤ maxRecordText + (maxRecordText * left + n) =
+          cell-front turns call (keyBytes (keyHigh keys at) (keyLow keys at) ++ bytesOf 8 bits) (more ++ rest) (maxRecordText * left + n)
+          (cell-size (keyHigh keys at) (keyLow keys at) bits) ih in
+          rw (append-assoc own more rest) (omega (arith, bound))
+
+sheet-short : (r : Run) → r .head .calls ≤ maxCalls → r .head .cells ≤ maxKeys → length (sheetText (sheetBytes r)) ≤ maxCloseText
+unfolding sheetBytes
+sheet-short r calls cells =
+    let first : List ℕ = cellRecords (r .keys) (r .cells) (r .head .cells) 0 in
+    let second : List ℕ = receiptRecords (r .status) (r .head .calls) 0 in
+    let end : List ℕ = recordOf endKind [] in
+    let bound : length (recordsText (length ((first ++ second) ++ end)) 0 (first ++ (second ++ end))) ≤ maxRecordText * r .head .cells + maxRecordText * r .head .calls =
+    cells-text (r .keys) (r .cells) (second ++ end) (maxRecordText * r .head .calls) (r .head .cells) 0 (length ((first ++ second) ++ end)) 0
+    (λ t. receipts-text (r .status) (r .head .calls) 0 t 0) in
+    rw (append-assoc first second end) (omega (arith, rw (append-assoc first second end) at bound))
+
+-- ---- the close
+
+refused-short : (line n : ℕ) → length (refusedText line n) ≤ maxCloseText
+unfolding parts
+refused-short line n =
+    let a : length (decimal line) ≤ 20 = digits-length 20 line in
+    let b : length (decimal n) ≤ 20 = digits-length 20 n in
+    simp length-append (omega arith)
+
+abbrev Short : Closed → Type 0
+Short c = length (closingText c (c .answer)) ≤ maxCloseText
+
+none-short : (out : List ℕ) (a : Answer) → Short (unwritten out a)
+unfolding closingText
+none-short out a = refused-short 0 (answerNumber a)
+
+written-short : (receipts : Bool) (out bytes : List ℕ) → length (sheetText bytes) ≤ maxCloseText → Short (writtenIf receipts out bytes)
+unfolding writtenIf closingText
+written-short receipts out bytes short =
+    if-all Short (ltb (length out) (length bytes)) (λ e. none-short out _) (λ e.
+    if-all Short receipts
+    (λ f.
+    let fits : 0 + length bytes ≤ length out = omega (arith, ltb-false (length out) (length bytes) e) in
+    rw (stored-inside bytes out 0 fits, take-append-seam bytes (drop (0 + length bytes) out)) short)
+    (λ f. none-short out _))
+
+pub close-short : (r : Run) → length (closeRun r) ≤ maxCloseText
+unfolding sheetOf
+close-short r =
+    let out : List ℕ = repeated maxSheet 0 in
+    if-all Short (not (largeEnough (sizesOf r)) || ltb maxCalls (r .head .calls)) (λ e. none-short out _) (λ few.
+    if-all Short (not (statesAllowed (r .status) (r .head .calls))) (λ e. none-short out _) (λ e.
+    if-all Short (not (allFinished (r .status) (r .head .calls))) (λ e. none-short out _) (λ e.
+    if-all Short (ltb maxKeys (r .head .cells)) (λ e. none-short out _) (λ keys.
+    if-all Short (not (balancesAllowed (r .keys) (r .cells) (r .head .cells))) (λ e. none-short out _) (λ e.
+    written-short (receiptsAllowed (r .status) (r .head .calls)) out (sheetBytes r)
+    (sheet-short r (ltb-false _ _ (neither (not (largeEnough (sizesOf r))) (ltb maxCalls (r .head .calls)) few .1)) (ltb-false _ _ keys)))))))
