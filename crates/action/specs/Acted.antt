@@ -1,4 +1,4 @@
--- What eight bytes of code do at a place of a call. Assumes nothing.
+-- What eight bytes of code do at a place of a call.
 use mathlib.Core.List.{List}
 use Prim.Native.Nat.{ℕ}
 use lib.IntN.{ℤ}

@@ -1,2 +1,1 @@
 pub mod Acted
-pub mod JumpLaws

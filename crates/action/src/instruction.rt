@@ -4,6 +4,10 @@ use arith::Checked;
 use block::Call;
 use block::Payee;
 use block::Source;
+use block::outcomes::ENDED;
+use block::outcomes::NO_RESULT;
+use block::outcomes::NOT_PAID;
+use block::outcomes::THROWN;
 use block::record::argument;
 use block::record::payee_of;
 use footprint::access::source_value;
@@ -16,20 +20,12 @@ ghost use lib.Signed.{ltZ};
 ghost use Rattle.arith.specs.Compare.{eqZ};
 ghost use Rattle.arith.specs.Exact.{addOf, subOf, mulOf, divOf};
 ghost use Rattle.block.specs.Record.{argument};
-ghost use Rattle.footprint.specs.Access.{targetOf};
-ghost use Rattle.machine.specs.Action.{assign, assignChecked, doing, ended, jump, payAction, thrown};
+ghost use Rattle.block.specs.Naming.{targetOf};
+ghost use Rattle.machine.specs.Action.{assign, checkedAction, doing, jump, payAction};
+ghost use Rattle.block.specs.Outcomes.{ended, thrown};
 
 // The number of registers.
 const REGISTERS: usize = 8;
-
-// The outcomes: ended, thrown, no result, and not paid.
-const ENDED: u64 = 0;
-
-const THROWN: u64 = 3;
-
-const NO_RESULT: u64 = 4;
-
-const NOT_PAID: u64 = 5;
 
 // The value of register x, 0 for one that does not exist.
 fn register(regs: [i64; 8], x: usize) -> i64
@@ -70,7 +66,7 @@ fn end(regs: [i64; 8], outcome: u64) -> Action
 
 // x takes an exact result; "a result outside 64 signed bits or a zero divisor with 4".
 fn assign_checked(place: u32, regs: [i64; 8], x: usize, r: Checked) -> Action
-    ensures { λ a. ⌜ a ≡ assignChecked place regs x r ⌝ }
+    ensures { λ a. ⌜ a ≡ checkedAction place regs x r ⌝ }
 {
     match r {
         Checked::Value(v) => assign(place, regs, x, v),
@@ -123,28 +119,28 @@ pub(crate) fn value(c: Call, place: u32, regs: [i64; 8], x: usize) -> Action
 
 // "6 ADD, 7 SUB, 8 MUL, 9 DIV: x from y and z"
 pub(crate) fn add(place: u32, regs: [i64; 8], x: usize, y: usize, z: usize) -> Action
-    ensures { λ r. ⌜ r ≡ assignChecked place regs x (addOf (getD regs y (pos 0)) (getD regs z (pos 0))) ⌝ }
+    ensures { λ r. ⌜ r ≡ checkedAction place regs x (addOf (getD regs y (pos 0)) (getD regs z (pos 0))) ⌝ }
 {
     let sum = arith::add(register(regs, y), register(regs, z));
     assign_checked(place, regs, x, sum)
 }
 
 pub(crate) fn sub(place: u32, regs: [i64; 8], x: usize, y: usize, z: usize) -> Action
-    ensures { λ r. ⌜ r ≡ assignChecked place regs x (subOf (getD regs y (pos 0)) (getD regs z (pos 0))) ⌝ }
+    ensures { λ r. ⌜ r ≡ checkedAction place regs x (subOf (getD regs y (pos 0)) (getD regs z (pos 0))) ⌝ }
 {
     let difference = arith::sub(register(regs, y), register(regs, z));
     assign_checked(place, regs, x, difference)
 }
 
 pub(crate) fn mul(place: u32, regs: [i64; 8], x: usize, y: usize, z: usize) -> Action
-    ensures { λ r. ⌜ r ≡ assignChecked place regs x (mulOf (getD regs y (pos 0)) (getD regs z (pos 0))) ⌝ }
+    ensures { λ r. ⌜ r ≡ checkedAction place regs x (mulOf (getD regs y (pos 0)) (getD regs z (pos 0))) ⌝ }
 {
     let product = arith::mul(register(regs, y), register(regs, z));
     assign_checked(place, regs, x, product)
 }
 
 pub(crate) fn div(place: u32, regs: [i64; 8], x: usize, y: usize, z: usize) -> Action
-    ensures { λ r. ⌜ r ≡ assignChecked place regs x (divOf (getD regs y (pos 0)) (getD regs z (pos 0))) ⌝ }
+    ensures { λ r. ⌜ r ≡ checkedAction place regs x (divOf (getD regs y (pos 0)) (getD regs z (pos 0))) ⌝ }
 {
     let quotient = arith::div(register(regs, y), register(regs, z));
     assign_checked(place, regs, x, quotient)

@@ -5,6 +5,7 @@ use block::Call;
 use block::Decoded;
 use block::Instr;
 use block::instruction::decode;
+use block::outcomes::BALANCE_TOO_LOW;
 use instruction::add;
 use instruction::arg;
 use instruction::bal;
@@ -30,9 +31,6 @@ ghost use lib.ListN.{drop, set};
 ghost use Rattle.block.specs.Instruction.{decode};
 ghost use Rattle.machine.specs.Action.{entryAction, instrAction};
 ghost use Rattle.action.specs.Acted.{actedOf, jumpOf};
-
-// The outcome of a call whose sender has less than its value, and the place of the first instruction.
-const BALANCE_TOO_LOW: u64 = 2;
 
 const FIRST_PLACE: usize = 1;
 

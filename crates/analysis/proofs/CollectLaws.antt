@@ -1,4 +1,4 @@
--- The mathematics of the proofs of `collect`, over plain variables: the search for an id, the code and the set of a call. Assumes nothing.
+-- The mathematics of the proofs of `collect`, over plain variables: the search for an id, the code and the set of a call.
 use mathlib.Core.Path.{_≡_, sym, ap, _∙_}
 use mathlib.Core.Bool.{Bool, true, false}
 use mathlib.Core.List.{List, []}
@@ -20,7 +20,7 @@ use Rattle.analysis.specs.declared.Code.{Code}
 use Rattle.analysis.specs.declared.Sets.{Sets}
 use Rattle.analysis.specs.Coded.{Narrow, noCode, holdsId, idPlace, codeFrom, codeAtPlace, codeIn, codeSets}
 use Rattle.analysis.specs.Gathered.{gathered}
-use Rattle.analysis.specs.GatheredLaws.{if-true, if-false}
+use Rattle.analysis.proofs.GatheredLaws.{if-true, if-false}
 
 -- ---- the code of a call
 

@@ -1,4 +1,4 @@
--- The mathematics of the proofs of `gather`, over plain variables: the search for a place, the cases of a use, and the walks, turn by turn. Assumes nothing.
+-- The mathematics of the proofs of `gather`, over plain variables: the search for a place, the cases of a use, and the walks, turn by turn.
 use mathlib.Core.Path.{_≡_, sym, ap, ap₂, _∙_}
 use mathlib.Core.Bool.{Bool, true, false}
 use mathlib.Core.List.{List, [], _++_}
@@ -19,10 +19,10 @@ use Rattle.block.specs.declared.Decoded.{Decoded}
 use Rattle.block.specs.declared.Decoded.the-variants.{Valid, Invalid}
 use Rattle.block.specs.declared.Instr.{Instr}
 use Rattle.footprint.specs.Access.{Access, accesses, entryAccesses}
-use Rattle.footprint.specs.AccessLaws.{entry-few, decoded-few}
-use Rattle.analysis.specs.Gathered.{Wide, inParts, gathered, holdsKey, placeIn, tooMany, useFlags, united, extended, withUseAt, withUse, withUses}
-use Rattle.analysis.specs.GatheredLaws.{if-true, if-false, gathered-count, gathered-uses, use-count}
-use Rattle.footprint.specs.SetLaws.{merged-append, code-more}
+use Rattle.footprint.proofs.SetAccessLaws.{entry-few, decoded-few}
+use Rattle.analysis.specs.Gathered.{Wide, inParts, gathered, holdsKey, placeOfUse, tooMany, useFlags, united, extended, withUseAt, withUse, withUses}
+use Rattle.analysis.proofs.GatheredLaws.{if-true, if-false, gathered-count, gathered-uses, use-count}
+use Rattle.footprint.proofs.SetLaws.{merged-append, code-more}
 use Rattle.footprint.specs.Sets.{mergeAll, decodedAccesses, codeAccesses}
 use Rattle.footprint.specs.Uses.{usesOf}
 use Rattle.footprint.specs.declared.KeyUse.{KeyUse}
@@ -56,12 +56,12 @@ module _ (p : ℕ → Bool) (n at : ℕ) where
 
 pub use-over : (s : Sets) (u : KeyUse) → s .over ≡ true → s ≡ withUse s u
 unfolding withUse
-use-over s u over = sym (if-true s (withUseAt s u (placeIn s u)) over)
+use-over s u over = sym (if-true s (withUseAt s u (placeOfUse s u)) over)
 
 module _ (s : Sets) (u : KeyUse) {at : ℕ} (fits : s .over ≡ false) (place : at ≡ firstOf (holdsKey s u) (s .count) 0) where
   use-at : withUse s u ≡ withUseAt s u at
-  unfolding withUse placeIn
-  use-at = if-false s (withUseAt s u (placeIn s u)) fits ∙ ap (withUseAt s u) (sym place)
+  unfolding withUse placeOfUse
+  use-at = if-false s (withUseAt s u (placeOfUse s u)) fits ∙ ap (withUseAt s u) (sym place)
 
   pub use-known : {f : ℕ} → f ≡ useFlags u → at < s .count → united s at f ≡ withUse s u
   use-known flags h =

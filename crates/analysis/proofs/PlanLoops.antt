@@ -1,4 +1,4 @@
--- The mathematics of the proofs of `plan`, over plain variables: entries stored one by one, the words of a call, and the entries of a set. Assumes nothing.
+-- The mathematics of the proofs of `plan`, over plain variables: entries stored one by one, the words of a call, and the entries of a set.
 use mathlib.Core.Path.{_≡_, refl, sym, ap, ap₂, _∙_}
 use mathlib.Core.Bool.{Bool, true, false}
 use mathlib.Core.List.{List, [], _∷_, _++_, map, append-assoc}
@@ -12,7 +12,7 @@ use lib.ListN.{length, getD, take, set, replicate, length-map}
 use lib.Seq.{take-suc, take-all, length-take-le}
 use Rattle.wire.specs.Bytes.{readLe, repeated, padded, stored}
 use Rattle.wire.specs.Rows.{bit}
-use Rattle.wire.specs.Laws.{stored-append, stored-length}
+use Rattle.wire.proofs.BytesLaws.{stored-append, stored-length}
 use Rattle.arith.specs.Exact.{signed}
 use Rattle.block.specs.Key.{keyOf}
 use Rattle.block.specs.Record.{cellOf}
@@ -20,15 +20,15 @@ use Rattle.block.specs.Limits.{maxCallKeys, maxKeys}
 use Rattle.footprint.specs.Access.{Access}
 use Rattle.footprint.specs.Plan.{planWords, entryWord, codeWords}
 use Rattle.analysis.specs.Gathered.{column, columns, highOf, lowOf, flagsOf, gathered}
-use Rattle.analysis.specs.GatheredLaws.{gathered-fits}
+use Rattle.analysis.proofs.GatheredLaws.{gathered-fits}
 use Rattle.analysis.specs.KeyTable.{keyFrom, keysIn, cellPlace, Sorted}
-use Rattle.analysis.specs.TableLaws.{place-le, place-cell, cellPlace-member}
-use Rattle.analysis.specs.TableWords.{key-of-words, keys-length}
-use Rattle.analysis.specs.Laid.{TableOf, setsAt, functionAt}
-use Rattle.analysis.specs.Masks.{addCallWords, entryWords, AllListed, InTable}
-use Rattle.analysis.specs.MaskBuffers.{entries-taken, in-table}
-use Rattle.analysis.specs.Planned.{Fitting, wordsOfCall, callWords}
-use Rattle.analysis.specs.PlanLaws.{stored-padded, complete, listed-set}
+use Rattle.analysis.proofs.TableLaws.{place-le, place-cell, cellPlace-member}
+use Rattle.analysis.proofs.TableWords.{key-of-words, keys-length}
+use Rattle.analysis.specs.LayoutOfBlock.{TableOf, setsAt, functionAt}
+use Rattle.analysis.specs.Masks.{addCallWords, entryWords, AllListed, CellsInTable}
+use Rattle.analysis.proofs.MaskBuffers.{entries-taken, in-table}
+use Rattle.analysis.specs.Planned.{GatheredFits, wordsOfCall, callWords}
+use Rattle.analysis.proofs.PlanLaws.{stored-padded, complete, listed-set}
 use Rattle.analysis.specs.declared.Sets.{Sets}
 
 -- ---- entries stored one by one
@@ -128,8 +128,8 @@ flags-small false true = lit< tt
 flags-small false false = lit< tt
 
 -- The columns of at most 24 accesses make entries.
-pub fitting : (es : List Access) → length es ≤ maxCallKeys → Fitting (columns es)
-fitting es h =
+pub columns-fit : (es : List Access) → length es ≤ maxCallKeys → GatheredFits (columns es)
+columns-fit es h =
     record {
       few = h;
       lows = column-small lowOf (2 ^ 32) (lit< tt) (λ e. mod-lt (e .key) (lit< tt)) es;
@@ -205,8 +205,8 @@ module _ (file table : List ℕ) (known : TableOf file table) (j : ℕ) (s : Set
   set-columns : s ≡ columns es
   set-columns = made ∙ gathered-fits es short-set
 
-  pub set-fitting : Fitting s
-  set-fitting = rw set-columns (fitting es short-set)
+  pub set-fitting : GatheredFits s
+  set-fitting = rw set-columns (columns-fit es short-set)
 
   pub set-few : s .count ≤ maxCallKeys
   set-few = set-fitting .few
@@ -221,7 +221,7 @@ module _ (file table : List ℕ) (known : TableOf file table) (j : ℕ) (s : Set
     words-taken : take (s .count) words ≡ entryWords table es
     words-taken = ap₂ (λ (n : ℕ) (ws : List ℕ). take n ws) set-count words-column ∙ entries-taken table es
 
-    pub words-in-table : InTable (take (s .count) words)
+    pub words-in-table : CellsInTable (take (s .count) words)
     words-in-table = rw words-taken (in-table table (complete file table known .few) es (listed-set file table (complete file table known) j))
 
     -- The words that are stored are the call's, with the row of its entries.

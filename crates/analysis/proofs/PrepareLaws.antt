@@ -1,5 +1,5 @@
 -- What `prepare` and its parts answer, over plain values: the buffers that stay zero, the layout of a file that is read, and the block behind
--- its analysis. Assumes nothing.
+-- its analysis.
 use mathlib.Core.Path.{_≡_, refl, sym, ap, ap₂, _∙_}
 use mathlib.Core.Bool.{Bool, true, false, _&&_, not}
 use mathlib.Core.List.{List, [], map}
@@ -17,22 +17,22 @@ use Rattle.block.specs.declared.Refusal.{Refusal}
 use Rattle.block.specs.declared.Refusal.the-variants.{Buffers}
 use Rattle.block.specs.declared.Verdict.the-variants as verdict
 use Rattle.footprint.specs.Plan as footprint
-use Rattle.footprint.specs.Plan.{Room, planWords, keyWords, plans, openingValue, roomEnough, unprepared, prepareAnalysed, prepareRead, preparedOf}
+use Rattle.footprint.specs.Plan.{Room, planWords, tableWords, plans, openingValue, roomEnough, unprepared, prepareAnalysed, prepareRead, preparedOf}
 use Rattle.footprint.specs.Table.{Analysis, analysed, refused}
 use Rattle.reader.specs.Layout.{layoutOf}
 use Rattle.reader.specs.declared.Layout.{Layout}
 use Rattle.analysis.specs.declared.Collected.{Collected}
 use Rattle.analysis.specs.declared.Prepared.{Prepared}
-use Rattle.analysis.specs.Collected.{Left, leaving, collectedOf}
-use Rattle.analysis.specs.CollectedLaws.{Holding, collected-table, collected-refused}
+use Rattle.analysis.specs.Collected.{CollectedLeft, leaving, collectedOf}
+use Rattle.analysis.proofs.CollectedLaws.{Holding, collected-table, collected-refused}
 use Rattle.analysis.specs.KeyTable.{keysIn}
-use Rattle.analysis.specs.Laid.{Laid, blockIn, blockOf, allSets, openingKeys, analysisOf}
-use Rattle.analysis.specs.LaidLaws.{laid-calls, laid-first}
-use Rattle.analysis.specs.Preparing.{roomOf, preparing, noneOf, Blank}
+use Rattle.analysis.specs.LayoutOfBlock.{LayoutOfBlock, blockIn, blockOf, allSets, openingKeys, analysisOf}
+use Rattle.analysis.proofs.LayoutLaws.{laid-calls, laid-first}
+use Rattle.analysis.specs.Preparing.{roomOf, preparing, preparedNone, Blank}
 
 -- ---- a refusal in buffers that are zero
 
-pub refused-left : (p : Prepared) (why : Refusal) (n m k : ℕ) (plan keys : List ℕ) (values : List ℤ) → p ≡ noneOf why
+pub refused-left : (p : Prepared) (why : Refusal) (n m k : ℕ) (plan keys : List ℕ) (values : List ℤ) → p ≡ preparedNone why
     → plan ≡ repeated n 0 → keys ≡ repeated m 0 → values ≡ repeated k (pos 0)
     → preparing p plan keys values ≡ unprepared (roomOf n m k) why
 unfolding unprepared
@@ -80,7 +80,7 @@ room-same n m k plan keys values p q r = rw (p, q, r)
 pub prepared-short : (file : List ℕ) (n m k : ℕ) (plan keys : List ℕ) (values : List ℤ) (p : Prepared) (enough : Bool)
     → length plan ≡ n → length keys ≡ m → length values ≡ k
     → plan ≡ repeated n 0 → keys ≡ repeated m 0 → values ≡ repeated k (pos 0)
-    → enough ≡ roomEnough (roomOf (length plan) (length keys) (length values)) → not enough ≡ true → p ≡ noneOf Buffers
+    → enough ≡ roomEnough (roomOf (length plan) (length keys) (length values)) → not enough ≡ true → p ≡ preparedNone Buffers
     → preparing p plan keys values ≡ preparedOf (roomOf n m k) file
 unfolding preparedOf
 prepared-short file n m k plan keys values p enough a b c e f g w t made =
@@ -117,14 +117,14 @@ read-accepted (reading.refused why) l e v =
 read-accepted (reading.accepted b) l e v = refl
 
 -- The layout of an accepted file.
-pub read-laid : (file : List ℕ) (l : Layout) → l ≡ layoutOf (readBlock file) → l .verdict ≡ verdict.Accepted → Laid file l
+pub read-laid : (file : List ℕ) (l : Layout) → l ≡ layoutOf (readBlock file) → l .verdict ≡ verdict.Accepted → LayoutOfBlock file l
 read-laid file l e v =
     let read : readBlock file ≡ reading.accepted (blockOf file) = read-accepted (readBlock file) l e v in
     record { read = read; layout = e ∙ ap layoutOf read }
 
 -- 1 to 10.
 pub read-left : (file : List ℕ) (l : Layout) (why : Refusal) (plan keys : List ℕ) (values : List ℤ) (p : Prepared)
-    → Blank plan keys values → l ≡ layoutOf (readBlock file) → l .verdict ≡ verdict.Refused why → p ≡ noneOf why
+    → Blank plan keys values → l ≡ layoutOf (readBlock file) → l .verdict ≡ verdict.Refused why → p ≡ preparedNone why
     → preparing p plan keys values ≡ prepareRead (roomOf (length plan) (length keys) (length values)) file (readBlock file)
 unfolding prepareRead
 read-left file l why plan keys values p b e v made =
@@ -134,13 +134,13 @@ read-left file l why plan keys values p b e v made =
 -- ---- behind the analysis
 
 -- The keys of the opening, in a buffer of the length that was lent.
-pub opened-keys : (file keys after : List ℕ) (l : Layout) {plan : List ℕ} {values : List ℤ} → Laid file l → Blank plan keys values
-    → length after ≡ length keys → after ≡ padded (length keys) 0 (keyWords (openingKeys (blockOf file)))
-    → Laid file l × ((2 * maxKeys ≤ length after) × (after ≡ padded (length after) 0 (keyWords (openingKeys (blockOf file)))))
+pub opened-keys : (file keys after : List ℕ) (l : Layout) {plan : List ℕ} {values : List ℤ} → LayoutOfBlock file l → Blank plan keys values
+    → length after ≡ length keys → after ≡ padded (length keys) 0 (tableWords (openingKeys (blockOf file)))
+    → LayoutOfBlock file l × ((2 * maxKeys ≤ length after) × (after ≡ padded (length after) 0 (tableWords (openingKeys (blockOf file)))))
 opened-keys file keys after l laid b kept e =
-    (laid, (omega (arith, b .keysRoom), e ∙ ap (λ (n : ℕ). padded n 0 (keyWords (openingKeys (blockOf file)))) (sym kept)))
+    (laid, (omega (arith, b .keysRoom), e ∙ ap (λ (n : ℕ). padded n 0 (tableWords (openingKeys (blockOf file)))) (sym kept)))
 
-module _ (file : List ℕ) (l : Layout) (laid : Laid file l) (plan keys : List ℕ) (values : List ℤ) (b : Blank plan keys values)
+module _ (file : List ℕ) (l : Layout) (laid : LayoutOfBlock file l) (plan keys : List ℕ) (values : List ℤ) (b : Blank plan keys values)
     (mid : List ℕ) (kept : length mid ≡ length keys) (r : Collected) (after : List ℕ)
     (e : leaving r after ≡ collectedOf (length mid) (analysisOf file (blockOf file))) where
   analysed-to : (a : Analysis) → analysisOf file (blockOf file) ≡ a
@@ -162,32 +162,32 @@ module _ (file : List ℕ) (l : Layout) (laid : Laid file l) (plan keys : List �
       collected-table file (length mid) r after e (laid .read) space v
 
   -- 11 and 12.
-  pub laid-refused : (why : Refusal) (p : Prepared) → r .verdict ≡ verdict.Refused why → p ≡ noneOf why
+  pub laid-refused : (why : Refusal) (p : Prepared) → r .verdict ≡ verdict.Refused why → p ≡ preparedNone why
       → preparing p plan after values ≡ prepareRead (roomOf (length plan) (length keys) (length values)) file (readBlock file)
   unfolding collectedOf prepareAnalysed
   laid-refused why p v made =
       let f : analysisOf file (blockOf file) ≡ refused why = collected-refused file (length mid) r after e why v in
-      let zero : after ≡ repeated (length keys) 0 = ap (λ (x : Left). x .keys) (left-by (refused why) f) in
+      let zero : after ≡ repeated (length keys) 0 = ap (λ (x : CollectedLeft). x .keys) (left-by (refused why) f) in
       refused-left p why (length plan) (length keys) (length values) plan after values made (b .planZero) zero (b .valuesZero)
       ∙ sym (analysed-to (refused why) f)
 
   pub laid-accepted : (plan′ : List ℕ) (values′ : List ℤ) → r .verdict ≡ verdict.Accepted
       → plan′ ≡ padded (length plan) 0 (plans (blockOf file .functions) (keysIn (r .cells) after) [] (blockOf file .calls) (allSets file (blockOf file)))
       → values′ ≡ padded (length values) (pos 0) (map (openingValue (blockOf file .cells)) (keysIn (r .cells) after))
-      → preparing (record { verdict = verdict.Accepted; calls = l .calls; cells = r .cells; first = l .first }) plan′ after values′
+      → preparing (record { verdict = verdict.Accepted; calls = l .calls; cells = r .cells; «first_call» = l .«first_call» }) plan′ after values′
       ≡ prepareRead (roomOf (length plan) (length keys) (length values)) file (readBlock file)
   unfolding collectedOf prepareAnalysed
   laid-accepted plan′ values′ v g h =
       let table : List ℕ = keysIn (r .cells) after in
       let f : analysisOf file (blockOf file) ≡ analysed (allSets file (blockOf file)) table = laid-holding v .table .analysis in
       let left = left-by (analysed (allSets file (blockOf file)) table) f in
-      let cells : r .cells ≡ length table = ap (λ (x : Left). x .answer .cells) left in
-      let words : after ≡ padded (length keys) 0 (keyWords table) = ap (λ (x : Left). x .keys) left in
-      whole (l .calls) (length (blockOf file .calls)) (r .cells) (length table) (l .first) (blockOf file .first) plan′ _ after _ values′ _
+      let cells : r .cells ≡ length table = ap (λ (x : CollectedLeft). x .answer .cells) left in
+      let words : after ≡ padded (length keys) 0 (tableWords table) = ap (λ (x : CollectedLeft). x .keys) left in
+      whole (l .calls) (length (blockOf file .calls)) (r .cells) (length table) (l .«first_call») (blockOf file .firstCall) plan′ _ after _ values′ _
       (laid-calls file l laid) cells (laid-first file l laid) g words h
       ∙ sym (analysed-to (analysed (allSets file (blockOf file)) table) f)
     where
       whole : (c c′ n n′ f f′ : ℕ) (x x′ y y′ : List ℕ) (z z′ : List ℤ) → c ≡ c′ → n ≡ n′ → f ≡ f′ → x ≡ x′ → y ≡ y′ → z ≡ z′
-          → preparing (record { verdict = verdict.Accepted; calls = c; cells = n; first = f }) x y z
-          ≡ preparing (record { verdict = verdict.Accepted; calls = c′; cells = n′; first = f′ }) x′ y′ z′
+          → preparing (record { verdict = verdict.Accepted; calls = c; cells = n; «first_call» = f }) x y z
+          ≡ preparing (record { verdict = verdict.Accepted; calls = c′; cells = n′; «first_call» = f′ }) x′ y′ z′
       whole c c′ n n′ f f′ x x′ y y′ z z′ p q s t u w = rw (p, q, s, t, u, w)

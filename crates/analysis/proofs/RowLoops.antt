@@ -1,4 +1,4 @@
--- The mathematics of the proofs of `rows`, over plain variables: the words of a cell's row, and the loops over a call's entries. Assumes nothing.
+-- The mathematics of the proofs of `rows`, over plain variables: the words of a cell's row, and the loops over a call's entries.
 use mathlib.Core.Path.{_≡_, refl, sym, ap, _∙_}
 use mathlib.Core.Bool.{Bool}
 use mathlib.Core.List.{List, [], _∷_}
@@ -10,7 +10,8 @@ use lib.ListN.{length, getD, set, take, drop, length-take, length-drop, drop-of-
 use lib.Seq.{drop-cons, getD-take, getD-drop, ext-getD}
 use Rattle.wire.specs.Bytes.{stored}
 use Rattle.wire.specs.RowOps.{withBit, unionOf}
-use Rattle.analysis.specs.Masks.{cellOf, unionOver, maskWords, rowAt, withRow, marked, markedIf, addCallWords, InTable}
+use Rattle.analysis.specs.Masks.{unionOver, maskWords, rowAt, withRow, marked, markedIf, addCallWords, CellsInTable}
+use Rattle.footprint.specs.Plan.{entryCell}
 
 -- ---- one cell
 
@@ -61,7 +62,7 @@ module _ (entries : List ℕ) (n : ℕ) (fits : n ≤ length entries) where
   left-none : (k : ℕ) → n ≤ k → drop k (take n entries) ≡ []
   left-none k l = drop-of-length-le (take n entries) {i = k} (simp length-take (omega arith))
 
-  pub entry-in : InTable (take n entries) → (k : ℕ) → k < n → getD entries k 0 < maskWords
+  pub entry-in : CellsInTable (take n entries) → (k : ℕ) → k < n → getD entries k 0 < maskWords
   entry-in h k l = rw (getD-take n entries k 0 l) at (h k)
 
   -- A turn of the union takes the next entry's row; at the end the row is whole.
@@ -77,7 +78,7 @@ module _ (entries : List ℕ) (n : ℕ) (fits : n ≤ length entries) where
 
   -- A turn of a call's marks takes the next entry; at the end all are made.
   module _ (how : ℕ → Bool) (j : ℕ) where
-    pub add-turn : (masks more : List ℕ) (k : ℕ) → k < n → more ≡ markedIf (how (getD entries k 0)) masks (cellOf (getD entries k 0)) j
+    pub add-turn : (masks more : List ℕ) (k : ℕ) → k < n → more ≡ markedIf (how (getD entries k 0)) masks (entryCell (getD entries k 0)) j
         → addCallWords how masks j (drop k (take n entries)) ≡ addCallWords how more j (drop (k + 1) (take n entries))
     unfolding addCallWords
     add-turn masks more k l e = rw (left-some k l, e)

@@ -1,4 +1,4 @@
--- The code of the function that a call names, as the tables of a layout tell it, and the set of a call of a code. Assumes nothing.
+-- The code of the function that a call names, as the tables of a layout tell it, and the set of a call of a code.
 use mathlib.Core.Bool.{Bool}
 use mathlib.Core.List.{List, [], _∷_}
 use Prim.Native.Nat.{ℕ, _+_, _-_, _≤_}

@@ -1,4 +1,4 @@
--- The keys of a call's set inserted into the table one after another, up to the first that does not fit. Assumes nothing.
+-- The keys of a call's set inserted into the table one after another, up to the first that does not fit.
 use mathlib.Core.Path.{_≡_}
 use mathlib.Core.List.{List, [], _∷_}
 use Prim.Native.Nat.{ℕ, zero, suc, _+_, _^_, _≤_, _<_}
@@ -7,7 +7,7 @@ use lib.ListN.{length, getD, drop}
 use Rattle.arith.specs.Choice.{if_then_else_}
 use Rattle.wire.specs.Bytes.{padded}
 use Rattle.block.specs.Limits.{maxCallKeys, maxKeys}
-use Rattle.footprint.specs.Plan.{keyWords}
+use Rattle.footprint.specs.Plan.{tableWords}
 use Rattle.footprint.specs.Table.{insertKey}
 use Rattle.analysis.specs.KeyTable.{keyFrom, keysIn}
 use Rattle.analysis.specs.declared.Sets.{Sets}
@@ -35,10 +35,10 @@ unfoldable pub countOf : List ℕ → ℕ
 countOf table = if leb (length table) maxKeys then length table else maxKeys + 1
 
 -- What the insertion of a list of keys asks of their words, and what it answers and leaves.
-pub record Worded (s : Sets) : Type 0 where
+pub record SetsWorded (s : Sets) : Type 0 where
   pub few : s .count ≤ maxCallKeys
   pub lows : (i : ℕ) → getD (s .lows) i 0 < 2 ^ 32
 
-pub record Filled (n : ℕ) (words ks : List ℕ) (count : ℕ) (after : List ℕ) : Type 0 where
+pub record KeysFilled (n : ℕ) (words ks : List ℕ) (count : ℕ) (after : List ℕ) : Type 0 where
   pub counted : count ≡ countOf (insertAll (keysIn n words) ks)
-  pub held : after ≡ padded (length words) 0 (keyWords (fitting (keysIn n words) ks))
+  pub held : after ≡ padded (length words) 0 (tableWords (fitting (keysIn n words) ks))

@@ -1,4 +1,4 @@
--- The set of a call as the code gathers it: the words and flags of its distinct keys in three buffers of 24 places. Assumes nothing.
+-- The set of a call as the code gathers it: the words and flags of its distinct keys in three buffers of 24 places.
 use mathlib.Core.Path.{_≡_}
 use mathlib.Core.Bool.{Bool, true, false, _&&_}
 use mathlib.Core.List.{List, map}
@@ -52,15 +52,15 @@ unfoldable pub gathered : List Access → Sets
 gathered es = if ltb maxCallKeys (length es) then tooMany else columns es
 
 -- Whether a place of two columns, or of a set, holds the key of a use.
-abbrev pub keyAt : List ℕ → List ℕ → KeyUse → ℕ → Bool
-keyAt hs ls u k = eqb (getD hs k 0) (u .high) && eqb (getD ls k 0) (u .low)
+abbrev pub useStandsAt : List ℕ → List ℕ → KeyUse → ℕ → Bool
+useStandsAt hs ls u k = eqb (getD hs k 0) (u .high) && eqb (getD ls k 0) (u .low)
 
 abbrev pub holdsKey : Sets → KeyUse → ℕ → Bool
-holdsKey s u k = keyAt (s .highs) (s .lows) u k
+holdsKey s u k = useStandsAt (s .highs) (s .lows) u k
 
 -- The place of a use's key among those that stand, or their number.
-unfoldable pub placeIn : Sets → KeyUse → ℕ
-placeIn s u = firstOf (holdsKey s u) (s .count) 0
+unfoldable pub placeOfUse : Sets → KeyUse → ℕ
+placeOfUse s u = firstOf (holdsKey s u) (s .count) 0
 
 abbrev pub useFlags : KeyUse → ℕ
 useFlags u = bit (u .reads) + 2 * bit (u .writes)
@@ -87,7 +87,7 @@ withUseAt s u at =
     if ltb at (s .count) then united s at (useFlags u) else if ltb at maxCallKeys then extended s at u else tooMany
 
 unfoldable pub withUse : Sets → KeyUse → Sets
-withUse s u = if s .over then s else withUseAt s u (placeIn s u)
+withUse s u = if s .over then s else withUseAt s u (placeOfUse s u)
 
 -- The uses that stand, in their order.
 unfoldable pub withUses : Sets → Uses → Sets

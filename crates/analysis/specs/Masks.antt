@@ -1,56 +1,50 @@
 -- A call's row from masks kept per cell, which calls so far touch it and which write it: what the masks are, what a row takes from them,
--- and both on the words of two buffers. Assumes nothing.
+-- and both on the words of two buffers.
 use mathlib.Core.Path.{_≡_}
 use mathlib.Core.Bool.{Bool, true, false, _&&_, _||_}
 use mathlib.Core.List.{List, [], _∷_, map}
-use Prim.Native.Nat.{ℕ, _*_, _/_, _%_, _≤_, _<_}
-use lib.Dec.{eqb, leb}
+use Prim.Native.Nat.{ℕ, _*_, _≤_, _<_}
+use lib.Dec.{eqb}
 use lib.ListN.{length, getD, take, drop}
 use Rattle.arith.specs.Choice.{if_then_else_}
-use Rattle.wire.specs.Rows.{rowOf}
+use Rattle.wire.specs.Rows.{rowOf, rowWords}
 use Rattle.wire.specs.Bytes.{stored}
 use Rattle.wire.specs.RowOps.{withBit, unionOf}
 use Rattle.block.specs.Limits.{maxKeys}
 use Rattle.footprint.specs.Access.{Access}
-use Rattle.footprint.specs.AccessLaws.{Used}
 use Rattle.footprint.specs.Conflict.{member}
-use Rattle.footprint.specs.Plan.{entryWord}
+use Rattle.footprint.specs.Plan.{entryCell, entryWrites, entryWord}
+use Rattle.footprint.specs.Uses.{Used}
 
 -- ---- entries
 
--- The cell number of an entry word, and its uses: every entry touches its cell, some write it.
-abbrev pub cellOf : ℕ → ℕ
-cellOf e = e / 4
-
-abbrev pub touches : ℕ → Bool
-touches e = true
-
-abbrev pub writes : ℕ → Bool
-writes e = leb 2 (e % 4)
+-- Every entry touches its cell; some write it.
+abbrev pub entryTouchesCell : ℕ → Bool
+entryTouchesCell e = true
 
 -- Against which uses of its cell an entry stands: any use if it writes the cell, else only writes.
 abbrev pub against : ℕ → ℕ → Bool
-against e = if writes e then touches else writes
+against e = if entryWrites e then entryTouchesCell else entryWrites
 
 unfoldable pub anyOf : (ℕ → Bool) → List ℕ → Bool
 anyOf p [] = false
 anyOf p (e ∷ es) = p e || anyOf p es
 
 -- Whether one of a call's entries uses a cell in a way, given as a test of entries.
-abbrev pub uses : (ℕ → Bool) → ℕ → List ℕ → Bool
-uses how x es = anyOf (λ e. how e && eqb (cellOf e) x) es
+abbrev pub someEntryUses : (ℕ → Bool) → ℕ → List ℕ → Bool
+someEntryUses how x es = anyOf (λ e. how e && eqb (entryCell e) x) es
 
 -- ---- masks
 
 -- Bit i of a cell's mask: whether call i, of those so far, uses the cell so.
 abbrev pub maskBits : (ℕ → Bool) → List (List ℕ) → ℕ → List Bool
-maskBits how calls x = map (uses how x) calls
+maskBits how calls x = map (someEntryUses how x) calls
 
 abbrev pub touchedBits : List (List ℕ) → ℕ → List Bool
-touchedBits = maskBits touches
+touchedBits = maskBits entryTouchesCell
 
 abbrev pub writerBits : List (List ℕ) → ℕ → List Bool
-writerBits = maskBits writes
+writerBits = maskBits entryWrites
 
 -- The union of a row with those that a call's entries take.
 unfoldable pub unionOver : (ℕ → List ℕ) → List ℕ → List ℕ → List ℕ
@@ -62,14 +56,11 @@ noRow = 0 ∷ 0 ∷ 0 ∷ 0 ∷ []
 
 -- The row of a call behind the calls so far: the union of the masks of its cells, of touched cells where it writes, else of written ones.
 abbrev pub maskRow : List (List ℕ) → List ℕ → List ℕ
-maskRow calls = unionOver (λ e. rowOf (maskBits (against e) calls (cellOf e))) noRow
+maskRow calls = unionOver (λ e. rowOf (maskBits (against e) calls (entryCell e))) noRow
 
 -- ---- the buffers
 
 -- A cell has four words of each buffer.
-abbrev pub rowWords : ℕ
-rowWords = 4
-
 abbrev pub maskWords : ℕ
 maskWords = rowWords * maxKeys
 
@@ -78,7 +69,7 @@ rowAt masks x = take rowWords (drop (rowWords * x) masks)
 
 -- The row that an entry takes from the buffers, and a call's row.
 abbrev pub entryRow : List ℕ → List ℕ → ℕ → List ℕ
-entryRow touched writers e = rowAt (if writes e then touched else writers) (cellOf e)
+entryRow touched writers e = rowAt (if entryWrites e then touched else writers) (entryCell e)
 
 abbrev pub maskRowWords : List ℕ → List ℕ → List ℕ → List ℕ
 maskRowWords touched writers = unionOver (entryRow touched writers) noRow
@@ -96,11 +87,11 @@ markedIf used masks x j = if used then marked masks x j else masks
 -- A buffer with bit j set for each of call j's entries that uses its cell so.
 unfoldable pub addCallWords : (ℕ → Bool) → List ℕ → ℕ → List ℕ → List ℕ
 addCallWords how masks j [] = masks
-addCallWords how masks j (e ∷ es) = addCallWords how (markedIf (how e) masks (cellOf e) j) j es
+addCallWords how masks j (e ∷ es) = addCallWords how (markedIf (how e) masks (entryCell e) j) j es
 
 -- Entries whose cells all have rows in the buffers.
-abbrev pub InTable : List ℕ → Type 0
-InTable es = (k : ℕ) → getD es k 0 < 4 * maxKeys
+abbrev pub CellsInTable : List ℕ → Type 0
+CellsInTable es = (k : ℕ) → getD es k 0 < 4 * maxKeys
 
 -- A buffer that holds the masks of the calls so far, and two that do.
 pub record Masked (how : ℕ → Bool) (masks : List ℕ) (calls : List (List ℕ)) : Type 0 where
@@ -108,8 +99,8 @@ pub record Masked (how : ℕ → Bool) (masks : List ℕ) (calls : List (List �
   pub rows : (x : ℕ) → x < maxKeys → rowAt masks x ≡ rowOf (maskBits how calls x)
 
 pub record MasksOf (touched writers : List ℕ) (calls : List (List ℕ)) : Type 0 where
-  pub touched-masks : Masked touches touched calls
-  pub writer-masks : Masked writes writers calls
+  pub touched-masks : Masked entryTouchesCell touched calls
+  pub writer-masks : Masked entryWrites writers calls
 
 -- ---- sets
 
@@ -118,13 +109,13 @@ abbrev pub entryWords : List ℕ → List Access → List ℕ
 entryWords keys s = map (entryWord keys) s
 
 -- An access that reads or writes, with a key in the table; and sets of such accesses.
-pub record Listed (keys : List ℕ) (e : Access) : Type 0 where
+pub record AccessListed (keys : List ℕ) (e : Access) : Type 0 where
   pub in-table : member (e .key) keys ≡ true
   pub has-use : Used e
 
 abbrev pub AllListed : List ℕ → List Access → Type 0
 AllListed keys [] = Unit {0}
-AllListed keys (e ∷ s) = Listed keys e × AllListed keys s
+AllListed keys (e ∷ s) = AccessListed keys e × AllListed keys s
 
 abbrev pub EveryListed : List ℕ → List (List Access) → Type 0
 EveryListed keys [] = Unit {0}

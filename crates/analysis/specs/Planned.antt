@@ -1,4 +1,4 @@
--- The words of a call in the plan, by the parts that the code stores. Assumes nothing.
+-- The words of a call in the plan, by the parts that the code stores.
 use mathlib.Core.List.{List, [], _∷_, _++_}
 use mathlib.Core.Option.{Option}
 use Prim.Native.Nat.{ℕ, _^_, _≤_, _<_}
@@ -11,7 +11,7 @@ use Rattle.analysis.specs.Gathered.{column}
 use Rattle.analysis.specs.declared.Sets.{Sets}
 
 -- A gathered set whose words make entries: its keys stand, their last words are of 32 bits and their flags of two.
-pub record Fitting (s : Sets) : Type 0 where
+pub record GatheredFits (s : Sets) : Type 0 where
   pub few : s .count ≤ maxCallKeys
   pub lows : (k : ℕ) → getD (s .lows) k 0 < 2 ^ 32
   pub flags : (k : ℕ) → getD (s .flags) k 0 < 4

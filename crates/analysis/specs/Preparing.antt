@@ -1,4 +1,4 @@
--- What `prepare` answers, put together with the buffers that it leaves. Assumes nothing.
+-- What `prepare` answers, put together with the buffers that it leaves.
 use mathlib.Core.Path.{_≡_}
 use mathlib.Core.List.{List}
 use Prim.Native.Nat.{ℕ, _*_, _≤_}
@@ -22,15 +22,15 @@ preparing r plan keys values =
       verdict = r .verdict;
       calls = r .calls;
       cells = r .cells;
-      first = r .first;
+      firstCall = r .«first_call»;
       plan = plan;
       keys = keys;
       values = values;
     }
 
 -- The answer of a refusal.
-abbrev pub noneOf : Refusal → Prepared
-noneOf why = record { verdict = verdict.Refused why; calls = 0; cells = 0; first = 0 }
+abbrev pub preparedNone : Refusal → Prepared
+preparedNone why = record { verdict = verdict.Refused why; calls = 0; cells = 0; «first_call» = 0 }
 
 -- Three buffers that are zero and hold what the limits allow.
 pub record Blank (plan keys : List ℕ) (values : List ℤ) : Type 0 where

@@ -27,15 +27,15 @@ ghost use Prim.Native.Nat.{_+_, _*_, _≤_, _<_};
 ghost use lib.ListN.{length, drop};
 ghost use Rattle.wire.specs.Bytes.{repeated, padded};
 ghost use Rattle.block.specs.Limits.{maxBytes, maxCode, maxFunctions, maxKeys};
-ghost use Rattle.block.specs.Record.{callId, cellOf};
-ghost use Rattle.footprint.specs.Plan.{codeWords, highWord, lowWord, keyWords};
+ghost use Rattle.block.specs.Record.{callId, cellOf, headBytes, callBytes};
+ghost use Rattle.footprint.specs.Plan.{codeWords, highWord, lowWord, tableWords};
 ghost use Rattle.footprint.specs.Table.{refused};
 ghost use Rattle.analysis.specs.Coded.{Narrow, codeIn, codeSets, idPlace, wordsOf};
 ghost use Rattle.analysis.specs.Collected.{collectedOf, leaving};
-ghost use Rattle.analysis.specs.Filling.{Filled, Worded, setKeys};
+ghost use Rattle.analysis.specs.Filling.{KeysFilled, SetsWorded, setKeys};
 ghost use Rattle.analysis.specs.Gathered.{gathered};
 ghost use Rattle.analysis.specs.KeyTable.{Tabled};
-ghost use Rattle.analysis.specs.Laid.{Laid, analysisOf, blockOf, functionAt, openingKeys, setsAt};
+ghost use Rattle.analysis.specs.LayoutOfBlock.{LayoutOfBlock, analysisOf, blockOf, functionAt, openingKeys, setsAt};
 
 // The place of an id among the first n, or n.
 fn id_place(ids: [u64; 64], n: usize, id: u64) -> usize
@@ -71,21 +71,21 @@ fn code_of(l: Layout, c: Call) -> Code
     }
 }
 
-// Where the body of call j starts.
-fn call_place(l: Layout, j: usize) -> usize
-    requires { ⌜ l .first + 34 * j + 4 ≤ maxBytes ⌝ }
-    ensures { λ r. ⌜ r ≡ l .first + 34 * j + 4 ⌝ }
+// Where the body of a call starts.
+fn call_place(l: Layout, call: usize) -> usize
+    requires { ⌜ l .«first_call» + (headBytes + callBytes) * call + headBytes ≤ maxBytes ⌝ }
+    ensures { λ r. ⌜ r ≡ l .«first_call» + (headBytes + callBytes) * call + headBytes ⌝ }
 {
-    l.first + (HEAD_BYTES + CALL_BYTES) * j + HEAD_BYTES
+    l.first_call + (HEAD_BYTES + CALL_BYTES) * call + HEAD_BYTES
 }
 
-// The code of the function that call j names.
-pub(crate) fn call_code(file: &[u8], l: Layout, j: usize) -> Code
-    requires { ⌜ Laid (now file) l ⌝ }
-    requires { ⌜ j < length (blockOf (now file) .calls) ⌝ }
-    ensures { λ r. ⌜ wordsOf r ≡ codeWords (functionAt (now (file .entry)) j) ⌝ }
+// The code of the function that a call names.
+pub(crate) fn call_code(file: &[u8], l: Layout, call: usize) -> Code
+    requires { ⌜ LayoutOfBlock (now file) l ⌝ }
+    requires { ⌜ call < length (blockOf (now file) .calls) ⌝ }
+    ensures { λ r. ⌜ wordsOf r ≡ codeWords (functionAt (now (file .entry)) call) ⌝ }
 {
-    match call_at(file, call_place(l, j)) {
+    match call_at(file, call_place(l, call)) {
         CallBody::InRange(c) => code_of(l, c),
         CallBody::OutOfRange => Code {
             start: 0,
@@ -106,13 +106,13 @@ fn sets_of(file: &[u8], code: Code, c: Call) -> Sets
     function_sets(code_at(file, code.start as usize, size), size, c)
 }
 
-// The set of call j.
-pub(crate) fn call_sets(file: &[u8], l: Layout, j: usize) -> Sets
-    requires { ⌜ Laid (now file) l ⌝ }
-    requires { ⌜ j < length (blockOf (now file) .calls) ⌝ }
-    ensures { λ r. ⌜ r ≡ gathered (setsAt (now (file .entry)) j) ⌝ }
+// The set of a call.
+pub(crate) fn call_sets(file: &[u8], l: Layout, call: usize) -> Sets
+    requires { ⌜ LayoutOfBlock (now file) l ⌝ }
+    requires { ⌜ call < length (blockOf (now file) .calls) ⌝ }
+    ensures { λ r. ⌜ r ≡ gathered (setsAt (now (file .entry)) call) ⌝ }
 {
-    match call_at(file, call_place(l, j)) {
+    match call_at(file, call_place(l, call)) {
         CallBody::InRange(c) => sets_of(file, code_of(l, c), c),
         CallBody::OutOfRange => no_keys(),
     }
@@ -135,10 +135,10 @@ fn cell_low(file: &[u8], at: usize) -> u64
 
 // The keys of the opening, which rise: each goes behind those before it.
 pub(crate) fn opening_keys(file: &[u8], l: Layout, keys: &mut [u64])
-    requires { ⌜ Laid (now file) l ⌝ }
+    requires { ⌜ LayoutOfBlock (now file) l ⌝ }
     requires { ⌜ 2 * maxKeys ≤ length (now keys) ⌝ }
     requires { ⌜ now keys ≡ repeated (length (now keys)) 0 ⌝ }
-    ensures { λ r. ⌜ now (keys .exit) ≡ padded (length (now (keys .entry))) 0 (keyWords (openingKeys (blockOf (now (file .entry))))) ⌝ }
+    ensures { λ r. ⌜ now (keys .exit) ≡ padded (length (now (keys .entry))) 0 (tableWords (openingKeys (blockOf (now (file .entry))))) ⌝ }
 {
     let mut i = 0;
     while i < l.cells {
@@ -153,8 +153,8 @@ pub(crate) fn opening_keys(file: &[u8], l: Layout, keys: &mut [u64])
 // keys, or MAX_KEYS + 1.
 fn insert_sets(keys: &mut [u64], n: usize, s: Sets) -> usize
     requires { ⌜ Tabled n (now keys) ⌝ }
-    requires { ⌜ Worded s ⌝ }
-    ensures { λ r. ⌜ Filled n (now (keys .entry)) (setKeys s) r (now (keys .exit)) ⌝ }
+    requires { ⌜ SetsWorded s ⌝ }
+    ensures { λ r. ⌜ KeysFilled n (now (keys .entry)) (setKeys s) r (now (keys .exit)) ⌝ }
 {
     let mut count = n;
     let mut i = 0;
@@ -182,16 +182,17 @@ fn refuse_keys(keys: &mut [u64], why: Refusal) -> Collected
 // The keys of the calls, call by call, behind those of the opening: 11 for a call of too many keys, 12 for one that passes the limit of
 // all keys.
 pub(crate) fn call_keys(file: &[u8], l: Layout, keys: &mut [u64]) -> Collected
-    requires { ⌜ Laid (now file) l ⌝ }
+    requires { ⌜ LayoutOfBlock (now file) l ⌝ }
     requires { ⌜ 2 * maxKeys ≤ length (now keys) ⌝ }
-    requires { ⌜ now keys ≡ padded (length (now keys)) 0 (keyWords (openingKeys (blockOf (now file)))) ⌝ }
-    ensures { λ r. ⌜ leaving r (now (keys .exit)) ≡ collectedOf (length (now (keys .entry))) (analysisOf (now (file .entry)) (blockOf (now (file .entry)))) ⌝ }
+    requires { ⌜ now keys ≡ padded (length (now keys)) 0 (tableWords (openingKeys (blockOf (now file)))) ⌝ }
+    ensures { λ r. ⌜ leaving r (now (keys .exit))
+        ≡ collectedOf (length (now (keys .entry))) (analysisOf (now (file .entry)) (blockOf (now (file .entry)))) ⌝ }
 {
     let mut n = l.cells;
-    let mut j = 0;
-    while j < l.calls {
-        let at = l.first + (HEAD_BYTES + CALL_BYTES) * j;
-        let s = call_sets(file, l, j);
+    let mut call = 0;
+    while call < l.calls {
+        let at = l.first_call + (HEAD_BYTES + CALL_BYTES) * call;
+        let s = call_sets(file, l, call);
         if s.over {
             return refuse_keys(keys, Refusal::CallKeys(at));
         }
@@ -199,7 +200,7 @@ pub(crate) fn call_keys(file: &[u8], l: Layout, keys: &mut [u64]) -> Collected
         if MAX_KEYS < n {
             return refuse_keys(keys, Refusal::AllKeys(at));
         }
-        j += 1;
+        call += 1;
     }
     Collected {
         verdict: Verdict::Accepted,

@@ -18,7 +18,7 @@ ghost use Rattle.wire.specs.RowOps.{firstOf};
 ghost use Rattle.block.specs.Instruction.{decode, instrBytes};
 ghost use Rattle.block.specs.Limits.{maxCode};
 ghost use Rattle.footprint.specs.Access.{entryAccesses};
-ghost use Rattle.analysis.specs.Gathered.{Wide, gathered, inParts, keyAt, useFlags, withUse, withUses};
+ghost use Rattle.analysis.specs.Gathered.{Wide, gathered, inParts, useStandsAt, useFlags, withUse, withUses};
 ghost use Rattle.footprint.specs.Sets.{codeAccesses, decodedAccesses, mergeAll};
 ghost use Rattle.footprint.specs.Uses.{usesOf};
 
@@ -54,7 +54,7 @@ fn use_flags(u: KeyUse) -> u64
 // The place of a use's key among the first `count`, or their number.
 fn place(highs: &[u64], lows: &[u64], count: usize, u: KeyUse) -> usize
     requires { ⌜ (count ≤ length (now highs)) × (count ≤ length (now lows)) ⌝ }
-    ensures { λ r. ⌜ r ≡ firstOf (keyAt (now (highs .entry)) (now (lows .entry)) u) count 0 ⌝ }
+    ensures { λ r. ⌜ r ≡ firstOf (useStandsAt (now (highs .entry)) (now (lows .entry)) u) count 0 ⌝ }
 {
     let mut at = 0;
     while at < count {
@@ -76,7 +76,8 @@ fn with_use(
     u: KeyUse,
 ) -> Standing
     requires { ⌜ Wide t (now highs) (now lows) (now flags) ⌝ }
-    ensures { λ r. ⌜ inParts r (now (highs .exit)) (now (lows .exit)) (now (flags .exit)) ≡ withUse (inParts t (now (highs .entry)) (now (lows .entry)) (now (flags .entry))) u ⌝ }
+    ensures { λ r. ⌜ inParts r (now (highs .exit)) (now (lows .exit)) (now (flags .exit))
+        ≡ withUse (inParts t (now (highs .entry)) (now (lows .entry)) (now (flags .entry))) u ⌝ }
 {
     if t.over {
         return t;
@@ -115,7 +116,8 @@ fn with_uses(
     us: Uses,
 ) -> Standing
     requires { ⌜ Wide t (now highs) (now lows) (now flags) ⌝ }
-    ensures { λ r. ⌜ inParts r (now (highs .exit)) (now (lows .exit)) (now (flags .exit)) ≡ withUses (inParts t (now (highs .entry)) (now (lows .entry)) (now (flags .entry))) us ⌝ }
+    ensures { λ r. ⌜ inParts r (now (highs .exit)) (now (lows .exit)) (now (flags .exit))
+        ≡ withUses (inParts t (now (highs .entry)) (now (lows .entry)) (now (flags .entry))) us ⌝ }
 {
     if us.count == 0 {
         return t;

@@ -20,8 +20,8 @@ ghost use mathlib.Core.Path.{_≡_};
 ghost use lib.ListN.{length};
 ghost use Rattle.block.specs.Reader.{readBlock};
 ghost use Rattle.footprint.specs.Plan.{roomEnough, prepareRead, preparedOf};
-ghost use Rattle.analysis.specs.Laid.{Laid};
-ghost use Rattle.analysis.specs.Preparing.{roomOf, preparing, noneOf, Blank};
+ghost use Rattle.analysis.specs.LayoutOfBlock.{LayoutOfBlock};
+ghost use Rattle.analysis.specs.Preparing.{roomOf, preparing, preparedNone, Blank};
 
 // The distinct keys of a call, of which the first `count` stand, each with its flags: 1 if it is read, plus 2 if it is written. Where
 // there are more than the limit, `over` stands and all else is zero.
@@ -58,18 +58,18 @@ pub struct Prepared {
     pub verdict: Verdict,
     pub calls: usize,
     pub cells: usize,
-    pub first: usize,
+    pub first_call: usize,
 }
 
 // What is answered of a refused block.
 fn refused(why: Refusal) -> Prepared
-    ensures { λ r. ⌜ r ≡ noneOf why ⌝ }
+    ensures { λ r. ⌜ r ≡ preparedNone why ⌝ }
 {
     Prepared {
         verdict: Verdict::Refused(why),
         calls: 0,
         cells: 0,
-        first: 0,
+        first_call: 0,
     }
 }
 
@@ -94,9 +94,11 @@ fn prepare_laid(
     keys: &mut [u64],
     values: &mut [i64],
 ) -> Prepared
-    requires { ⌜ Laid (now file) l ⌝ }
+    requires { ⌜ LayoutOfBlock (now file) l ⌝ }
     requires { ⌜ Blank (now plan) (now keys) (now values) ⌝ }
-    ensures { λ r. ⌜ preparing r (now (plan .exit)) (now (keys .exit)) (now (values .exit)) ≡ prepareRead (roomOf (length (now (plan .entry))) (length (now (keys .entry))) (length (now (values .entry)))) (now (file .entry)) (readBlock (now (file .entry))) ⌝ }
+    ensures { λ r. ⌜ preparing r (now (plan .exit)) (now (keys .exit)) (now (values .exit))
+        ≡ prepareRead (roomOf (length (now (plan .entry))) (length (now (keys .entry))) (length (now (values .entry))))
+        (now (file .entry)) (readBlock (now (file .entry))) ⌝ }
 {
     opening_keys(file, l, keys);
     let collected = call_keys(file, l, keys);
@@ -111,7 +113,7 @@ fn prepare_laid(
                 verdict: Verdict::Accepted,
                 calls: l.calls,
                 cells,
-                first: l.first,
+                first_call: l.first_call,
             }
         }
     }
@@ -120,7 +122,9 @@ fn prepare_laid(
 // A file read and prepared, in cleared buffers: 1 to 12.
 fn prepare_read(file: &[u8], plan: &mut [u64], keys: &mut [u64], values: &mut [i64]) -> Prepared
     requires { ⌜ Blank (now plan) (now keys) (now values) ⌝ }
-    ensures { λ r. ⌜ preparing r (now (plan .exit)) (now (keys .exit)) (now (values .exit)) ≡ prepareRead (roomOf (length (now (plan .entry))) (length (now (keys .entry))) (length (now (values .entry)))) (now (file .entry)) (readBlock (now (file .entry))) ⌝ }
+    ensures { λ r. ⌜ preparing r (now (plan .exit)) (now (keys .exit)) (now (values .exit))
+        ≡ prepareRead (roomOf (length (now (plan .entry))) (length (now (keys .entry))) (length (now (values .entry))))
+        (now (file .entry)) (readBlock (now (file .entry))) ⌝ }
 {
     let l = reader::read_block(file);
     let verdict = l.verdict;
@@ -133,7 +137,9 @@ fn prepare_read(file: &[u8], plan: &mut [u64], keys: &mut [u64], values: &mut [i
 // A block's verdict and counts, with its plan, its key table and its opening values in the lent buffers: 20 if one is too short, then 1
 // to 12. The buffers are zero if it is refused.
 pub fn prepare(file: &[u8], plan: &mut [u64], keys: &mut [u64], values: &mut [i64]) -> Prepared
-    ensures { λ r. ⌜ preparing r (now (plan .exit)) (now (keys .exit)) (now (values .exit)) ≡ preparedOf (roomOf (length (now (plan .entry))) (length (now (keys .entry))) (length (now (values .entry)))) (now (file .entry)) ⌝ }
+    ensures { λ r. ⌜ preparing r (now (plan .exit)) (now (keys .exit)) (now (values .exit))
+        ≡ preparedOf (roomOf (length (now (plan .entry))) (length (now (keys .entry))) (length (now (values .entry))))
+        (now (file .entry)) ⌝ }
 {
     wire::clear_words(plan);
     wire::clear_words(keys);

@@ -1,16 +1,17 @@
 // A call's row of earlier conflicting calls, from masks kept per cell: which calls so far touch it, and which write it.
 use block::limits::MAX_CALL_KEYS;
-use footprint::layout::FLAGS;
-use footprint::layout::WRITES;
+use footprint::layout::ENTRY_FLAGS;
+use footprint::layout::WRITES_FLAG;
+use wire::ROW_WORDS;
 ghost use mathlib.Core.Path.{_≡_};
 ghost use Prim.Native.Nat.{_+_, _*_, _≤_, _<_};
 ghost use lib.ListN.{length, take};
 ghost use Rattle.block.specs.Limits.{maxCallKeys};
-ghost use Rattle.analysis.specs.Masks.{cellOf, touches, writes, rowWords, maskWords, rowAt, withRow, entryRow, maskRowWords, marked, markedIf, addCallWords, InTable};
+ghost use Rattle.analysis.specs.Masks.{entryTouchesCell, maskWords, rowAt, withRow, entryRow, maskRowWords, marked, markedIf, addCallWords, CellsInTable};
+ghost use Rattle.wire.specs.Rows.{rowWords};
+ghost use Rattle.footprint.specs.Plan.{entryCell, entryWrites};
 
 // A row has four words of 64 bits.
-const ROW_WORDS: usize = 4;
-
 // A cell's row in one of the buffers.
 fn row_at(masks: &[u64], cell: usize) -> [u64; 4]
     requires { ⌜ rowWords * cell + rowWords ≤ length (now masks) ⌝ }
@@ -27,8 +28,8 @@ fn entry_row(touched: &[u64], writers: &[u64], entry: u64) -> [u64; 4]
     requires { ⌜ maskWords ≤ length (now writers) ⌝ }
     ensures { λ r. ⌜ r ≡ entryRow (now (touched .entry)) (now (writers .entry)) entry ⌝ }
 {
-    let cell = (entry / FLAGS) as usize;
-    if entry % FLAGS < WRITES {
+    let cell = (entry / ENTRY_FLAGS) as usize;
+    if entry % ENTRY_FLAGS < WRITES_FLAG {
         row_at(writers, cell)
     } else {
         row_at(touched, cell)
@@ -43,7 +44,7 @@ pub(crate) fn row_for(
     n: usize,
 ) -> [u64; 4]
     requires { ⌜ n ≤ maxCallKeys ⌝ }
-    requires { ⌜ InTable (take n entries) ⌝ }
+    requires { ⌜ CellsInTable (take n entries) ⌝ }
     requires { ⌜ maskWords ≤ length (now touched) ⌝ }
     requires { ⌜ maskWords ≤ length (now writers) ⌝ }
     ensures { λ r. ⌜ r ≡ maskRowWords (now (touched .entry)) (now (writers .entry)) (take n entries) ⌝ }
@@ -70,48 +71,48 @@ fn put_row(masks: &mut [u64], cell: usize, row: [u64; 4])
     masks[at + 3] = row[3];
 }
 
-// Call j is set in a cell's row.
-fn mark(masks: &mut [u64], cell: usize, j: usize)
+// A call is set in a cell's row.
+fn mark(masks: &mut [u64], cell: usize, call: usize)
     requires { ⌜ rowWords * cell + rowWords ≤ length (now masks) ⌝ }
-    ensures { λ r. ⌜ now (masks .exit) ≡ marked (now (masks .entry)) cell j ⌝ }
+    ensures { λ r. ⌜ now (masks .exit) ≡ marked (now (masks .entry)) cell call ⌝ }
 {
     let row = row_at(masks, cell);
-    put_row(masks, cell, wire::row_set(row, j));
+    put_row(masks, cell, wire::row_set(row, call));
 }
 
-// One entry of call j: its cell is touched, and written if the entry says so.
-fn add_entry(touched: &mut [u64], writers: &mut [u64], entry: u64, j: usize)
+// One entry of a call: its cell is touched, and written if the entry says so.
+fn add_entry(touched: &mut [u64], writers: &mut [u64], entry: u64, call: usize)
     requires { ⌜ entry < maskWords ⌝ }
     requires { ⌜ maskWords ≤ length (now touched) ⌝ }
     requires { ⌜ maskWords ≤ length (now writers) ⌝ }
-    ensures { λ r. ⌜ now (touched .exit) ≡ marked (now (touched .entry)) (cellOf entry) j ⌝ }
-    ensures { λ r. ⌜ now (writers .exit) ≡ markedIf (writes entry) (now (writers .entry)) (cellOf entry) j ⌝ }
+    ensures { λ r. ⌜ now (touched .exit) ≡ marked (now (touched .entry)) (entryCell entry) call ⌝ }
+    ensures { λ r. ⌜ now (writers .exit) ≡ markedIf (entryWrites entry) (now (writers .entry)) (entryCell entry) call ⌝ }
 {
-    let cell = (entry / FLAGS) as usize;
-    mark(touched, cell, j);
-    if WRITES <= entry % FLAGS {
-        mark(writers, cell, j);
+    let cell = (entry / ENTRY_FLAGS) as usize;
+    mark(touched, cell, call);
+    if WRITES_FLAG <= entry % ENTRY_FLAGS {
+        mark(writers, cell, call);
     }
 }
 
-// Call j, which has n entries, is one of the calls so far.
+// A call, which has n entries, is one of the calls so far.
 pub(crate) fn add_call(
     touched: &mut [u64],
     writers: &mut [u64],
     entries: [u64; MAX_CALL_KEYS],
     n: usize,
-    j: usize,
+    call: usize,
 )
     requires { ⌜ n ≤ maxCallKeys ⌝ }
-    requires { ⌜ InTable (take n entries) ⌝ }
+    requires { ⌜ CellsInTable (take n entries) ⌝ }
     requires { ⌜ maskWords ≤ length (now touched) ⌝ }
     requires { ⌜ maskWords ≤ length (now writers) ⌝ }
-    ensures { λ r. ⌜ now (touched .exit) ≡ addCallWords touches (now (touched .entry)) j (take n entries) ⌝ }
-    ensures { λ r. ⌜ now (writers .exit) ≡ addCallWords writes (now (writers .entry)) j (take n entries) ⌝ }
+    ensures { λ r. ⌜ now (touched .exit) ≡ addCallWords entryTouchesCell (now (touched .entry)) call (take n entries) ⌝ }
+    ensures { λ r. ⌜ now (writers .exit) ≡ addCallWords entryWrites (now (writers .entry)) call (take n entries) ⌝ }
 {
     let mut k = 0;
     while k < n {
-        add_entry(touched, writers, entries[k], j);
+        add_entry(touched, writers, entries[k], call);
         k += 1;
     }
 }

@@ -1,4 +1,4 @@
--- What the proofs of this crate cite: how the machine reads a signed number back from its bits, and the arithmetic of each operation over plain integers. Assumes nothing.
+-- What the proofs of this crate cite: how the machine reads a signed number back from its bits, and the arithmetic of each operation over plain integers.
 use mathlib.Core.Path.{_≡_, refl, sym, _∙_, ap, ap₂, subst}
 use mathlib.Core.Bool.{Bool, true, false, not}
 use Prim.Native.Nat.{ℕ, zero, suc, _+_, _*_, _-_, _/_, _%_, _^_, _<_, _≤_, min}
@@ -16,7 +16,7 @@ use borrow.Author.Tests.{eq-eqb, ne-eqb, lt-ltb, ltb-true, ltb-false}
 use Rattle.arith.specs.Choice.{if_then_else_}
 use Rattle.arith.specs.Compare.{eqZ}
 use Rattle.arith.specs.Exact.{checked, subOf, mulOf, floorBy, divOf}
-use Rattle.arith.specs.Laws.{P, N, equal, sum, diff, P-neg, N-neg, ltZ-true, ltZ-false, eqZ-true, eqZ-false, sfits-parts, parts-sfits, sfits-fits, small-fits, large-fits, checked-value, checked-overflow}
+use Rattle.arith.proofs.IntegerLaws.{posPart, negPart, equal, sum, diff, P-neg, N-neg, ltZ-true, ltZ-false, eqZ-true, eqZ-false, sfits-parts, parts-sfits, sfits-fits, small-fits, large-fits, checked-value, checked-overflow}
 use Rattle.arith.specs.declared.Checked.the-variants.{Value, Overflow, ZeroDivisor}
 
 -- ---- a signed number as the machine reads it back
@@ -24,29 +24,29 @@ use Rattle.arith.specs.declared.Checked.the-variants.{Value, Overflow, Z
 abbrev pub read : ℤ → ℤ
 read z = toZ w64 (ofZ w64 z)
 
-pub back : {z : ℤ} → SFits w64 z → read z ≡ z
-back {z} f = toZ-ofZ w64 z f
+pub read-back : {z : ℤ} → SFits w64 z → read z ≡ z
+read-back {z} f = toZ-ofZ w64 z f
 
 pub read-fits : {z : ℤ} → SFits w64 z → SFits w64 (read z)
-read-fits f = subst (SFits w64) (sym (back f)) f
+read-fits f = subst (SFits w64) (sym (read-back f)) f
 
 -- A value that was stored is the checked one.
 pub value : {s z : ℤ} → SFits w64 s → s ≡ z → Value (read s) ≡ checked z
-value {s} {z} f e = ap Value (back f) ∙ sym (checked-value s (sfits-fits f)) ∙ ap checked e
+value {s} {z} f e = ap Value (read-back f) ∙ sym (checked-value s (sfits-fits f)) ∙ ap checked e
 
 -- A number is the one that its bits name.
-pub named : {z : ℤ} {n : ℕ} → SFits w64 z → ofZ w64 z ≡ n → z ≡ toZ w64 n
-named f e = sym (back f) ∙ ap (toZ w64) e
+pub bits-name : {z : ℤ} {n : ℕ} → SFits w64 z → ofZ w64 z ≡ n → z ≡ toZ w64 n
+bits-name f e = sym (read-back f) ∙ ap (toZ w64) e
 
 pub unnamed : {z : ℤ} (v : ℤ) → SFits w64 z → (ofZ w64 z ≡ ofZ w64 v → ⊥) → read z ≡ v → ⊥
-unnamed v f h e = h (ap (ofZ w64) (sym (back f) ∙ e))
+unnamed v f h e = h (ap (ofZ w64) (sym (read-back f) ∙ e))
 
 pub same-bits : {a b : ℤ} → SFits w64 a → SFits w64 b → eqb (ofZ w64 a) (ofZ w64 b) ≡ eqZ a b
 same-bits {a} {b} f g = go (eqZ a b) refl
   where
     go : (t : Bool) → eqZ a b ≡ t → eqb (ofZ w64 a) (ofZ w64 b) ≡ t
     go true e = eq-eqb _ _ (ap (ofZ w64) (eqZ-true a b e))
-    go false e = ne-eqb _ _ (λ h. eqZ-false a b e (named f h ∙ back g))
+    go false e = ne-eqb _ _ (λ h. eqZ-false a b e (bits-name f h ∙ read-back g))
 
 -- ---- a number and its magnitude
 
@@ -79,22 +79,22 @@ module _ {z : ℤ} (f : SFits w64 z) where
   flip-fits t = subst (SFits w64) (sym (mag-neg (read z) t)) (record { sfits = read-fits f .sfits })
 
   pub read-neg : ltZ (read z) (pos 0) ≡ true → read (negsuc 0 -ℤ read z) ≡ pos (mag z)
-  read-neg t = back (flip-fits t) ∙ mag-neg (read z) t ∙ ap (λ (x : ℤ). pos (mag x)) (back f)
+  read-neg t = read-back (flip-fits t) ∙ mag-neg (read z) t ∙ ap (λ (x : ℤ). pos (mag x)) (read-back f)
 
   pub read-pos : ltZ (read z) (pos 0) ≡ false → read z ≡ pos (mag z)
-  read-pos t = mag-pos (read z) t ∙ ap (λ (x : ℤ). pos (mag x)) (back f)
+  read-pos t = mag-pos (read z) t ∙ ap (λ (x : ℤ). pos (mag x)) (read-back f)
 
 -- A number from 0 up may be cast to 64 bits without a sign.
 pub castable : {z : ℤ} {n : ℕ} → z ≡ pos n → n < 2 ^ 63 → T (nonNeg z) × Fits w64 (natAbs z)
 castable e h = rw e (tt, record { fits = omega arith })
 
-pub told : {z : ℤ} {n : ℕ} → z ≡ pos n → n < 2 ^ 63 → (natAbs z ≡ n) × (natAbs z < 2 ^ 63)
-told e h = rw e (refl, h)
+pub magnitude-told : {z : ℤ} {n : ℕ} → z ≡ pos n → n < 2 ^ 63 → (natAbs z ≡ n) × (natAbs z < 2 ^ 63)
+magnitude-told e h = rw e (refl, h)
 
 -- ---- the two values of a magnitude
 
-pub value-above : {p : ℕ} → p < 2 ^ 63 → Value (toZ w64 p) ≡ checked (pos p)
-value-above {p} h = ap Value (toZ-pos w64 p h) ∙ sym (checked-value (pos p) (lt-ltb p (2 ^ 63) h))
+pub checked-above : {p : ℕ} → p < 2 ^ 63 → Value (toZ w64 p) ≡ checked (pos p)
+checked-above {p} h = ap Value (toZ-pos w64 p h) ∙ sym (checked-value (pos p) (lt-ltb p (2 ^ 63) h))
 
 pub overflow-above : {p : ℕ} → 2 ^ 63 ≤ p → Overflow ≡ checked (pos p)
 overflow-above {p} h = sym (checked-overflow (pos p) (large-fits (pos p) (omega arith)))
@@ -133,11 +133,11 @@ module _ {a b : ℤ} (f : SFits w64 a) (g : SFits w64 b) where
       (omega (arith, diff a b, ltZ-false a (pos 0) s, ltZ-false b (pos 0) u, sfits-parts f, sfits-parts g))
 
 -- A number from its sign and `mag`, in parts.
-mag-below : (z : ℤ) → ltZ z (pos 0) ≡ true → (P z ≡ 0) × (N z ≡ mag z + 1)
+mag-below : (z : ℤ) → ltZ z (pos 0) ≡ true → (posPart z ≡ 0) × (negPart z ≡ mag z + 1)
 mag-below (pos n) t = absurd (omega (arith, ltZ-true (pos n) (pos 0) t))
 mag-below (negsuc n) t = omega arith
 
-mag-above : (z : ℤ) → ltZ z (pos 0) ≡ false → (P z ≡ mag z) × (N z ≡ 0)
+mag-above : (z : ℤ) → ltZ z (pos 0) ≡ false → (posPart z ≡ mag z) × (negPart z ≡ 0)
 mag-above (pos n) t = omega arith
 mag-above (negsuc n) t = absurd (omega (arith, ltZ-false (negsuc n) (pos 0) t))
 
@@ -146,22 +146,22 @@ module _ {a b : ℤ} (f : SFits w64 a) (g : SFits w64 b) {x y : ℕ} (e : x ≡ 
   pub sum-above : ltZ (read a) (pos 0) ≡ false → ltZ (read b) (pos 0) ≡ false → pos (x + y) ≡ a +ℤ b
   sum-above s u =
       equal (pos (x + y)) (read a +ℤ read b) (omega (arith, sum (read a) (read b), mag-above (read a) s, mag-above (read b) u))
-      ∙ ap₂ _+ℤ_ (back f) (back g)
+      ∙ ap₂ _+ℤ_ (read-back f) (read-back g)
 
   pub sum-beneath : ltZ (read a) (pos 0) ≡ true → ltZ (read b) (pos 0) ≡ true → negsuc (x + y + 1) ≡ a +ℤ b
   sum-beneath s u =
       equal (negsuc (x + y + 1)) (read a +ℤ read b) (omega (arith, sum (read a) (read b), mag-below (read a) s, mag-below (read b) u))
-      ∙ ap₂ _+ℤ_ (back f) (back g)
+      ∙ ap₂ _+ℤ_ (read-back f) (read-back g)
 
   pub diff-above : ltZ (read a) (pos 0) ≡ false → ltZ (read b) (pos 0) ≡ true → pos (x + y + 1) ≡ a -ℤ b
   diff-above s u =
       equal (pos (x + y + 1)) (read a -ℤ read b) (omega (arith, diff (read a) (read b), mag-above (read a) s, mag-below (read b) u))
-      ∙ ap₂ _-ℤ_ (back f) (back g)
+      ∙ ap₂ _-ℤ_ (read-back f) (read-back g)
 
   pub diff-beneath : ltZ (read a) (pos 0) ≡ true → ltZ (read b) (pos 0) ≡ false → negsuc (x + y) ≡ a -ℤ b
   diff-beneath s u =
       equal (negsuc (x + y)) (read a -ℤ read b) (omega (arith, diff (read a) (read b), mag-below (read a) s, mag-above (read b) u))
-      ∙ ap₂ _-ℤ_ (back f) (back g)
+      ∙ ap₂ _-ℤ_ (read-back f) (read-back g)
 
 -- ---- products: a product above 2 ^ 63 is as good as 2 ^ 63 + 1
 
@@ -273,10 +273,10 @@ by-minus-one a e = rw e (ap checked (+ℤ-idl (negℤ a) ∙ sym (floor-one (neg
 
 -- One less than a quotient that was stored.
 pub less-fits : {q : ℤ} {a b : ℤ} → SFits w64 q → SFits w64 a → Floor a b (q -ℤ pos 1) → SFits w64 (read q -ℤ pos 1)
-less-fits f g h = subst (λ (x : ℤ). SFits w64 (x -ℤ pos 1)) (sym (back f)) (floor-fits g h)
+less-fits f g h = subst (λ (x : ℤ). SFits w64 (x -ℤ pos 1)) (sym (read-back f)) (floor-fits g h)
 
 pub less-value : {q : ℤ} {a b : ℤ} → SFits w64 q → SFits w64 a → Floor a b (q -ℤ pos 1) → Value (read (read q -ℤ pos 1)) ≡ divOf a b
-less-value f g h = value (less-fits f g h) (ap (λ (x : ℤ). x -ℤ pos 1) (back f)) ∙ sym (h .is)
+less-value f g h = value (less-fits f g h) (ap (λ (x : ℤ). x -ℤ pos 1) (read-back f)) ∙ sym (h .is)
 
 -- The remainder has the other sign: one less than the truncated quotient.
 less-of : (n d r : ℕ) → suc n % suc d ≡ r → 0 < r → negsuc (n / suc d) ≡ negℤ (pos (suc n / suc d)) -ℤ pos 1

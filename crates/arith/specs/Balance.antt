@@ -1,4 +1,4 @@
--- The balance limit, over the list of all balances. Assumes nothing.
+-- The balance limit, over the list of all balances.
 use mathlib.Core.Bool.{Bool, true, _&&_}
 use mathlib.Core.List.{List, [], _∷_}
 use Prim.Native.Nat.{_-_, _^_}

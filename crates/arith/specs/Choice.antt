@@ -1,4 +1,4 @@
--- Choice by a test: the branching form of all definitions. Assumes nothing.
+-- Choice by a test: the branching form of all definitions.
 use mathlib.Core.Bool.{Bool, true, false}
 
 infixr 5 if_then_else_

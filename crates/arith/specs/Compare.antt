@@ -1,4 +1,4 @@
--- Equality of two integers as a test, beside the library's `ltZ` and `leZ`. Assumes nothing.
+-- Equality of two integers as a test, beside the library's `ltZ` and `leZ`.
 use mathlib.Core.Bool.{Bool, false}
 use lib.IntN.{ℤ, pos, negsuc}
 use lib.Dec.{eqb}

@@ -1,4 +1,4 @@
--- Names every definition of this crate that computes, so that a worked example opens them all by one name. Assumes nothing.
+-- Names every definition of this crate that computes, so that a worked example opens them all by one name.
 use Rattle.arith.specs.Balance.{total, noneBelowZero}
 use Rattle.arith.specs.Exact.{checked, floorBy, divOf, signed, unsigned}
 

@@ -1,4 +1,4 @@
--- Exact arithmetic on values: integers of 64 signed bits. Each operation is the exact one over ℤ, and then a test of its range. Assumes nothing.
+-- Exact arithmetic on values: integers of 64 signed bits. Each operation is the exact one over ℤ, and then a test of its range.
 use mathlib.Core.Bool.{Bool}
 use Prim.Native.Nat.{ℕ, zero, suc, _-_, _/_, _^_}
 use lib.IntN.{ℤ, pos, negsuc, negℤ, _+ℤ_, _-ℤ_, _*ℤ_}

@@ -1,4 +1,4 @@
--- The divisions of document 01, computed: "-7 by 2: -4; 7 by -2: -4; -2^63 by -1: outcome 4; by 0: 4". Assumes nothing.
+-- The divisions of document 01, computed: "-7 by 2: -4; 7 by -2: -4; -2^63 by -1: outcome 4; by 0: 4".
 use mathlib.Core.Path.{_≡_, refl}
 use Prim.Native.Nat.{_-_, _^_}
 use lib.IntN.{pos, negsuc}

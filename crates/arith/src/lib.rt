@@ -8,6 +8,9 @@ ghost use Rattle.arith.specs.Choice.{if_then_else_};
 ghost use Rattle.arith.specs.Exact.{checked, addOf, subOf, mulOf, divOf, signed, unsigned};
 ghost use Rattle.arith.specs.Compare.{eqZ};
 
+// The largest value, and the largest sum of balances: `largest` in specs/Balance.antt.
+pub const LARGEST: i64 = 9223372036854775807;
+
 // 2^63: the first number above the range, and the bits of the least one.
 const HALF64: u64 = 9223372036854775808;
 

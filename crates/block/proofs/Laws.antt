@@ -1,4 +1,4 @@
--- What the proofs of this crate cite: parts of lists, signs, and what an address tells of a payee and of a call. Assumes nothing.
+-- What the proofs of this crate cite: parts of lists, signs, and what an address tells of a payee and of a call.
 use mathlib.Core.Path.{_≡_, refl, sym, ap, _∙_}
 use mathlib.Core.Bool.{true, false}
 use mathlib.Core.List.{List}
@@ -10,10 +10,10 @@ use lib.Seq.{take-all, drop-length, length-take-le}
 use lib.Signed.{ltZ, nonNeg}
 use borrow.Author.Tests.{ltb-true, lt-ltb, le-ltb, le-leb, lt-leb}
 use Rattle.wire.specs.Bytes.{readLe}
-use Rattle.wire.specs.Laws.{read-one}
+use Rattle.wire.proofs.BytesLaws.{read-one}
 use Rattle.arith.specs.Exact.{signed}
 use Rattle.block.specs.Key.{firstContract, addressOf, addressNumber, payeeOf}
-use Rattle.block.specs.KeyLaws.{number-named, account-below, contract-above}
+use Rattle.block.proofs.KeyLaws.{number-named, account-below, contract-above}
 use Rattle.block.specs.Instruction.{decodeParts, decode}
 use Rattle.block.specs.Record.{callOf}
 use Rattle.block.specs.declared.address.Account.{Account}
@@ -55,8 +55,8 @@ decode-parts index size s p q r t u =
     simp (p ∙ sym (read-one s 0), q ∙ sym (read-one s 1), r ∙ sym (read-one s 2), t ∙ sym (read-one s 3), u)
 
 -- What the address of a number that was read is.
-pub named : {r x : Address} {n m : ℕ} → r ≡ addressOf n → n ≡ m → r ≡ x → addressOf m ≡ x
-named e f g = sym (e ∙ ap addressOf f) ∙ g
+pub address-read : {r x : Address} {n m : ℕ} → r ≡ addressOf n → n ≡ m → r ≡ x → addressOf m ≡ x
+address-read e f g = sym (e ∙ ap addressOf f) ∙ g
 
 -- The first word of a key, by the number of its address.
 pub high-named : (n field a : ℕ) {r : Address} {high : ℕ} → r ≡ addressOf n → high ≡ addressNumber r * 2 ^ 48 + field * 2 ^ 32 + a

@@ -1,4 +1,4 @@
--- Blocks and texts from their parts, for the worked examples of this crate and those above it. Assumes nothing.
+-- Blocks and texts from their parts, for the worked examples of this crate and those above it.
 use mathlib.Core.List.{List, [], _∷_, _++_}
 use Prim.Native.Nat.{ℕ, zero, suc, _+_, _*_}
 use Prim.Native.Char.{code}
@@ -15,9 +15,9 @@ text string.[] = []
 text (string._∷_ c s) = code c ∷ text s
 
 -- The parts, one behind the other.
-unfoldable pub joined : List (List ℕ) → List ℕ
-joined [] = []
-joined (p ∷ ps) = p ++ joined ps
+unfoldable pub joinedParts : List (List ℕ) → List ℕ
+joinedParts [] = []
+joinedParts (p ∷ ps) = p ++ joinedParts ps
 
 -- The same part several times.
 unfoldable pub times : ℕ → List ℕ → List ℕ
@@ -63,7 +63,7 @@ JEQ x y to = instr 14 x y 0 to
 
 -- The records of a block.
 abbrev pub function : (contract number : ℕ) → List (List ℕ) → List ℕ
-function contract number instrs = recordOf 1 (bytesOf 2 contract ++ bytesOf 2 number ++ joined instrs)
+function contract number instrs = recordOf 1 (bytesOf 2 contract ++ bytesOf 2 number ++ joinedParts instrs)
 
 abbrev pub cell : (address field a b : ℕ) → ℤ → List ℕ
 cell address field a b value =

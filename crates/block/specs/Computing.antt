@@ -1,4 +1,4 @@
--- Names every definition of this crate that computes, so that a worked example opens them all by one name. Assumes nothing.
+-- Names every definition of this crate that computes, so that a worked example opens them all by one name.
 use Rattle.block.specs.Encoding.{records, fileOf, placed, blockFor}
 use Rattle.block.specs.Instruction.{sourceOf, decodeEnd, decodeSet, decodeArg, decodeFact, decodeArith, decodeCell, decodePay, decodeJump, decodeParts, firstInvalid}
 use Rattle.block.specs.Key.{addressOf, payeeOf, keyAllowed}

@@ -1,5 +1,5 @@
 -- "Block file": a block by itself, with the code of its functions, and the bytes of the file that holds it; and what document 01 asks of a
--- block: ranges, orders and limits. Nothing here reads a file. Assumes nothing.
+-- block: ranges, orders and limits. Nothing here reads a file.
 use mathlib.Core.Path.{_≡_}
 use mathlib.Core.Bool.{true}
 use mathlib.Core.List.{List, [], _∷_, _++_, map}
@@ -129,7 +129,7 @@ pub record CallsKeep (cs : List Call) : Type 0 where
   pub few : length cs ≤ maxCalls
 
 -- "At most 65,536 bytes", and each kind's own.
-pub record Keeps (t : Contents) : Type 0 where
+pub record KeepsRules (t : Contents) : Type 0 where
   pub functions : FunctionsKeep (t .functions)
   pub cells : CellsKeep (t .cells)
   pub calls : CallsKeep (t .calls)
@@ -171,18 +171,18 @@ blockFor t =
       cells = t .cells;
       calls = t .calls;
       opening = opening;
-      first = opening + length (records cellRecord (t .cells));
+      firstCall = opening + length (records cellRecord (t .cells));
     }
 
 -- The file is the bytes of these contents, which keep document 01's ranges, orders and limits.
-pub record Holds (file : List ℕ) (t : Contents) : Type 0 where
-  pub keeps : Keeps t
+pub record HoldsContents (file : List ℕ) (t : Contents) : Type 0 where
+  pub keeps : KeepsRules t
   pub bytes : file ≡ fileOf t
 
 -- A file is read as a block exactly if it is that block's bytes and the block keeps the rules: whatever keeps them is accepted, nothing
 -- else is, and a file holds one block, as a block has one file. The last is asked of all contents that have a file, accepted or not.
 pub record ReaderExact : Type 0 where
-  pub whole : (t : Contents) → Keeps t → readBlock (fileOf t) ≡ accepted (blockFor t)
+  pub whole : (t : Contents) → KeepsRules t → readBlock (fileOf t) ≡ accepted (blockFor t)
   pub only : (file : List ℕ) → AreBytes file → (b : Block) → readBlock file ≡ accepted b
-      → (t : Contents) × Holds file t × (b ≡ blockFor t)
+      → (t : Contents) × HoldsContents file t × (b ≡ blockFor t)
   pub one : (t t′ : Contents) → Fits t → Fits t′ → length (fileOf t) ≤ maxBytes → fileOf t ≡ fileOf t′ → t ≡ t′

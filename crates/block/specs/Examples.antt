@@ -1,4 +1,4 @@
--- What the reader makes of block P, and some refusals, computed. Assumes nothing.
+-- What the reader makes of block P, and some refusals, computed.
 use mathlib.Core.Path.{_≡_, refl}
 use mathlib.Core.List.{List, [], _∷_, map}
 use Prim.Native.Nat.{ℕ, _*_, _^_}
@@ -8,7 +8,7 @@ use Rattle.block.specs.Record.{functionId}
 use Rattle.block.specs.Reader.{Read, accepted, refused, readBlock}
 use Rattle.block.specs.Encoding.{fileOf, blockFor}
 use Rattle.block.specs.Refusal.{numberOf, offsetOf}
-use Rattle.block.specs.Assemble.{text, joined, instr, SET, JEQ, function, call, end}
+use Rattle.block.specs.Assemble.{text, joinedParts, instr, SET, JEQ, function, call, end}
 use Rattle.block.specs.Worked.{P, contentsP}
 use Rattle.block.specs.Computing.{computing}
 
@@ -20,10 +20,10 @@ outline (accepted b) =
     map functionId (b .functions)
     ∷ map (λ f. f .start) (b .functions)
     ∷ map (λ f. f .size) (b .functions)
-    ∷ map (λ c. c .key) (b .cells) ∷ (length (b .calls) ∷ b .first ∷ []) ∷ []
+    ∷ map (λ c. c .key) (b .cells) ∷ (length (b .calls) ∷ b .firstCall ∷ []) ∷ []
 
 abbrev reads : List (List ℕ) → List (List ℕ)
-reads parts = outline (readBlock (joined parts))
+reads parts = outline (readBlock (joinedParts parts))
 
 pub record Read-P : Type 0 where
   pub block-p : outline (readBlock P) ≡ (2147483648 ∷ 2147483649 ∷ 2147483650 ∷ []) ∷ (8 ∷ 32 ∷ 80 ∷ []) ∷ (2 ∷ 5 ∷ 2 ∷ []) ∷ ((5 * 2 ^ 80) ∷ []) ∷ (3 ∷ 120 ∷ []) ∷ []
@@ -42,7 +42,7 @@ pub record Read-P : Type 0 where
   pub behind : reads (end ∷ (0 ∷ []) ∷ []) ≡ (8 ∷ 4 ∷ []) ∷ []
 
 pub read-p : Read-P
-unfolding computing text joined P contentsP outline
+unfolding computing text joinedParts P contentsP outline
 read-p =
     record {
       block-p = refl;

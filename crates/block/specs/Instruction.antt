@@ -1,4 +1,4 @@
--- "Instructions": eight bytes and what they say. Everything that these bytes can break is refusal 10. Assumes nothing.
+-- "Instructions": eight bytes and what they say. Everything that these bytes can break is refusal 10.
 use mathlib.Core.Bool.{Bool, true, false, _&&_, _||_, not}
 use mathlib.Core.List.{List}
 use Prim.Native.Nat.{ℕ, zero, suc, _+_, _/_, _%_}

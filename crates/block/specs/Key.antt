@@ -1,4 +1,4 @@
--- "Cells and addresses". Assumes nothing.
+-- "Cells and addresses".
 use mathlib.Core.Bool.{Bool, _&&_, _||_, not}
 use Prim.Native.Nat.{ℕ, _+_, _*_, _/_, _%_, _^_}
 use lib.Dec.{eqb, ltb}
@@ -13,6 +13,9 @@ use Rattle.block.specs.declared.Payee.the-variants.{To, NoAccount}
 -- "Account addresses are 0 to 32767, contract addresses 32768 to 65535. The two are never taken for each other."
 abbrev pub firstContract : ℕ
 firstContract = 32768
+
+abbrev pub addresses : ℕ
+addresses = 65536
 
 unfoldable pub addressOf : ℕ → Address
 addressOf n = if ltb n firstContract then OfAccount (record { 0 = n }) else OfContract (record { 0 = n })

@@ -1,20 +1,15 @@
+-- To read, as document 01 goes: Limits, Key and Record are cells, addresses and records, Instruction the eight bytes with refusal 10, Naming what a
+-- call and its instructions name, Outcomes and Refusal the numbers. Reader is the reader with 1 to 10; Encoding is a block by itself, its bytes, and
+-- `ReaderExact`, the statement that the two agree. Worked is block P, Examples are computed; Assemble and Computing serve them.
 pub mod Limits
-pub mod Refusal
 pub mod Key
-pub mod KeyLaws
 pub mod Instruction
-pub mod DecodeLaws
 pub mod Record
+pub mod Naming
+pub mod Outcomes
+pub mod Refusal
 pub mod Reader
-pub mod ReaderLaws
 pub mod Encoding
-pub mod EncodingLaws
-pub mod BodyLaws
-pub mod ContentsLaws
-pub mod ReadsWhole
-pub mod ReadsOnly
-pub mod OneFile
-pub mod ReaderExact
 pub mod Assemble
 pub mod Worked
 pub mod Examples

@@ -1,4 +1,4 @@
--- The limits of document 01, each stated once. Assumes nothing.
+-- The limits of document 01, each stated once.
 use Prim.Native.Nat.{ℕ}
 
 -- "At most 65,536 bytes"

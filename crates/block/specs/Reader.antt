@@ -1,5 +1,5 @@
 -- The reader: a file's bytes to the block it holds, or the first refusal of 1 to 10. The rest of the file is carried along with
--- its position. Assumes nothing.
+-- its position.
 use mathlib.Core.Bool.{Bool, true, _||_, not}
 use mathlib.Core.List.{List, [], _∷_, _++_, map}
 use Prim.Native.Nat.{ℕ, zero, suc, _+_, _-_, _*_, _/_}
@@ -13,7 +13,7 @@ use Rattle.wire.specs.Bytes.{number, readLe}
 use Rattle.block.specs.Limits.{maxBytes, maxFunctions, maxCells, maxCalls}
 use Rattle.block.specs.Key.{firstContract, isBalance}
 use Rattle.block.specs.Instruction.{instrBytes, firstInvalid}
-use Rattle.block.specs.Record.{Function, Cell, Block, functionId, headBytes, functionKind, cellKind, callKind, endKind, lengthAllowed, cellOf, cellAllowed, callOf}
+use Rattle.block.specs.Record.{Function, Cell, Block, functionId, headBytes, functionKind, cellKind, callKind, endKind, lengthAllowed, cellOf, cellAllowed, callOf, functionBytes}
 use Rattle.block.specs.declared.CallBody.{CallBody}
 use Rattle.block.specs.declared.CallBody.the-variants.{InRange, OutOfRange}
 use Rattle.block.specs.declared.Refusal.{Refusal}
@@ -33,7 +33,7 @@ abbrev pub refuse : Refusal → Reading
 refuse why = ended (refused why)
 
 abbrev pub emptyBlock : Block
-emptyBlock = record { functions = []; cells = []; calls = []; opening = 0; first = 0 }
+emptyBlock = record { functions = []; cells = []; calls = []; opening = 0; firstCall = 0 }
 
 -- "strictly rising": whether a number is above the last of the numbers before it.
 unfoldable pub rises : List ℕ → ℕ → Bool
@@ -49,8 +49,13 @@ balances (c ∷ cs) = if isBalance (c .key) then c .value ∷ balances cs else b
 -- A function's body of length len: 7, 5, 10, 6. "At most 64 records, strictly rising by (contract, function)."
 unfoldable pub readFunction : ℕ → ℕ → List ℕ → Block → Reading
 readFunction at len body b =
-    let f : Function = record { contract = record { 0 = number 2 body }; number = readLe 2 body 2; start = at + headBytes + 4; size = (len - 4) / instrBytes } in
-    let i : ℕ = firstInvalid (f .size) 0 (f .size) (drop 4 body) in
+    let f : Function = record {
+      contract = record { 0 = number 2 body };
+      number = readLe 2 body 2;
+      start = at + headBytes + functionBytes;
+      size = (len - functionBytes) / instrBytes;
+    } in
+    let i : ℕ = firstInvalid (f .size) 0 (f .size) (drop functionBytes body) in
     if leb maxFunctions (length (b .functions))
     then refuse (BeyondLimit at)
     else if ltb (number 2 body) firstContract
@@ -61,7 +66,13 @@ readFunction at len body b =
     then refuse (NotRising at)
     else
     due functionKind (at + headBytes + len) (drop len body)
-    (record { functions = b .functions ++ (f ∷ []); cells = b .cells; calls = b .calls; opening = at + headBytes + len; first = at + headBytes + len })
+    (record {
+      functions = b .functions ++ (f ∷ []);
+      cells = b .cells;
+      calls = b .calls;
+      opening = at + headBytes + len;
+      firstCall = at + headBytes + len;
+    })
 
 -- An opening cell's body: 7, 5, 6, 9. "At most 1,024, keys strictly rising."
 unfoldable pub readCell : ℕ → ℕ → List ℕ → Block → Reading
@@ -77,14 +88,14 @@ readCell at len body b =
     then refuse (Balances at)
     else
     due cellKind (at + headBytes + len) (drop len body)
-    (record { functions = b .functions; cells = cells; calls = b .calls; opening = b .opening; first = at + headBytes + len })
+    (record { functions = b .functions; cells = cells; calls = b .calls; opening = b .opening; firstCall = at + headBytes + len })
 
 -- A call's body: 7, 5. "in block order, numbered from 0"
 unfoldable pub withCall : ℕ → ℕ → List ℕ → Block → CallBody → Reading
 withCall at len body b OutOfRange = refuse (Field at)
 withCall at len body b (InRange c) =
     due callKind (at + headBytes + len) (drop len body)
-    (record { functions = b .functions; cells = b .cells; calls = b .calls ++ (c ∷ []); opening = b .opening; first = b .first })
+    (record { functions = b .functions; cells = b .cells; calls = b .calls ++ (c ∷ []); opening = b .opening; firstCall = b .firstCall })
 
 unfoldable pub readCall : ℕ → ℕ → List ℕ → Block → Reading
 readCall at len body b = if leb maxCalls (length (b .calls)) then refuse (BeyondLimit at) else withCall at len body b (callOf body)

@@ -1,4 +1,4 @@
--- "Block file": what the bodies of its records hold, and the block they make. Assumes nothing.
+-- "Block file": what the bodies of its records hold, and the block they make.
 use mathlib.Core.Bool.{Bool, _&&_, not}
 use mathlib.Core.List.{List, _++_}
 use Prim.Native.Nat.{ℕ, _+_, _-_, _*_, _%_}
@@ -40,6 +40,13 @@ endKind = 4
 abbrev pub receiptKind : ℕ
 receiptKind = 5
 
+-- The length of what stands before a function's code, and of the longest function's body.
+abbrev pub functionBytes : ℕ
+functionBytes = 4
+
+abbrev pub longestFunction : ℕ
+longestFunction = functionBytes + instrBytes * maxCode
+
 -- The length of an opening cell's body.
 abbrev pub cellBytes : ℕ
 cellBytes = 20
@@ -47,6 +54,10 @@ cellBytes = 20
 -- "3, call: sender account 2, contract 2, function 2, value 8 (signed, 0 or more), four arguments of 4 (unsigned)."
 abbrev pub callBytes : ℕ
 callBytes = 30
+
+-- The length of a receipt's body: "outcome 2, count 2".
+abbrev pub receiptBytes : ℕ
+receiptBytes = 4
 
 -- "1, function: contract 2, function number 2, then 0 to 64 instructions of 8 bytes." Its code is the stretch of the block
 -- of `size` instructions at `start`.
@@ -67,11 +78,14 @@ pub record Block : Type 0 where
   pub cells : List Cell
   pub calls : List Call
   pub opening : ℕ
-  pub first : ℕ
+  pub firstCall : ℕ
 
 -- "strictly rising by (contract, function)": the two as one number.
+abbrev pub idBase : ℕ
+idBase = 65536
+
 abbrev pub idOf : Contract → ℕ → ℕ
-idOf contract function = contract .0 * 65536 + function
+idOf contract function = contract .0 * idBase + function
 
 -- The number of a function, and of the one that a call names.
 abbrev pub functionId : Function → ℕ
@@ -84,7 +98,7 @@ callId c = idOf (c .contract) (c .function)
 unfoldable pub lengthAllowed : ℕ → ℕ → Bool
 lengthAllowed kind len =
     if eqb kind functionKind
-    then leb 4 len && leb len (4 + instrBytes * maxCode) && eqb ((len - 4) % instrBytes) 0
+    then leb functionBytes len && leb len longestFunction && eqb ((len - functionBytes) % instrBytes) 0
     else if eqb kind cellKind
     then eqb len cellBytes
     else if eqb kind callKind

@@ -1,4 +1,5 @@
--- "Stopped by the input. Number and record offset": what each refusal says. Assumes nothing.
+-- "Stopped by the input. Number and record offset": what each refusal says.
+use mathlib.Core.Bool.{Bool, true, false}
 use Prim.Native.Nat.{ℕ}
 use Rattle.block.specs.declared.Verdict.{Verdict}
 use Rattle.block.specs.declared.Verdict.the-variants as verdict
@@ -51,3 +52,8 @@ verdictNumber (verdict.Refused why) = numberOf why
 unfoldable pub verdictOffset : Verdict → ℕ
 verdictOffset verdict.Accepted = 0
 verdictOffset (verdict.Refused why) = offsetOf why
+
+-- Whether a file is accepted.
+unfoldable pub isAccepted : Verdict → Bool
+isAccepted verdict.Accepted = true
+isAccepted (verdict.Refused why) = false

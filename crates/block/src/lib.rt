@@ -3,6 +3,7 @@ pub mod address;
 pub mod instruction;
 pub mod limits;
 pub mod numbers;
+pub mod outcomes;
 pub mod part;
 pub mod record;
 

@@ -5,6 +5,7 @@ use crate::CallBody;
 use crate::Contract;
 use crate::Payee;
 use crate::address::address_of;
+use crate::limits::MAX_CODE;
 use crate::part::from;
 use crate::part::long;
 use crate::part::short;
@@ -32,7 +33,7 @@ pub const INSTR_BYTES: usize = 8;
 
 pub const FUNCTION_BYTES: usize = 4;
 
-pub const LONGEST_FUNCTION: usize = 516;
+pub const LONGEST_FUNCTION: usize = FUNCTION_BYTES + INSTR_BYTES * MAX_CODE;
 
 pub const CELL_BYTES: usize = 20;
 
@@ -40,10 +41,12 @@ pub const CALL_BYTES: usize = 30;
 
 pub const RECEIPT_BYTES: usize = 4;
 
-// The place values of address and field in a key's first word, above a.
+// The place values of address and field in a key's first word, above a, and how many fields there are.
 pub const ADDRESS_BASE: u64 = 281474976710656;
 
 pub const FIELD_BASE: u64 = 4294967296;
+
+pub const FIELDS: u64 = 65536;
 
 // How many addresses there are, and the place value of the contract in a function's id.
 const ADDRESSES: u64 = 65536;

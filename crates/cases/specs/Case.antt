@@ -1,4 +1,4 @@
--- A case: the bytes of block.bin, the text of standard input, and the text that REGISTER must print. Assumes nothing.
+-- A case: the bytes of block.bin, the text of standard input, and the text that REGISTER must print.
 use mathlib.Core.Bool.{Bool, true, false, _&&_}
 use mathlib.Core.List.{List, [], _∷_}
 use Prim.Native.Nat.{ℕ, zero, suc, _+_, _/_, _%_}

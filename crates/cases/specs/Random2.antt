@@ -1,4 +1,4 @@
--- Cases 34 to 67 of the independent runner. Assumes nothing.
+-- Cases 34 to 67 of the independent runner.
 use mathlib.Core.Path.{_≡_, refl}
 use mathlib.Core.List.{List, [], _∷_}
 use Rattle.block.specs.Assemble.{text}

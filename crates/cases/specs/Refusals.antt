@@ -1,4 +1,4 @@
--- One block and more for each refusal of an input, with its offset, and two faults at once for their order. Assumes nothing.
+-- One block and more for each refusal of an input, with its offset, and two faults at once for their order.
 use mathlib.Core.Path.{_≡_, refl}
 use mathlib.Core.List.{List, [], _∷_, _++_}
 use Prim.Native.Nat.{ℕ, zero, suc, _-_, _^_}
@@ -6,12 +6,11 @@ use lib.IntN.{pos, negsuc}
 use Rattle.wire.specs.Bytes.{repeated}
 use Rattle.block.specs.Limits.{maxWorkers}
 use Rattle.block.specs.Refusal.{verdictNumber, verdictOffset}
-use Rattle.machine.specs.Run.{Sizes}
+use Rattle.machine.specs.Run.{Sizes, fixedSizes}
 use Rattle.machine.specs.Opening.{Opened, openingOf}
-use Rattle.machine.specs.Run.{fixedSizes}
 use Rattle.console.specs.Computing as console
 use Rattle.block.specs.Record.{recordOf}
-use Rattle.block.specs.Assemble.{joined, times, instr, SET, THROW, JEQ, function, cell, call, callWith, end}
+use Rattle.block.specs.Assemble.{joinedParts, times, instr, SET, THROW, JEQ, function, cell, call, callWith, end}
 use Rattle.footprint.specs.Examples.{gets, keysBlock}
 
 -- The number and offset that answer an opening.
@@ -19,7 +18,7 @@ abbrev told : Opened → List ℕ
 told o = verdictNumber (o .answer) ∷ verdictOffset (o .answer) ∷ []
 
 abbrev refusal : List (List ℕ) → List ℕ
-refusal parts = told (openingOf fixedSizes (joined parts) maxWorkers)
+refusal parts = told (openingOf fixedSizes (joinedParts parts) maxWorkers)
 
 -- n functions without code, and n calls whose first arguments differ.
 unfoldable pub functions : ℕ → List ℕ
@@ -31,8 +30,8 @@ calls zero = []
 calls (suc n) = calls n ++ callWith 5 32768 0 (pos 0) n
 
 -- Buffers of which one is too short by one.
-abbrev sizes : (plan keys cells status olds : ℕ) → Sizes
-sizes p k c s o = record { plan = p; keys = k; cells = c; status = s; olds = o }
+abbrev sizes : (plan keys cells status saved : ℕ) → Sizes
+sizes p k c s o = record { plan = p; keys = k; cells = c; status = s; saved = o }
 
 abbrev openedIn : Sizes → List ℕ
 openedIn s = told (openingOf s end maxWorkers)
@@ -100,7 +99,7 @@ pub record Refusals : Type 0 where
   pub keys-short : openedIn (sizes 8192 2047 1024 1024 192) ≡ 20 ∷ 0 ∷ []
   pub cells-short : openedIn (sizes 8192 2048 1023 1024 192) ≡ 20 ∷ 0 ∷ []
   pub status-short : openedIn (sizes 8192 2048 1024 1023 192) ≡ 20 ∷ 0 ∷ []
-  pub olds-short : openedIn (sizes 8192 2048 1024 1024 191) ≡ 20 ∷ 0 ∷ []
+  pub saved-short : openedIn (sizes 8192 2048 1024 1024 191) ≡ 20 ∷ 0 ∷ []
   -- "Order: 20 .., 13, 1; by record 2 (head), 3, 4, 2 (body), 7, 5, 10, 6, 9; after the end 8; then by call 11, 12."
   pub order-20-13 : told (openingOf (sizes 0 0 0 0 0) end 9) ≡ 20 ∷ 0 ∷ []
   pub order-13-2 : told (openingOf fixedSizes [] 9) ≡ 13 ∷ 0 ∷ []
@@ -113,7 +112,7 @@ pub record Refusals : Type 0 where
   pub order-8-11 : refusal (function 32768 0 (gets 25) ∷ call 5 32768 0 (pos 0) ∷ end ∷ (0 ∷ []) ∷ []) ≡ 8 ∷ 246 ∷ []
 
 pub refusals : Refusals
-unfolding console.computing joined times functions calls gets keysBlock
+unfolding console.computing joinedParts times functions calls gets keysBlock
 refusals =
     record {
       accepted = refl;
@@ -164,7 +163,7 @@ refusals =
       keys-short = refl;
       cells-short = refl;
       status-short = refl;
-      olds-short = refl;
+      saved-short = refl;
       order-20-13 = refl;
       order-13-2 = refl;
       order-3-4 = refl;

@@ -1,4 +1,4 @@
--- Equal answers have equal numbers and lengths. Assumes nothing.
+-- Equal answers have equal numbers and lengths.
 use mathlib.Core.Path.{_≡_, ap}
 use mathlib.Core.List.{List}
 use Prim.Native.Nat.{ℕ}

@@ -1,4 +1,4 @@
--- A test of every number below a bound, by a loop that counts down: one law, and each test of the sheet as an instance. Assumes nothing.
+-- A test of every number below a bound, by a loop that counts down: one law, and each test of the sheet as an instance.
 use mathlib.Core.Path.{_≡_, refl, sym, ap, _∙_}
 use mathlib.Core.Bool.{Bool, true, false, _&&_, _||_, not}
 use mathlib.Core.List.{List}
@@ -10,7 +10,7 @@ use lib.IntN.{ℤ, pos, negsuc}
 use lib.Signed.{ltZ, nonNeg}
 use Rattle.block.specs.Limits.{maxCode}
 use Rattle.machine.specs.Run.{statusWord, stateOf, isState, finished}
-use Rattle.machine.specs.Action.{notPaid}
+use Rattle.block.specs.Outcomes.{notPaid}
 use Rattle.machine.specs.Step.{cellAt}
 use Rattle.sheet.specs.Sheet.{statesAllowed, allFinished, receiptsAllowed, balancesAllowed, fieldOf}
 
@@ -60,13 +60,13 @@ module _ (status : List ℕ) where
   abbrev pub receiptAllowed : ℕ → Bool
   receiptAllowed n = leb (statusWord status n 1) notPaid && leb (statusWord status n 2) maxCode
 
-  pub receipts-none : receiptsAllowed status 0 ≡ true
+  pub allowed-none : receiptsAllowed status 0 ≡ true
   unfolding receiptsAllowed
-  receipts-none = refl
+  allowed-none = refl
 
-  pub receipts-turn : (n : ℕ) → receiptsAllowed status (suc n) ≡ (receiptAllowed n && receiptsAllowed status n)
+  pub allowed-turn : (n : ℕ) → receiptsAllowed status (suc n) ≡ (receiptAllowed n && receiptsAllowed status n)
   unfolding receiptsAllowed
-  receipts-turn n = refl
+  allowed-turn n = refl
 
 module _ (keys : List ℕ) (cells : List ℤ) where
   -- Whether a cell is no balance, or one that is not below zero.

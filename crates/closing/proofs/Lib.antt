@@ -1,4 +1,5 @@
+-- The mathematics of the code: tests that count down, records and their sizes, records stored, the answer.
 mod Counting
 mod Storing
-mod Sizes
+mod SheetSizes
 mod Answering

@@ -1,24 +1,24 @@
--- Records stored one behind the other: the parts of a record, and a loop over records. Assumes nothing.
+-- Records stored one behind the other: the parts of a record, and a loop over records.
 use mathlib.Core.Path.{_≡_, refl, sym, ap, ap₂, _∙_}
 use mathlib.Core.List.{List, [], _++_}
 use Prim.Native.Nat.{ℕ, suc, _+_, _-_, _/_, _^_, _≤_, _<_}
 use native.Mathlib.Omega.{arith}
 use lib.ListN.{length, length-append}
 use Rattle.wire.specs.Bytes.{bytesOf, stored}
-use Rattle.wire.specs.Laws.{bytesOf-length, stored-append, stored-length}
+use Rattle.wire.proofs.BytesLaws.{bytesOf-length, stored-append, stored-length}
 use Rattle.block.specs.Record.{recordOf, endKind}
 use Rattle.sheet.specs.Sheet.{keyBytes}
 
 -- What is stored behind a list that was stored is stored with it.
-pub behind : (s : List ℕ) (i : ℕ) (xs ys : List ℕ) {t u : List ℕ} {j : ℕ} → j ≡ i + length xs → t ≡ stored s i xs → u ≡ stored t j ys → u ≡ stored s i (xs ++ ys)
-behind s i xs ys e p q = q ∙ ap₂ (λ (l : List ℕ) (k : ℕ). stored l k ys) p e ∙ sym (stored-append xs ys s i)
+pub stored-joined : (s : List ℕ) (i : ℕ) (xs ys : List ℕ) {t u : List ℕ} {j : ℕ} → j ≡ i + length xs → t ≡ stored s i xs → u ≡ stored t j ys → u ≡ stored s i (xs ++ ys)
+stored-joined s i xs ys e p q = q ∙ ap₂ (λ (l : List ℕ) (k : ℕ). stored l k ys) p e ∙ sym (stored-append xs ys s i)
 
 -- A head and behind it the body make a record.
 pub record-behind : (s : List ℕ) (at kind size : ℕ) (body : List ℕ) → length body ≡ size → {t u : List ℕ}
     → t ≡ stored s at (bytesOf 2 size ++ bytesOf 2 kind) → u ≡ stored t (at + 4) body → u ≡ stored s at (recordOf kind body)
 record-behind s at kind size body e p q =
     let four : length (bytesOf 2 size ++ bytesOf 2 kind) ≡ 4 = simp (length-append, bytesOf-length) in
-    behind s at (bytesOf 2 size ++ bytesOf 2 kind) body (omega arith) p q
+    stored-joined s at (bytesOf 2 size ++ bytesOf 2 kind) body (omega arith) p q
     ∙ ap (λ (n : ℕ). stored s at (bytesOf 2 n ++ bytesOf 2 kind ++ body)) (sym e)
 
 -- Nothing stored changes nothing, and takes no place.
@@ -39,7 +39,7 @@ key-behind s at high low p q r u =
     let i : at + 2 ≡ at + length a = omega (arith, bytesOf-length 2 (high / 2 ^ 48)) in
     let j : at + 4 ≡ at + length (a ++ b) = simp (length-append, bytesOf-length) in
     let k : at + 8 ≡ at + length (a ++ b ++ c) = simp (length-append, bytesOf-length) in
-    behind s at (a ++ b ++ c) (bytesOf 4 low) k (behind s at (a ++ b) c j (behind s at a b i p q) r) u
+    stored-joined s at (a ++ b ++ c) (bytesOf 4 low) k (stored-joined s at (a ++ b) c j (stored-joined s at a b i p q) r) u
 
 -- A record without a body is its head.
 end-record : recordOf endKind [] ≡ bytesOf 2 0 ++ bytesOf 2 endKind
@@ -50,7 +50,7 @@ pub sheet-behind : (s cs rs : List ℕ) {s₁ s₂ s₃ : List ℕ} {i j : ℕ} 
     → s₃ ≡ stored s₂ j (bytesOf 2 0 ++ bytesOf 2 endKind) → s₃ ≡ stored s 0 (cs ++ rs ++ recordOf endKind [])
 sheet-behind s cs rs {j = j} p e q f u =
     let k : j ≡ 0 + length (cs ++ rs) = omega (arith, e, f, length-append cs rs) in
-    behind s 0 (cs ++ rs) (recordOf endKind []) k (behind s 0 cs rs (omega arith) p q) (u ∙ ap (stored _ j) (sym end-record))
+    stored-joined s 0 (cs ++ rs) (recordOf endKind []) k (stored-joined s 0 cs rs (omega arith) p q) (u ∙ ap (stored _ j) (sym end-record))
 
 -- A loop that stores one part after the other: what is left, stored from its place on, makes of the output what all make.
 pub record Storing (parts : ℕ → ℕ → List ℕ) (count : ℕ) (output₀ : List ℕ) (start : ℕ) (output : List ℕ) (at n : ℕ) : Type 0 where

@@ -1,4 +1,4 @@
--- What `sheet` answers: its answer and the output are the definition's, and so are the answer's number and length. Assumes nothing.
+-- What `sheet` answers: its answer and the output are the definition's, and so are the answer's number and length.
 use mathlib.Core.Path.{_≡_}
 use mathlib.Core.List.{List}
 use Prim.Native.Nat.{ℕ}

@@ -1,4 +1,4 @@
--- The parts of a sheet: the record of one cell and of one receipt, and the sheet's length, found before anything is stored. Assumes nothing.
+-- The parts of a sheet: the record of one cell and of one receipt, and the sheet's length, found before anything is stored.
 use mathlib.Core.List.{List, [], _++_}
 use Prim.Native.Nat.{ℕ, zero, suc, _+_, _*_}
 use lib.IntN.{ℤ}
@@ -6,13 +6,13 @@ use lib.Dec.{eqb}
 use Rattle.arith.specs.Choice.{if_then_else_}
 use Rattle.arith.specs.Exact.{unsigned}
 use Rattle.wire.specs.Bytes.{bytesOf}
-use Rattle.block.specs.Record.{recordOf, headBytes, cellBytes, cellKind, receiptKind, endKind}
+use Rattle.block.specs.Record.{recordOf, headBytes, cellBytes, cellKind, receiptKind, endKind, receiptBytes}
 use Rattle.machine.specs.Step.{cellAt}
 use Rattle.sheet.specs.Sheet.{keyBytes, cellRecords, receiptRecords}
 
 -- What the sheet has of a cell, by its key and the bits of its value: nothing if that is zero.
-abbrev pub cellRecord : ℕ → ℕ → ℕ → List ℕ
-cellRecord high low bits = if eqb bits 0 then [] else recordOf cellKind (keyBytes high low ++ bytesOf 8 bits)
+abbrev pub sheetCellRecord : ℕ → ℕ → ℕ → List ℕ
+sheetCellRecord high low bits = if eqb bits 0 then [] else recordOf cellKind (keyBytes high low ++ bytesOf 8 bits)
 
 -- "kind 5 receipts .. (outcome 2, count 2)"
 abbrev pub receiptRecord : ℕ → ℕ → List ℕ
@@ -27,10 +27,6 @@ sheetParts keys cells status count calls =
 unfoldable pub nonZero : List ℤ → ℕ → ℕ → ℕ
 nonZero cells zero n = 0
 nonZero cells (suc left) n = (if eqb (unsigned 64 (cellAt cells n)) 0 then 0 else 1) + nonZero cells left (n + 1)
-
--- The length of a receipt's body.
-abbrev pub receiptBytes : ℕ
-receiptBytes = 4
 
 -- A record for each non-zero cell and for each call, and the end.
 abbrev pub sheetLength : List ℤ → ℕ → ℕ → ℕ

@@ -24,10 +24,18 @@ pub fn sheet(
     keys: &[u64],
     cells: &[i64],
     status: &[u64],
-    olds: &[i64],
+    saved: &[i64],
     output: &mut [u8],
 ) -> Closing
-    ensures { λ r. ⌜ ClosedAs r (now (output .exit)) (sheetOf (record { head = head; plan = now (plan .entry); keys = now (keys .entry); cells = now (cells .entry); status = now (status .entry); olds = now (olds .entry) }) (now (output .entry))) ⌝ }
+    ensures { λ r. ⌜ ClosedAs r (now (output .exit))
+        (sheetOf (record {
+          head = head;
+          plan = now (plan .entry);
+          keys = now (keys .entry);
+          cells = now (cells .entry);
+          status = now (status .entry);
+          saved = now (saved .entry);
+        }) (now (output .entry))) ⌝ }
 {
     let calls = head.calls;
     let count = head.cells;
@@ -36,7 +44,7 @@ pub fn sheet(
         keys.len(),
         cells.len(),
         status.len(),
-        olds.len(),
+        saved.len(),
     );
     if !large {
         return Closing::Refused(Answer::Damaged);

@@ -9,8 +9,8 @@ use block::record::HEAD_BYTES;
 use block::record::RECEIPT_BYTES;
 use block::record::RECEIPT_KIND;
 use footprint::layout::KEY_WORDS;
-use machine::layout::COUNT;
-use machine::layout::OUTCOME;
+use machine::layout::COUNT_WORD;
+use machine::layout::OUTCOME_WORD;
 ghost use mathlib.Core.Path.{_≡_};
 ghost use mathlib.Core.List.{_++_};
 ghost use Prim.Native.Nat.{_+_, _*_, _≤_, _<_, _^_};
@@ -19,7 +19,7 @@ ghost use Rattle.wire.specs.Bytes.{bytesOf, stored};
 ghost use Rattle.block.specs.Limits.{maxCalls, maxKeys};
 ghost use Rattle.block.specs.Record.{recordOf, cellKind};
 ghost use Rattle.sheet.specs.Sheet.{keyBytes, cellRecords, receiptRecords};
-ghost use Rattle.closing.specs.Length.{cellRecord, receiptRecord, sheetParts};
+ghost use Rattle.closing.specs.Length.{sheetCellRecord, receiptRecord, sheetParts};
 
 // The head of a record: "length (2 bytes, of the body), kind (2)".
 fn put_head(output: &mut [u8], at: usize, size: usize, kind: usize)
@@ -54,8 +54,8 @@ fn put_cell(output: &mut [u8], at: usize, high: u64, low: u64, bits: u64)
 // That record unless the value is zero, and the place behind it.
 fn put_nonzero(output: &mut [u8], at: usize, high: u64, low: u64, bits: u64) -> usize
     requires { ⌜ at + 24 < 2 ^ 32 ⌝ }
-    ensures { λ r. ⌜ now (output .exit) ≡ stored (now (output .entry)) at (cellRecord high low bits) ⌝ }
-    ensures { λ r. ⌜ r ≡ at + length (cellRecord high low bits) ⌝ }
+    ensures { λ r. ⌜ now (output .exit) ≡ stored (now (output .entry)) at (sheetCellRecord high low bits) ⌝ }
+    ensures { λ r. ⌜ r ≡ at + length (sheetCellRecord high low bits) ⌝ }
 {
     if bits != 0 {
         put_cell(output, at, high, low, bits);
@@ -102,13 +102,13 @@ fn put_receipts(status: &[u64], calls: usize, start: usize, output: &mut [u8]) -
     ensures { λ r. ⌜ r ≤ start + 8 * calls ⌝ }
 {
     let mut at = start;
-    let mut c = 0;
-    while c < calls {
-        let outcome = status_word(status, c, OUTCOME);
-        let count = status_word(status, c, COUNT);
+    let mut call = 0;
+    while call < calls {
+        let outcome = status_word(status, call, OUTCOME_WORD);
+        let count = status_word(status, call, COUNT_WORD);
         put_receipt(output, at, outcome, count);
         at += HEAD_BYTES + RECEIPT_BYTES;
-        c += 1;
+        call += 1;
     }
     at
 }
@@ -124,7 +124,8 @@ pub(crate) fn put_sheet(
 )
     requires { ⌜ count ≤ maxKeys ⌝ }
     requires { ⌜ calls ≤ maxCalls ⌝ }
-    ensures { λ r. ⌜ now (output .exit) ≡ stored (now (output .entry)) 0 (sheetParts (now (keys .entry)) (now (cells .entry)) (now (status .entry)) count calls) ⌝ }
+    ensures { λ r. ⌜ now (output .exit)
+        ≡ stored (now (output .entry)) 0 (sheetParts (now (keys .entry)) (now (cells .entry)) (now (status .entry)) count calls) ⌝ }
 {
     let receipts = put_cells(keys, cells, count, output);
     let end = put_receipts(status, calls, receipts, output);

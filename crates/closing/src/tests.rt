@@ -1,11 +1,13 @@
 // The tests of a closing sheet. Each loop counts down, as its definition does.
 use block::limits::MAX_CODE;
+use block::outcomes::NOT_PAID;
 use block::record::FIELD_BASE;
+use block::record::FIELDS;
 use footprint::layout::KEY_WORDS;
-use machine::layout::COUNT;
+use machine::layout::COUNT_WORD;
 use machine::layout::FINISHED;
-use machine::layout::OUTCOME;
-use machine::layout::STATE;
+use machine::layout::OUTCOME_WORD;
+use machine::layout::STATE_WORD;
 use machine::layout::STATUS_WORDS;
 ghost use mathlib.Core.Path.{_≡_};
 ghost use mathlib.Core.Bool.{_&&_, _||_, not};
@@ -14,14 +16,8 @@ ghost use lib.Dec.{eqb, leb};
 ghost use lib.Signed.{nonNeg};
 ghost use Rattle.block.specs.Limits.{maxCalls, maxCode, maxKeys};
 ghost use Rattle.machine.specs.Run.{statusWord, statusWords};
-ghost use Rattle.machine.specs.Action.{notPaid};
+ghost use Rattle.block.specs.Outcomes.{notPaid};
 ghost use Rattle.sheet.specs.Sheet.{statesAllowed, allFinished, receiptsAllowed, balancesAllowed};
-
-// The last of the outcomes.
-const NOT_PAID: u64 = 5;
-
-// A field has 16 bits.
-const FIELDS: u64 = 65536;
 
 // A word of a call's status.
 pub(crate) fn status_word(status: &[u64], call: usize, k: usize) -> u64
@@ -40,7 +36,7 @@ pub(crate) fn states_allowed(status: &[u64], calls: usize) -> bool
     let mut left = calls;
     while 0 < left {
         left -= 1;
-        if FINISHED < status_word(status, left, STATE) {
+        if FINISHED < status_word(status, left, STATE_WORD) {
             return false;
         }
     }
@@ -55,7 +51,7 @@ pub(crate) fn all_finished(status: &[u64], calls: usize) -> bool
     let mut left = calls;
     while 0 < left {
         left -= 1;
-        if status_word(status, left, STATE) != FINISHED {
+        if status_word(status, left, STATE_WORD) != FINISHED {
             return false;
         }
     }
@@ -77,8 +73,8 @@ pub(crate) fn receipts_allowed(status: &[u64], calls: usize) -> bool
     let mut left = calls;
     while 0 < left {
         left -= 1;
-        let outcome = status_word(status, left, OUTCOME);
-        let count = status_word(status, left, COUNT);
+        let outcome = status_word(status, left, OUTCOME_WORD);
+        let count = status_word(status, left, COUNT_WORD);
         if !receipt_allowed(outcome, count) {
             return false;
         }

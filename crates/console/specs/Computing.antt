@@ -1,4 +1,4 @@
--- Names every definition of this crate that computes, so that a worked example opens them all by one name. Assumes nothing.
+-- Names every definition of this crate that computes, so that a worked example opens them all by one name.
 use Rattle.console.specs.Line.{readLetter, readGap, readByte, isEmpty, moveFor, lineMove}
 use Rattle.console.specs.Register.{answerText, nextNumber, playMove, playByte, playBytes, playEnd, closingText, playInput, registerOpened, registerOf}
 use Rattle.console.specs.Text.{recordsText}

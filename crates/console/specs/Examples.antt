@@ -1,8 +1,8 @@
--- REGISTER on block P, and the forms of a move line, computed. Assumes nothing.
+-- REGISTER on block P, and the forms of a move line, computed.
 use mathlib.Core.Path.{_≡_, refl}
 use mathlib.Core.List.{List, []}
 use Prim.Native.Nat.{ℕ}
-use Rattle.block.specs.Assemble.{text, joined}
+use Rattle.block.specs.Assemble.{text, joinedParts}
 use Rattle.block.specs.Worked.{P}
 use Rattle.console.specs.Register.{registerOf}
 use Rattle.console.specs.Computing.{computing}
@@ -28,7 +28,7 @@ pub record Lines : Type 0 where
   pub refused-block : registerOf [] movesP ≡ text "e 2 0\n"
 
 pub lines : Lines
-unfolding computing text joined P movesP printedP
+unfolding computing text joinedParts P movesP printedP
 lines =
     record {
       printed = refl;

@@ -1,3 +1,4 @@
+-- To read: Line is a move line byte by byte, Text the answers and the sheet as lines, Register the whole of REGISTER as one function. Examples are computed.
 pub mod Line
 pub mod Text
 pub mod Register

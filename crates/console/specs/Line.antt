@@ -1,5 +1,5 @@
 -- The move lines of standard input: `b worker call`, `s worker`, `c worker`. "one space divides its parts, and its numbers are of
--- decimal digits"; a number has 1 to 5 digits. A line is read byte by byte. Assumes nothing.
+-- decimal digits"; a number has 1 to 5 digits. A line is read byte by byte.
 use mathlib.Core.Bool.{Bool, true, false, _&&_}
 use mathlib.Core.Option.{Option, none, some}
 use Prim.Native.Nat.{ℕ, _+_, _-_, _*_}

@@ -1,10 +1,11 @@
--- The program REGISTER as one function from the bytes of block.bin and of standard input to the bytes of standard output. Assumes nothing.
+-- The program REGISTER as one function from the bytes of block.bin and of standard input to the bytes of standard output.
 use mathlib.Core.Bool.{true, false}
 use mathlib.Core.List.{List, [], _∷_, _++_}
 use mathlib.Core.Option.{Option, none, some}
 use Prim.Native.Nat.{ℕ, zero, suc, _+_, _-_, _*_, _^_}
 use lib.Dec.{eqb, ltb}
 use lib.ListN.{take}
+use Rattle.block.specs.Record.{headBytes, cellBytes, receiptBytes}
 use Rattle.arith.specs.Choice.{if_then_else_}
 use Rattle.wire.specs.Bytes.{repeated}
 use Rattle.block.specs.Limits.{maxCalls, maxKeys, maxWorkers}
@@ -80,7 +81,7 @@ closingText c (Refused a) = refusedText 0 (answerNumber a)
 
 -- The longest sheet: 1,024 cells of 24 bytes, 256 receipts of 8, and the end.
 abbrev pub maxSheet : ℕ
-maxSheet = maxKeys * 24 + maxCalls * 8 + 4
+maxSheet = maxKeys * (headBytes + cellBytes) + maxCalls * (headBytes + receiptBytes) + headBytes
 
 abbrev pub closeRun : Run → List ℕ
 closeRun r = let c : Closed = sheetOf r (repeated maxSheet 0) in closingText c (c .answer)

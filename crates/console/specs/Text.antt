@@ -1,4 +1,4 @@
--- The sheet as lines of standard output. Assumes nothing.
+-- The sheet as lines of standard output.
 use mathlib.Core.Bool.{true, false}
 use mathlib.Core.List.{List, [], _++_}
 use Prim.Native.Nat.{ℕ, zero, suc, _+_}

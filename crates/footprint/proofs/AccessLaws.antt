@@ -1,4 +1,4 @@
--- The mathematics of the proofs of `access`, over plain variables: a key's two words, the test of a value, and the instructions that use no key. Assumes nothing.
+-- The mathematics of the proofs of `access`, over plain variables: a key's two words, the test of a value, and the instructions that use no key.
 use mathlib.Core.Path.{_≡_, refl, sym, ap, _∙_}
 use mathlib.Core.Bool.{Bool}
 use mathlib.Core.List.{List, [], _∷_}

@@ -1,18 +1,15 @@
 -- What the entry of a call, and each instruction, may read and write: one function that both the set analysis and a step ask.
--- Assumes nothing.
 use mathlib.Core.Bool.{Bool, true, false}
 use mathlib.Core.List.{List, [], _∷_}
 use Prim.Native.Nat.{ℕ}
 use lib.IntN.{pos}
 use lib.Signed.{ltZ}
+use Rattle.block.specs.Naming.{targetOf, cellKey}
 use Rattle.arith.specs.Choice.{if_then_else_}
-use Rattle.block.specs.Key.{accountBalance, contractBalance, contractCell, payeeOf}
-use Rattle.block.specs.Record.{argument}
+use Rattle.block.specs.Key.{accountBalance, contractBalance}
 use Rattle.block.specs.declared.Call.{Call}
 use Rattle.block.specs.declared.Payee.{Payee}
 use Rattle.block.specs.declared.Payee.the-variants.{To, NoAccount}
-use Rattle.block.specs.declared.Source.{Source}
-use Rattle.block.specs.declared.Source.the-variants as source
 use Rattle.block.specs.declared.Instr.{Instr}
 use Rattle.block.specs.declared.Instr.the-variants.{Stop, Throw, Set, Arg, Sender, Value, Add, Sub, Mul, Div, Get, Put, Bal, Pay, Jeq, Jlt}
 
@@ -30,21 +27,6 @@ writing k = record { key = k; reads = false; writes = true }
 
 abbrev pub changing : ℕ → Access
 changing k = record { key = k; reads = true; writes = true }
-
--- "Sources: 0 is zero, 1 to 4 an argument, 5 the sender, 6 the constant": the number a source gives in a call.
-unfoldable pub sourceValue : Call → Source → ℕ
-sourceValue c source.Zero = 0
-sourceValue c (source.Argument k) = argument c k
-sourceValue c source.Sender = c .sender .0
-sourceValue c (source.Constant n) = n
-
--- The account that PAY's source names, if it names one.
-abbrev pub targetOf : Call → Source → Payee
-targetOf c s = payeeOf (sourceValue c s)
-
--- "GET and PUT use the called contract's address, field w mod 65536 .., a from source y, b from source z."
-abbrev pub cellKey : Call → ℕ → Source → Source → ℕ
-cellKey c field a b = contractCell (c .contract) field (sourceValue c a) (sourceValue c b)
 
 -- "Value above 0: reads sender's balance, writes sender's and contract's."
 unfoldable pub entryAccesses : Call → List Access

@@ -1,4 +1,4 @@
--- When a later call waits for an earlier one. Assumes nothing.
+-- When a later call waits for an earlier one.
 use mathlib.Core.Bool.{Bool, true, false, _&&_, _||_, not}
 use mathlib.Core.List.{List, [], _∷_, _++_}
 use Prim.Native.Nat.{ℕ}

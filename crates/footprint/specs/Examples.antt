@@ -1,11 +1,11 @@
--- The sets and rows of block P, and of other small blocks, computed. Assumes nothing.
+-- The sets and rows of block P, and of other small blocks, computed.
 use mathlib.Core.Path.{_≡_, refl}
 use mathlib.Core.List.{List, [], _∷_, _++_, map}
 use Prim.Native.Nat.{ℕ, zero, suc, _+_, _*_, _^_}
 use lib.IntN.{pos}
 use Rattle.block.specs.Reader.{Read, accepted, refused, readBlock}
 use Rattle.block.specs.Refusal.{numberOf, offsetOf}
-use Rattle.block.specs.Assemble.{joined, GET, PUT, PAY, BAL, function, call, end}
+use Rattle.block.specs.Assemble.{joinedParts, GET, PUT, PAY, BAL, function, call, end}
 use Rattle.block.specs.Worked.{P}
 use Rattle.footprint.specs.Access.{Access}
 use Rattle.footprint.specs.Sets.{readSet, writeSet}
@@ -16,7 +16,7 @@ use Rattle.footprint.specs.Computing.{computing}
 
 unfoldable pub analysis : List ℕ → Read → Analysis
 analysis file (refused why) = table.refused why
-analysis file (accepted b) = analyse file (b .functions) (b .calls) (b .first) [] (map (λ c. c .key) (b .cells))
+analysis file (accepted b) = analyse file (b .functions) (b .calls) (b .firstCall) [] (map (λ c. c .key) (b .cells))
 
 -- The first word of each call's row, behind the sets of the calls before it.
 unfoldable pub firstWords : List (List Access) → List (List Access) → List (List ℕ)
@@ -55,12 +55,12 @@ gets zero = []
 gets (suc n) = gets n ++ (GET 0 (suc n) 1 ∷ [])
 
 unfoldable pub keysBlock : ℕ → List ℕ
-keysBlock n = joined (function 32768 0 (gets n) ∷ call 5 32768 0 (pos 0) ∷ end ∷ [])
+keysBlock n = joinedParts (function 32768 0 (gets n) ∷ call 5 32768 0 (pos 0) ∷ end ∷ [])
 
 -- Two calls without a value that store into cells of their own, and a third that reads both and its contract's balance.
 unfoldable pub readers : List ℕ
 readers =
-    joined
+    joinedParts
     (function 32768 0 (PUT 0 1 0 ∷ [])
     ∷ function 32768 1 (PUT 0 2 0 ∷ [])
     ∷ function 32768 2 (GET 0 1 0 ∷ GET 0 2 0 ∷ BAL 0 ∷ [])
@@ -80,5 +80,5 @@ pub record Sets-P : Type 0 where
   pub keys-25 : rows (keysBlock 25) ≡ (11 ∷ 208 ∷ []) ∷ []
 
 pub sets-of-p : Sets-P
-unfolding computing joined P gets keysBlock readers analysis firstWords rowsOf bothSets setsAndTable
+unfolding computing joinedParts P gets keysBlock readers analysis firstWords rowsOf bothSets setsAndTable
 sets-of-p = record { rows-p = refl; sets-p = refl; rows-readers = refl; keys-24 = refl; keys-25 = refl }

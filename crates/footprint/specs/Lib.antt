@@ -1,21 +1,13 @@
+-- To read: Access and Sets are document 01's read and write sets, and SetsInWords the statement that they are so in its own words; Conflict is the
+-- strong-swap test; Table and Plan are what an opening prepares; SafeSets are the statements of document 003 on safe sets and the exchange of
+-- neighbours. Uses is how the code holds accesses. Examples are computed; Computing names what they open.
 pub mod Access
 pub mod Sets
+pub mod SetsInWords
 pub mod Conflict
 pub mod Table
 pub mod Plan
-pub mod Rule
-pub mod LimitLaws
-pub mod ConflictLaws
-pub mod Uses
-pub mod SetLaws
-pub mod AccessLaws
-pub mod SetsExact
-pub mod RunLaws
-pub mod StepLaws
-pub mod RuleLimit
-pub mod FitLaws
-pub mod AlikeLaws
 pub mod SafeSets
-pub mod Exchange
+pub mod Uses
 pub mod Examples
 pub mod Computing

@@ -1,5 +1,5 @@
 -- What an opening prepares of a block: the plan of each call, the words of the key table and the opening values; or its refusal, with all
--- of them zero. Assumes nothing.
+-- of them zero.
 use mathlib.Core.Bool.{Bool, _&&_}
 use mathlib.Core.List.{List, [], _∷_, _++_, map}
 use mathlib.Core.Option.{Option, none, some}
@@ -19,7 +19,7 @@ use Rattle.block.specs.declared.Refusal.the-variants.{Buffers}
 use Rattle.block.specs.declared.Verdict.{Verdict}
 use Rattle.block.specs.declared.Verdict.the-variants as verdict
 use Rattle.footprint.specs.Access.{Access}
-use Rattle.footprint.specs.Sets.{functionOf}
+use Rattle.block.specs.Naming.{functionOf}
 use Rattle.footprint.specs.Conflict.{rowFor}
 use Rattle.footprint.specs.Table as table
 use Rattle.footprint.specs.Table.{Analysis, analyse, cellNumber}
@@ -29,9 +29,44 @@ use Rattle.footprint.specs.Table.{Analysis, analyse, cellNumber}
 abbrev pub planWords : ℕ
 planWords = 32
 
+abbrev pub codeStart : ℕ
+codeStart = 0
+
+abbrev pub codeLength : ℕ
+codeLength = 1
+
+abbrev pub keyCount : ℕ
+keyCount = 2
+
+abbrev pub firstEntry : ℕ
+firstEntry = 3
+
+abbrev pub firstRowWord : ℕ
+firstRowWord = 27
+
+-- A cell has two words of the keys.
+abbrev pub keyWords : ℕ
+keyWords = 2
+
 -- An entry: a cell number times 4, plus 1 if the call reads the cell, plus 2 if it writes it.
+abbrev pub entryFlags : ℕ
+entryFlags = 4
+
+abbrev pub writesFlag : ℕ
+writesFlag = 2
+
 unfoldable pub entryWord : List ℕ → Access → ℕ
-entryWord keys e = cellNumber keys (e .key) * 4 + bit (e .reads) + 2 * bit (e .writes)
+entryWord keys e = cellNumber keys (e .key) * entryFlags + bit (e .reads) + writesFlag * bit (e .writes)
+
+-- An entry's cell number and flags.
+abbrev pub entryCell : ℕ → ℕ
+entryCell e = e / entryFlags
+
+abbrev pub entryReads : ℕ → Bool
+entryReads e = eqb (e % 2) 1
+
+abbrev pub entryWrites : ℕ → Bool
+entryWrites e = leb writesFlag (e % entryFlags)
 
 unfoldable pub codeWords : Option Function → List ℕ
 codeWords none = 0 ∷ 0 ∷ []
@@ -56,9 +91,9 @@ highWord k = k / 2 ^ 32
 abbrev pub lowWord : ℕ → ℕ
 lowWord k = k % 2 ^ 32
 
-unfoldable pub keyWords : List ℕ → List ℕ
-keyWords [] = []
-keyWords (k ∷ ks) = highWord k ∷ lowWord k ∷ keyWords ks
+unfoldable pub tableWords : List ℕ → List ℕ
+tableWords [] = []
+tableWords (k ∷ ks) = highWord k ∷ lowWord k ∷ tableWords ks
 
 -- "an absent cell reads 0": a key's value in the opening.
 unfoldable pub openingValue : List Cell → ℕ → ℤ
@@ -73,7 +108,7 @@ pub record Room : Type 0 where
 
 -- "the fixed size for the limits above", and whether none is shorter.
 abbrev pub fixedRoom : Room
-fixedRoom = record { plan = maxCalls * planWords; keys = maxKeys * 2; cells = maxKeys }
+fixedRoom = record { plan = maxCalls * planWords; keys = maxKeys * keyWords; cells = maxKeys }
 
 unfoldable pub roomEnough : Room → Bool
 roomEnough r = leb (fixedRoom .plan) (r .plan) && leb (fixedRoom .keys) (r .keys) && leb (fixedRoom .cells) (r .cells)
@@ -83,7 +118,7 @@ pub record Prepared : Type 0 where
   pub verdict : Verdict
   pub calls : ℕ
   pub cells : ℕ
-  pub first : ℕ
+  pub firstCall : ℕ
   pub plan : List ℕ
   pub keys : List ℕ
   pub values : List ℤ
@@ -95,7 +130,7 @@ unprepared r why =
       verdict = verdict.Refused why;
       calls = 0;
       cells = 0;
-      first = 0;
+      firstCall = 0;
       plan = repeated (r .plan) 0;
       keys = repeated (r .keys) 0;
       values = repeated (r .cells) (pos 0);
@@ -109,16 +144,16 @@ prepareAnalysed r b (table.analysed sets keys) =
       verdict = verdict.Accepted;
       calls = length (b .calls);
       cells = length keys;
-      first = b .first;
+      firstCall = b .firstCall;
       plan = padded (r .plan) 0 (plans (b .functions) keys [] (b .calls) sets);
-      keys = padded (r .keys) 0 (keyWords keys);
+      keys = padded (r .keys) 0 (tableWords keys);
       values = padded (r .cells) (pos 0) (map (openingValue (b .cells)) keys);
     }
 
 unfoldable pub prepareRead : Room → List ℕ → Read → Prepared
 prepareRead r file (refused why) = unprepared r why
 prepareRead r file (accepted b) =
-    prepareAnalysed r b (analyse file (b .functions) (b .calls) (b .first) [] (map (λ c. c .key) (b .cells)))
+    prepareAnalysed r b (analyse file (b .functions) (b .calls) (b .firstCall) [] (map (λ c. c .key) (b .cells)))
 
 -- 20, then the block as it is read.
 unfoldable pub preparedOf : Room → List ℕ → Prepared

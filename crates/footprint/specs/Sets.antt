@@ -1,13 +1,14 @@
--- "Read and write sets" of a call: its distinct keys, each with its two flags, in the order of their first use. Assumes nothing.
+-- "Read and write sets" of a call: its distinct keys, each with its two flags, in the order of their first use.
 use mathlib.Core.Bool.{_||_}
-use mathlib.Core.List.{List, [], _∷_, _++_}
+use mathlib.Core.List.{List, [], _∷_, _++_, map}
 use mathlib.Core.Option.{Option, none, some}
 use Prim.Native.Nat.{ℕ, zero, suc, _+_}
 use lib.Dec.{eqb}
 use lib.ListN.{drop}
+use Rattle.block.specs.Naming.{functionOf}
 use Rattle.arith.specs.Choice.{if_then_else_}
 use Rattle.block.specs.Instruction.{instrBytes, decode}
-use Rattle.block.specs.Record.{Function, functionId, callId, codeAt}
+use Rattle.block.specs.Record.{Function, codeAt}
 use Rattle.block.specs.declared.Call.{Call}
 use Rattle.block.specs.declared.Decoded.{Decoded}
 use Rattle.block.specs.declared.Decoded.the-variants.{Valid, Invalid}
@@ -35,12 +36,6 @@ codeAccesses c zero index size s = []
 codeAccesses c (suc left) index size s =
     decodedAccesses c (decode index size s) ++ codeAccesses c left (index + 1) size (drop instrBytes s)
 
--- The function that a call names, if the block has it.
-unfoldable pub functionOf : List Function → Call → Option Function
-functionOf [] c = none
-functionOf (f ∷ fs) c =
-    if eqb (functionId f) (callId c) then some f else functionOf fs c
-
 -- "An unknown function has empty sets."
 unfoldable pub functionSets : List ℕ → Call → Option Function → List Access
 functionSets block c none = []
@@ -58,3 +53,7 @@ readSet (e ∷ es) = if e .reads then e .key ∷ readSet es else readSet es
 unfoldable pub writeSet : List Access → List ℕ
 writeSet [] = []
 writeSet (e ∷ es) = if e .writes then e .key ∷ writeSet es else writeSet es
+
+-- The keys of accesses.
+abbrev pub accessKeys : List Access → List ℕ
+accessKeys es = map (λ e. e .key) es

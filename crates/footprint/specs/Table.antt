@@ -1,4 +1,4 @@
--- The table of all keys in opening and sets together, rising; a cell's number is its key's place in it. Assumes nothing.
+-- The table of all keys in opening and sets together, rising; a cell's number is its key's place in it.
 use mathlib.Core.Bool.{true, false}
 use mathlib.Core.List.{List, [], _∷_, _++_}
 use Prim.Native.Nat.{ℕ, suc, _+_}

@@ -1,10 +1,12 @@
--- The uses of keys as the code holds them: a key in two words, and at most two uses of one instruction. Assumes nothing.
-use mathlib.Core.Bool.{false}
+-- The uses of keys as the code holds them: a key in two words, and at most two uses of one instruction.
+use mathlib.Core.Bool.{false, true, _||_}
 use mathlib.Core.List.{List, [], _∷_}
+use mathlib.Core.Path.{_≡_}
 use Rattle.footprint.specs.Access.{Access}
 use Rattle.footprint.specs.Plan.{highWord, lowWord}
 use Rattle.footprint.specs.declared.KeyUse.{KeyUse}
 use Rattle.footprint.specs.declared.Uses.{Uses}
+use Prim.Native.Nat.{ℕ}
 
 -- An access, with its key in two words.
 unfoldable pub useOf : Access → KeyUse
@@ -18,3 +20,14 @@ unfoldable pub usesOf : List Access → Uses
 usesOf [] = record { count = 0; first = noUse; second = noUse }
 usesOf (a ∷ []) = record { count = 1; first = useOf a; second = noUse }
 usesOf (a ∷ b ∷ more) = record { count = 2; first = useOf a; second = useOf b }
+
+-- An access that reads or writes, of a key that passes K.
+pub record Keyed (K : ℕ → Type 0) (e : Access) : Type 0 where
+  pub used : (e .reads || e .writes) ≡ true
+  pub keyed : K (e .key)
+
+abbrev pub anyKey : ℕ → Type 0
+anyKey k = Unit {0}
+
+abbrev pub Used : Access → Type 0
+Used e = Keyed anyKey e

@@ -11,7 +11,8 @@ use block::record::high_of;
 use block::record::payee_of;
 ghost use mathlib.Core.Path.{_≡_};
 ghost use Rattle.block.specs.Key.{addressNumber, keyOf};
-ghost use Rattle.footprint.specs.Access.{accesses, cellKey, entryAccesses, payAccesses, sourceValue};
+ghost use Rattle.footprint.specs.Access.{accesses, entryAccesses, payAccesses};
+ghost use Rattle.block.specs.Naming.{cellKey, sourceValue};
 ghost use Rattle.footprint.specs.Uses.{noUse, useOf, usesOf};
 
 // The number that a source gives in a call: 32 bits hold it.

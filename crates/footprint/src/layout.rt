@@ -11,12 +11,12 @@ pub const KEY_COUNT: usize = 2;
 
 pub const FIRST_ENTRY: usize = 3;
 
-pub const ROW: usize = 27;
+pub const FIRST_ROW_WORD: usize = 27;
 
-// An entry is a cell number times FLAGS, plus its flags; those from WRITES on have the one for a cell that is written.
-pub const FLAGS: u64 = 4;
+// An entry is a cell number times ENTRY_FLAGS, plus its flags; those from WRITES_FLAG on have the one for a cell that is written.
+pub const ENTRY_FLAGS: u64 = 4;
 
-pub const WRITES: u64 = 2;
+pub const WRITES_FLAG: u64 = 2;
 
 // A cell has KEY_WORDS words of the keys.
 pub const KEY_WORDS: usize = 2;

@@ -1,4 +1,4 @@
--- "The tally of demand 3 is fed the block, the number of workers and the list of moves, nothing else." Assumes nothing.
+-- "The tally of demand 3 is fed the block, the number of workers and the list of moves, nothing else."
 use mathlib.Core.Bool.{Bool}
 use mathlib.Core.List.{List}
 use Prim.Native.Nat.{ℕ}
@@ -6,7 +6,7 @@ use Rattle.schedule.specs.Tally as tally
 use Rattle.schedule.specs.Tally.{Tally}
 use Rattle.schedule.specs.declared.Move.{Move}
 use Rattle.footprint.specs.Conflict.{conflict}
-use Rattle.analysis.specs.Laid.{callCount, setsAt}
+use Rattle.analysis.specs.LayoutOfBlock.{callCount, setsAt}
 use Rattle.machine.specs.Opening.{openingOf}
 use Rattle.machine.specs.Serial.{serialSteps}
 use Rattle.machine.specs.Run.{fixedSizes}
@@ -17,7 +17,7 @@ isBefore file i j = conflict (setsAt file i) (setsAt file j)
 
 -- "the number of steps that the serial run takes for that call"
 abbrev pub stepsIn : List ℕ → (workers : ℕ) → ℕ → ℕ
-stepsIn file workers c = serialSteps file (openingOf fixedSizes file workers .run) c
+stepsIn file workers call = serialSteps file (openingOf fixedSizes file workers .run) call
 
 -- The tally after a list of moves, and its answers.
 abbrev pub tallyAfter : List ℕ → (workers : ℕ) → List Move → Tally

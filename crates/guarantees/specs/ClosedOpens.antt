@@ -1,4 +1,4 @@
--- "Its kind 2 records open the next block", of every run whose calls are all finished. Assumes nothing.
+-- "Its kind 2 records open the next block", of every run whose calls are all finished.
 use mathlib.Core.Path.{_≡_}
 use mathlib.Core.List.{List}
 use Prim.Native.Nat.{ℕ, _<_, _≤_}
@@ -9,13 +9,13 @@ use Rattle.block.specs.Limits.{maxBytes, maxCallKeys, maxKeys, maxWorkers}
 use Rattle.block.specs.Encoding.{All, AreBytes, Routine, FunctionFits, CallFits, FunctionsKeep, CallsKeep, placed}
 use Rattle.block.specs.declared.Call.{Call}
 use Rattle.block.specs.declared.Verdict.the-variants as verdict
-use Rattle.footprint.specs.Rule.{State}
-use Rattle.analysis.specs.Laid.{blockOf, callCount, allSets, openingKeys}
+use Rattle.rule.specs.Rule.{State}
+use Rattle.analysis.specs.LayoutOfBlock.{blockOf, callCount, allSets, openingKeys}
 use Rattle.machine.specs.Opening.{openingOf}
 use Rattle.machine.specs.Run.{Run, Sizes}
 use Rattle.sheet.specs.Sheet.{nextFile}
 use Rattle.guarantees.specs.BlockTally.{tallyAfter}
-use Rattle.guarantees.specs.Agreement.{behind}
+use Rattle.guarantees.specs.Agreement.{runAfterMoves}
 use Rattle.guarantees.specs.Demand1.{Exactly, Large, keysTogether}
 use Rattle.guarantees.specs.Demand2.{openingState, closingState}
 
@@ -55,4 +55,4 @@ abbrev pub ClosedOpens : Type 0
 ClosedOpens =
     (s : Sizes) (file : List ℕ) (workers : ℕ) → AreBytes file → openingOf s file workers .answer ≡ verdict.Accepted
     → (ms : List Move) → ((c : ℕ) → c < callCount file → tallyAfter file workers ms .phase c ≡ finished)
-    → OpensNext (behind s file workers ms) (closingState file)
+    → OpensNext (runAfterMoves s file workers ms) (closingState file)

@@ -1,6 +1,6 @@
 -- Demand 1, sentence by sentence: which openings are accepted, which number an opening, a move or a sheet is refused by, and what a refusal
 -- leaves. The conditions are document 01's, said of the file and of the lent run; "takes every block, list of worker moves and buffer" and "always
--- ends" are the contracts, which have no `requires`. Assumes nothing.
+-- ends" are the contracts, which have no `requires`.
 use mathlib.Core.Path.{_≡_}
 use mathlib.Core.Bool.{true}
 use mathlib.Core.List.{List, [], _∷_}
@@ -14,18 +14,19 @@ use Rattle.schedule.specs.declared.Move.{Move}
 use Rattle.block.specs.Limits.{maxBytes, maxCalls, maxCallKeys, maxCode, maxKeys, maxWorkers}
 use Rattle.block.specs.Record.{Block, headBytes, callBytes}
 use Rattle.block.specs.Reader.{accepted, refused, readBlock}
-use Rattle.block.specs.Encoding.{All, AreBytes, Contents, Holds, blockFor, ReaderExact}
+use Rattle.block.specs.Encoding.{All, AreBytes, Contents, HoldsContents, blockFor, ReaderExact}
 use Rattle.block.specs.declared.Refusal.{Refusal}
 use Rattle.block.specs.declared.Refusal.the-variants.{InputTooLong, Missing, Kind, Length, Field, NotRising, BeyondLimit, Behind, Balances, Code, CallKeys, AllKeys, Workers, Buffers}
 use Rattle.block.specs.declared.Verdict.the-variants as verdict
 use Rattle.footprint.specs.Access.{Access}
 use Rattle.footprint.specs.Table.{insertKeys}
-use Rattle.analysis.specs.Laid.{allSets, openingKeys}
-use Rattle.machine.specs.Action.{notPaid}
-use Rattle.machine.specs.Run.{Run, Sizes, sizesOf, fixedSizes, seatOf, rowIn, entryCell, entryWrites, stateOf, statusWord, waiting, finished}
+use Rattle.analysis.specs.LayoutOfBlock.{allSets, openingKeys}
+use Rattle.block.specs.Outcomes.{notPaid}
+use Rattle.machine.specs.Run.{Run, Sizes, sizesOf, fixedSizes, seatOf, rowIn, stateOf, statusWord, waiting, finished, outcomeWord, countWord}
+use Rattle.footprint.specs.Plan.{entryCell, entryWrites, entryFlags}
 use Rattle.machine.specs.Opening.{headOf, openingOf}
 use Rattle.machine.specs.Step.{cellAt}
-use Rattle.machine.specs.Moves.{keysOf, ownEntries, beginOf, stepOf, cancelOf, moveOf}
+use Rattle.machine.specs.Moves.{callKeyCount, ownEntries, beginOf, stepOf, cancelOf, moveOf}
 use Rattle.machine.specs.declared.Answer.{Answer}
 use Rattle.machine.specs.declared.Answer.the-variants as answer
 use Rattle.sheet.specs.Sheet.{sheetBytes, fieldOf, filled, sheetOf}
@@ -41,7 +42,7 @@ pub record Large (s : Sizes) : Type 0 where
   pub keys : fixedSizes .keys ≤ s .keys
   pub cells : fixedSizes .cells ≤ s .cells
   pub status : fixedSizes .status ≤ s .status
-  pub olds : fixedSizes .olds ≤ s .olds
+  pub saved : fixedSizes .saved ≤ s .saved
 
 -- ---- the opening
 
@@ -56,14 +57,14 @@ pub record Openable (s : Sizes) (file : List ℕ) (workers : ℕ) : Type 0 where
   pub large : Large s
   pub some : (1 ≤ workers) × (workers ≤ maxWorkers)
   pub contents : Contents
-  pub holds : Holds file contents
+  pub holds : HoldsContents file contents
   pub each : All (λ es. length es ≤ maxCallKeys) (allSets file (blockFor contents))
   pub together : length (keysTogether (openingKeys (blockFor contents)) (allSets file (blockFor contents))) ≤ maxKeys
 
--- The calls before number c keep their limits, with these opening keys.
-pub record KeysBefore (sets : List (List Access)) (keys : List ℕ) (c : ℕ) : Type 0 where
-  pub each : (i : ℕ) → i < c → length (getD sets i []) ≤ maxCallKeys
-  pub together : length (keysTogether keys (take c sets)) ≤ maxKeys
+-- The calls before number `call` keep their limits, with these opening keys.
+pub record KeysBefore (sets : List (List Access)) (keys : List ℕ) (call : ℕ) : Type 0 where
+  pub each : (i : ℕ) → i < call → length (getD sets i []) ≤ maxCallKeys
+  pub together : length (keysTogether keys (take call sets)) ≤ maxKeys
 
 -- "11 over 24 keys, at the call; 12 over 1,024, at the call that passes it": the first call that does, and the offset of its record.
 pub record Over24 (sets : List (List Access)) (keys : List ℕ) (first at : ℕ) : Type 0 where
@@ -103,9 +104,9 @@ OpeningRefuses s file workers (Behind at) = ReaderRefuses s file workers (Behind
 OpeningRefuses s file workers (Balances at) = ReaderRefuses s file workers (Balances at)
 OpeningRefuses s file workers (Code at) = ReaderRefuses s file workers (Code at)
 OpeningRefuses s file workers (CallKeys at) =
-    Before1 s workers × ((b : Block) × (readBlock file ≡ accepted b) × Over24 (allSets file b) (openingKeys b) (b .first) at)
+    Before1 s workers × ((b : Block) × (readBlock file ≡ accepted b) × Over24 (allSets file b) (openingKeys b) (b .firstCall) at)
 OpeningRefuses s file workers (AllKeys at) =
-    Before1 s workers × ((b : Block) × (readBlock file ≡ accepted b) × Over1024 (allSets file b) (openingKeys b) (b .first) at)
+    Before1 s workers × ((b : Block) × (readBlock file ≡ accepted b) × Over1024 (allSets file b) (openingKeys b) (b .firstCall) at)
 
 -- "a refused opening leaves the lent buffers zero": each list is zero and as long as it was, and the head is zero.
 pub record Cleared (s : Sizes) (r : Run) : Type 0 where
@@ -114,7 +115,7 @@ pub record Cleared (s : Sizes) (r : Run) : Type 0 where
   pub keys : r .keys ≡ repeated (s .keys) 0
   pub cells : r .cells ≡ repeated (s .cells) (pos 0)
   pub status : r .status ≡ repeated (s .status) 0
-  pub olds : r .olds ≡ repeated (s .olds) (pos 0)
+  pub saved : r .saved ≡ repeated (s .saved) (pos 0)
 
 -- ---- a lent run
 
@@ -127,24 +128,24 @@ CallsIn r = r .head .calls ≤ maxCalls
 
 -- What a worker's seat holds: 0 for none, or a call's number plus 1.
 abbrev pub heldIn : Run → ℕ → ℕ
-heldIn r w = seatOf (r .head) w .call
+heldIn r worker = seatOf (r .head) worker .call
 
 abbrev pub StateIn : Run → ℕ → Type 0
-StateIn r c = stateOf (r .status) c ≤ finished
+StateIn r call = stateOf (r .status) call ≤ finished
 
-abbrev pub Finished : Run → ℕ → Type 0
-Finished r c = stateOf (r .status) c ≡ finished
+abbrev pub CallFinished : Run → ℕ → Type 0
+CallFinished r call = stateOf (r .status) call ≡ finished
 
--- The earlier conflicting calls of c, by its row.
-abbrev pub Earlier : Run → (c i : ℕ) → Type 0
-Earlier r c i = (i < c) × (inRow (rowIn (r .plan) c) i ≡ true)
+-- The earlier conflicting calls of a call, by its row.
+abbrev pub EarlierConflicting : Run → (call i : ℕ) → Type 0
+EarlierConflicting r call i = (i < call) × (inRow (rowIn (r .plan) call) i ≡ true)
 
 -- An entry has a flag, and where it is written a cell number of the table.
 abbrev pub EntryIn : ℕ → Type 0
-EntryIn e = (e % 4 ≡ 0 → ⊥) × (entryWrites e ≡ true → entryCell e < maxKeys)
+EntryIn e = (e % entryFlags ≡ 0 → ⊥) × (entryWrites e ≡ true → entryCell e < maxKeys)
 
 abbrev pub EntriesIn : Run → ℕ → Type 0
-EntriesIn r c = (keysOf (r .plan) c ≤ maxCallKeys) × All EntryIn (ownEntries (r .plan) c)
+EntriesIn r call = (callKeyCount (r .plan) call ≤ maxCallKeys) × All EntryIn (ownEntries (r .plan) call)
 
 -- ---- BEGIN
 
@@ -153,60 +154,60 @@ pub record Before21 (r : Run) : Type 0 where
   pub large : Large (sizesOf r)
   pub workers : WorkersIn r
 
-pub record Before22 (r : Run) (w : ℕ) : Type 0 where
+pub record Before22 (r : Run) (worker : ℕ) : Type 0 where
   pub so-far : Before21 r
-  pub worker : w < r .head .workers
+  pub known-worker : worker < r .head .workers
   pub calls : CallsIn r
 
-pub record Before23 (r : Run) (w c : ℕ) : Type 0 where
-  pub so-far : Before22 r w
-  pub call : c < r .head .calls
-  pub held : heldIn r w ≤ r .head .calls
+pub record Before23 (r : Run) (worker call : ℕ) : Type 0 where
+  pub so-far : Before22 r worker
+  pub known-call : call < r .head .calls
+  pub held : heldIn r worker ≤ r .head .calls
 
-pub record Before24 (r : Run) (w c : ℕ) : Type 0 where
-  pub so-far : Before23 r w c
-  pub idle : heldIn r w ≡ 0
-  pub state : StateIn r c
+pub record Before24 (r : Run) (worker call : ℕ) : Type 0 where
+  pub so-far : Before23 r worker call
+  pub idle : heldIn r worker ≡ 0
+  pub state : StateIn r call
 
-pub record Before25 (r : Run) (w c : ℕ) : Type 0 where
-  pub so-far : Before24 r w c
-  pub waits : stateOf (r .status) c ≡ waiting
-  pub states : (i : ℕ) → Earlier r c i → StateIn r i
+pub record Before25 (r : Run) (worker call : ℕ) : Type 0 where
+  pub so-far : Before24 r worker call
+  pub waits : stateOf (r .status) call ≡ waiting
+  pub states : (i : ℕ) → EarlierConflicting r call i → StateIn r i
 
 -- "21 no such worker; 22 no such call; 23 worker holds a call; 24 call not waiting; 25 an earlier conflicting call unfinished": when BEGIN
 -- gives each answer, 20 apart.
-abbrev pub BeginGives : Run → (w c : ℕ) → Answer → Type 0
-BeginGives r w c answer.Accepted = Before25 r w c × ((i : ℕ) → Earlier r c i → Finished r i) × EntriesIn r c
-BeginGives r w c answer.Damaged = ⊥
-BeginGives r w c answer.NoWorker = Before21 r × (r .head .workers ≤ w)
-BeginGives r w c answer.NoCall = Before22 r w × (r .head .calls ≤ c)
-BeginGives r w c answer.WorkerBusy = Before23 r w c × (heldIn r w ≡ 0 → ⊥)
-BeginGives r w c answer.NotWaiting = Before24 r w c × (stateOf (r .status) c ≡ waiting → ⊥)
-BeginGives r w c answer.EarlierUnfinished = Before25 r w c × ((i : ℕ) × Earlier r c i × (Finished r i → ⊥))
-BeginGives r w c answer.WorkerIdle = ⊥
-BeginGives r w c answer.CallUnfinished = ⊥
-BeginGives r w c answer.SheetTooLong = ⊥
+abbrev pub BeginGives : Run → (worker call : ℕ) → Answer → Type 0
+BeginGives r worker call answer.Accepted = Before25 r worker call × ((i : ℕ) → EarlierConflicting r call i → CallFinished r i) × EntriesIn r call
+BeginGives r worker call answer.Damaged = ⊥
+BeginGives r worker call answer.NoWorker = Before21 r × (r .head .workers ≤ worker)
+BeginGives r worker call answer.NoCall = Before22 r worker × (r .head .calls ≤ call)
+BeginGives r worker call answer.WorkerBusy = Before23 r worker call × (heldIn r worker ≡ 0 → ⊥)
+BeginGives r worker call answer.NotWaiting = Before24 r worker call × (stateOf (r .status) call ≡ waiting → ⊥)
+BeginGives r worker call answer.EarlierUnfinished = Before25 r worker call × ((i : ℕ) × EarlierConflicting r call i × (CallFinished r i → ⊥))
+BeginGives r worker call answer.WorkerIdle = ⊥
+BeginGives r worker call answer.CallUnfinished = ⊥
+BeginGives r worker call answer.SheetTooLong = ⊥
 
 -- ---- STEP and CANCEL
 
 -- "21 no such worker", "26 worker holds none": when STEP and CANCEL are refused by each answer, 20 apart.
-abbrev pub HeldRefuses : Run → (w : ℕ) → Answer → Type 0
-HeldRefuses r w answer.Accepted = ⊥
-HeldRefuses r w answer.Damaged = ⊥
-HeldRefuses r w answer.NoWorker = Before21 r × (r .head .workers ≤ w)
-HeldRefuses r w answer.NoCall = ⊥
-HeldRefuses r w answer.WorkerBusy = ⊥
-HeldRefuses r w answer.NotWaiting = ⊥
-HeldRefuses r w answer.EarlierUnfinished = ⊥
-HeldRefuses r w answer.WorkerIdle = Before21 r × (w < r .head .workers) × (heldIn r w ≡ 0)
-HeldRefuses r w answer.CallUnfinished = ⊥
-HeldRefuses r w answer.SheetTooLong = ⊥
+abbrev pub HeldRefuses : Run → (worker : ℕ) → Answer → Type 0
+HeldRefuses r worker answer.Accepted = ⊥
+HeldRefuses r worker answer.Damaged = ⊥
+HeldRefuses r worker answer.NoWorker = Before21 r × (r .head .workers ≤ worker)
+HeldRefuses r worker answer.NoCall = ⊥
+HeldRefuses r worker answer.WorkerBusy = ⊥
+HeldRefuses r worker answer.NotWaiting = ⊥
+HeldRefuses r worker answer.EarlierUnfinished = ⊥
+HeldRefuses r worker answer.WorkerIdle = Before21 r × (worker < r .head .workers) × (heldIn r worker ≡ 0)
+HeldRefuses r worker answer.CallUnfinished = ⊥
+HeldRefuses r worker answer.SheetTooLong = ⊥
 
 -- A worker holds a call of the run.
-pub record HoldsCall (r : Run) (w c : ℕ) : Type 0 where
-  pub so-far : Before22 r w
-  pub held : heldIn r w ≡ c + 1
-  pub call : c < r .head .calls
+pub record HoldsCall (r : Run) (worker call : ℕ) : Type 0 where
+  pub so-far : Before22 r worker
+  pub held : heldIn r worker ≡ call + 1
+  pub known-call : call < r .head .calls
 
 -- ---- the sheet
 
@@ -214,11 +215,11 @@ pub record HoldsCall (r : Run) (w c : ℕ) : Type 0 where
 pub record Before27 (r : Run) : Type 0 where
   pub large : Large (sizesOf r)
   pub calls : CallsIn r
-  pub states : (c : ℕ) → c < r .head .calls → StateIn r c
+  pub states : (call : ℕ) → call < r .head .calls → StateIn r call
 
 pub record Before28 (r : Run) : Type 0 where
   pub so-far : Before27 r
-  pub finished : (c : ℕ) → c < r .head .calls → Finished r c
+  pub finished : (call : ℕ) → call < r .head .calls → CallFinished r call
   pub cells : r .head .cells ≤ maxKeys
   pub balances : (n : ℕ) → n < r .head .cells → fieldOf (r .keys) n ≡ 0 → nonNeg (cellAt (r .cells) n) ≡ true
 
@@ -232,15 +233,15 @@ SheetRefuses r output answer.WorkerBusy = ⊥
 SheetRefuses r output answer.NotWaiting = ⊥
 SheetRefuses r output answer.EarlierUnfinished = ⊥
 SheetRefuses r output answer.WorkerIdle = ⊥
-SheetRefuses r output answer.CallUnfinished = Before27 r × ((c : ℕ) × (c < r .head .calls) × (Finished r c → ⊥))
+SheetRefuses r output answer.CallUnfinished = Before27 r × ((call : ℕ) × (call < r .head .calls) × (CallFinished r call → ⊥))
 SheetRefuses r output answer.SheetTooLong = Before28 r × (length output < length (sheetBytes r))
 
 -- It is written where it fits and each outcome and count is in its range.
 pub record Writable (r : Run) (output : List ℕ) : Type 0 where
   pub so-far : Before28 r
   pub fits : length (sheetBytes r) ≤ length output
-  pub outcomes : (c : ℕ) → c < r .head .calls → statusWord (r .status) c 1 ≤ notPaid
-  pub counts : (c : ℕ) → c < r .head .calls → statusWord (r .status) c 2 ≤ maxCode
+  pub outcomes : (call : ℕ) → call < r .head .calls → statusWord (r .status) call outcomeWord ≤ notPaid
+  pub counts : (call : ℕ) → call < r .head .calls → statusWord (r .status) call countWord ≤ maxCode
 
 -- ---- the demand
 
@@ -254,12 +255,12 @@ pub record Demand1 : Type 0 where
   pub opens-not : (s : Sizes) (file : List ℕ) (workers : ℕ) (why : Refusal)
       → Exactly (openingOf s file workers .answer ≡ verdict.Refused why) (OpeningRefuses s file workers why)
   -- Each number of a move, lowest first, exactly under its condition.
-  pub begins : (r : Run) (w c : ℕ) (a : Answer) → (a ≡ answer.Damaged → ⊥) → Exactly (beginOf r w c .answer ≡ a) (BeginGives r w c a)
-  pub steps : (block : List ℕ) (r : Run) (w : ℕ) (a : Answer) → (a ≡ answer.Accepted → ⊥) → (a ≡ answer.Damaged → ⊥)
-      → Exactly (stepOf block r w .answer ≡ a) (HeldRefuses r w a)
-  pub cancels : (r : Run) (w : ℕ) (a : Answer) → (a ≡ answer.Accepted → ⊥) → (a ≡ answer.Damaged → ⊥)
-      → Exactly (cancelOf r w .answer ≡ a) (HeldRefuses r w a)
-  pub cancelled : (r : Run) (w : ℕ) → Exactly (cancelOf r w .answer ≡ answer.Accepted) ((c : ℕ) × HoldsCall r w c × EntriesIn r c)
+  pub begins : (r : Run) (worker call : ℕ) (a : Answer) → (a ≡ answer.Damaged → ⊥) → Exactly (beginOf r worker call .answer ≡ a) (BeginGives r worker call a)
+  pub steps : (block : List ℕ) (r : Run) (worker : ℕ) (a : Answer) → (a ≡ answer.Accepted → ⊥) → (a ≡ answer.Damaged → ⊥)
+      → Exactly (stepOf block r worker .answer ≡ a) (HeldRefuses r worker a)
+  pub cancels : (r : Run) (worker : ℕ) (a : Answer) → (a ≡ answer.Accepted → ⊥) → (a ≡ answer.Damaged → ⊥)
+      → Exactly (cancelOf r worker .answer ≡ a) (HeldRefuses r worker a)
+  pub cancelled : (r : Run) (worker : ℕ) → Exactly (cancelOf r worker .answer ≡ answer.Accepted) ((call : ℕ) × HoldsCall r worker call × EntriesIn r call)
   -- The same of the sheet.
   pub refuses : (r : Run) (output : List ℕ) (a : Answer) → (a ≡ answer.Damaged → ⊥)
       → Exactly (sheetOf r output .answer ≡ Refused a) (SheetRefuses r output a)

@@ -1,4 +1,4 @@
--- Demand 2, sentence by sentence. Assumes nothing.
+-- Demand 2, sentence by sentence.
 use mathlib.Core.Path.{_≡_}
 use mathlib.Core.Bool.{Bool, true, false, _&&_, not}
 use mathlib.Core.List.{List}
@@ -15,30 +15,29 @@ use Rattle.block.specs.Encoding.{AreBytes}
 use Rattle.footprint.specs.Sets.{readSet}
 use Rattle.footprint.specs.Conflict.{member, strongSwap}
 use Rattle.footprint.specs.Plan.{openingValue}
-use Rattle.footprint.specs.Rule.{State, Left, stateWithinLimit, stepsFor, transaction, transactions, stateLeft}
+use Rattle.rule.specs.Rule.{State, Left, stateWithinLimit, stepsFor, transaction, transactions, stateLeft}
 use Rattle.analysis.specs.KeyTable.{keyAt, keysIn}
-use Rattle.analysis.specs.Laid.{blockOf, callCount, setsAt}
-use Rattle.machine.specs.Run.{Run, Sizes, stateOf, statusWord, rowIn, finished}
+use Rattle.analysis.specs.LayoutOfBlock.{blockOf, callCount, setsAt}
+use Rattle.machine.specs.Run.{Run, Sizes, stateOf, statusWord, rowIn, finished, outcomeWord, countWord}
 use Rattle.machine.specs.Opening.{openingOf}
 use Rattle.machine.specs.Step.{View, Stepped, damaged, more, done, cellAt, stepCall}
 use Rattle.machine.specs.Moves.{viewOf}
 use Rattle.machine.specs.Serial.{maxSteps}
-use Rattle.machine.specs.Made.{InstrOf, begun, stepsOf, stepsTaken, Hold}
-use Rattle.machine.specs.StepRule.{Leaves}
+use Rattle.machine.specs.CallInRun.{InstrOf, begunLocal, stepTimes, stepsTaken, Hold, LeavesAsRule}
 use Rattle.guarantees.specs.BlockTally.{stepsIn}
-use Rattle.guarantees.specs.Agreement.{openedIn, mayWrite, serially}
-use Rattle.guarantees.specs.SerialRule.{callIn}
+use Rattle.guarantees.specs.Agreement.{openedIn, mayWrite, serialRunOfFile}
+use Rattle.guarantees.specs.RuleRun.{callIn}
 
 -- The keys of a run's cells, in the order of their numbers.
 abbrev pub tableIn : Run → List ℕ
 tableIn r = keysIn (r .head .cells) (r .keys)
 
--- Call c of the block, and the rule for it.
+-- A call of the block, and the rule for it.
 abbrev pub callOfBlock : List ℕ → ℕ → Call
-callOfBlock file c = callIn (blockOf file .calls) c
+callOfBlock file call = callIn (blockOf file .calls) call
 
 abbrev pub ruleFor : List ℕ → ℕ → State → Left
-ruleFor file c σ = transaction file (blockOf file .functions) (callOfBlock file c) σ
+ruleFor file call σ = transaction file (blockOf file .functions) (callOfBlock file call) σ
 
 -- The state that a block opens with; what the rule, folded over the block's calls, leaves of each, and the state behind the last.
 abbrev pub openingState : List ℕ → State
@@ -50,15 +49,15 @@ ruleLefts file = transactions file (blockOf file .functions) (blockOf file .call
 abbrev pub closingState : List ℕ → State
 closingState file = stateLeft (openingState file) (ruleLefts file)
 
--- Call c of the opened run; begun in a register with these cells; and stepped to its end.
-abbrev pub callView : Sizes → List ℕ → (workers c : ℕ) → View
-callView s file workers c = viewOf file (openedIn s file workers) c (callOfBlock file c)
+-- A call of the opened run; begun in a register with these cells; and stepped to its end.
+abbrev pub callView : Sizes → List ℕ → (workers call : ℕ) → View
+callView s file workers call = viewOf file (openedIn s file workers) call (callOfBlock file call)
 
-abbrev pub begunCall : Sizes → List ℕ → (workers c : ℕ) → List ℤ → Stepped
-begunCall s file workers c cells = more (begun (callView s file workers c) cells) cells
+abbrev pub begunCall : Sizes → List ℕ → (workers call : ℕ) → List ℤ → Stepped
+begunCall s file workers call cells = more (begunLocal (callView s file workers call) cells) cells
 
-abbrev pub wholeCall : Sizes → List ℕ → (workers c : ℕ) → List ℤ → Stepped
-wholeCall s file workers c cells = stepsOf maxSteps (callView s file workers c) (begunCall s file workers c cells)
+abbrev pub wholeCall : Sizes → List ℕ → (workers call : ℕ) → List ℤ → Stepped
+wholeCall s file workers call cells = stepTimes maxSteps (callView s file workers call) (begunCall s file workers call cells)
 
 -- The cells after k more steps of a call: a refused step changes nothing, and a call that has ended makes none.
 abbrev pub cellsLeft : (before : List ℤ) → Stepped → List ℤ
@@ -78,9 +77,9 @@ pub record Register (s : Sizes) (file : List ℕ) (workers : ℕ) (cells : List 
   pub hold : Hold (tableIn (openedIn s file workers)) state cells
   pub limit : stateWithinLimit state ≡ true
 
--- Whether the cell at a place of the table is in the read set of call c.
+-- Whether the cell at a place of the table is in the read set of a call.
 abbrev pub mayRead : List ℕ → Run → (call cell : ℕ) → Bool
-mayRead file r c x = member (keyAt (r .keys) x) (readSet (setsAt file c))
+mayRead file r call x = member (keyAt (r .keys) x) (readSet (setsAt file call))
 
 -- What a call leaves of two registers: one receipt; and each cell that was alike is alike.
 abbrev pub EndsAlike : (cells : ℕ) (before before′ : List ℤ) (outcome count : ℕ) (after : List ℤ) → Stepped → Type 0
@@ -95,48 +94,48 @@ LeavesAlike n before before′ damaged b = ⊥
 LeavesAlike n before before′ (more l after) b = ⊥
 LeavesAlike n before before′ (done outcome count after) b = EndsAlike n before before′ outcome count after b
 
--- The receipt of call c in the serial run is what the rule leaves of it.
-pub record Receives (s : Sizes) (file : List ℕ) (workers c : ℕ) : Type 0 where
+-- The receipt of a call in the serial run is what the rule leaves of it.
+pub record Receives (s : Sizes) (file : List ℕ) (workers call : ℕ) : Type 0 where
   pub left : Left
-  pub listed : getElem? (ruleLefts file) c ≡ some left
-  pub ended : stateOf (serially s file workers .status) c ≡ finished
-  pub outcome : statusWord (serially s file workers .status) c 1 ≡ left .outcome
-  pub count : statusWord (serially s file workers .status) c 2 ≡ left .count
+  pub listed : getElem? (ruleLefts file) call ≡ some left
+  pub ended : stateOf (serialRunOfFile s file workers .status) call ≡ finished
+  pub outcome : statusWord (serialRunOfFile s file workers .status) call outcomeWord ≡ left .outcome
+  pub count : statusWord (serialRunOfFile s file workers .status) call countWord ≡ left .count
 
 -- What holds of an accepted block, opened in any buffers.
 pub record Demand2 (s : Sizes) (file : List ℕ) (workers : ℕ) : Type 0 where
   -- "One call .. leave[s] exactly what the published transaction rule gives over our instruction set": state, outcome and count, in as many
   -- steps as document 01 says; and the balance limit is kept, whatever the outcome.
-  pub call : (c : ℕ) → c < callCount file → (σ : State) → stateWithinLimit σ ≡ true → (cells : List ℤ)
+  pub call : (call : ℕ) → call < callCount file → (σ : State) → stateWithinLimit σ ≡ true → (cells : List ℤ)
       → Hold (tableIn (openedIn s file workers)) σ cells
-      → Leaves (tableIn (openedIn s file workers)) (ruleFor file c σ) (wholeCall s file workers c cells)
-  pub call-steps : (c : ℕ) → c < callCount file → (σ : State) → stateWithinLimit σ ≡ true → (cells : List ℤ)
+      → LeavesAsRule (tableIn (openedIn s file workers)) (ruleFor file call σ) (wholeCall s file workers call cells)
+  pub call-steps : (call : ℕ) → call < callCount file → (σ : State) → stateWithinLimit σ ≡ true → (cells : List ℤ)
       → Hold (tableIn (openedIn s file workers)) σ cells
-      → stepsTaken maxSteps (callView s file workers c) (begunCall s file workers c cells) ≡ stepsFor (ruleFor file c σ)
-  pub limit : (c : ℕ) → c < callCount file → (σ : State) → stateWithinLimit σ ≡ true → stateWithinLimit (ruleFor file c σ .state) ≡ true
+      → stepsTaken maxSteps (callView s file workers call) (begunCall s file workers call cells) ≡ stepsFor (ruleFor file call σ)
+  pub limit : (call : ℕ) → call < callCount file → (σ : State) → stateWithinLimit σ ≡ true → stateWithinLimit (ruleFor file call σ .state) ≡ true
   -- The rule's body of a function is its code, instruction by instruction.
   pub bodies : (i : ℕ) (f : Function) → getElem? (blockOf file .functions) i ≡ some f → (p : ℕ) → p < f .size → InstrOf file f p
   -- ".. and a block run in order": the serial run has the receipt that the rule gives each call behind those before it, and the cells of the
   -- state that the last one leaves.
-  pub receipts : (c : ℕ) → c < callCount file → Receives s file workers c
-  pub cells : Hold (tableIn (openedIn s file workers)) (closingState file) (serially s file workers .cells)
+  pub receipts : (call : ℕ) → call < callCount file → Receives s file workers call
+  pub cells : Hold (tableIn (openedIn s file workers)) (closingState file) (serialRunOfFile s file workers .cells)
   -- A key that is not in the table keeps what it has through a call, and has 0 at the opening and behind the block.
-  pub call-elsewhere : (c : ℕ) → c < callCount file → (k : ℕ) → member k (tableIn (openedIn s file workers)) ≡ false
-      → (σ : State) → ruleFor file c σ .state k ≡ σ k
+  pub call-elsewhere : (call : ℕ) → call < callCount file → (k : ℕ) → member k (tableIn (openedIn s file workers)) ≡ false
+      → (σ : State) → ruleFor file call σ .state k ≡ σ k
   pub elsewhere : (k : ℕ) → member k (tableIn (openedIn s file workers)) ≡ false
       → (openingState file k ≡ pos 0) × (closingState file k ≡ pos 0)
   -- "A call's steps are its entry, its counted instructions, and one for reaching the end": the number that the tally takes for it.
-  pub steps : (c : ℕ) (l : Left) → getElem? (ruleLefts file) c ≡ some l → stepsIn file workers c ≡ stepsFor l
+  pub steps : (call : ℕ) (l : Left) → getElem? (ruleLefts file) call ≡ some l → stepsIn file workers call ≡ stepsFor l
   -- "A call changes no cell outside its write set": after any number of steps, from any cells.
-  pub frame : (c : ℕ) → c < callCount file → (cells : List ℤ) (k x : ℕ) → x < openedIn s file workers .head .cells
-      → mayWrite file (openedIn s file workers) c x ≡ false
-      → cellAt (cellsAfter k (callView s file workers c) cells (begunCall s file workers c cells)) x ≡ cellAt cells x
+  pub frame : (call : ℕ) → call < callCount file → (cells : List ℤ) (k x : ℕ) → x < openedIn s file workers .head .cells
+      → mayWrite file (openedIn s file workers) call x ≡ false
+      → cellAt (cellsAfter k (callView s file workers call) cells (begunCall s file workers call cells)) x ≡ cellAt cells x
   -- ".. and its course depends on no other cell than those it reads: two registers alike there, both within the balance limit, give it one
   -- receipt and stay alike wherever they were."
-  pub alike : (c : ℕ) → c < callCount file → (cells cells′ : List ℤ)
+  pub alike : (call : ℕ) → call < callCount file → (cells cells′ : List ℤ)
       → Register s file workers cells → Register s file workers cells′
-      → ((x : ℕ) → x < openedIn s file workers .head .cells → mayRead file (openedIn s file workers) c x ≡ true → cellAt cells x ≡ cellAt cells′ x)
-      → LeavesAlike (openedIn s file workers .head .cells) cells cells′ (wholeCall s file workers c cells) (wholeCall s file workers c cells′)
+      → ((x : ℕ) → x < openedIn s file workers .head .cells → mayRead file (openedIn s file workers) call x ≡ true → cellAt cells x ≡ cellAt cells′ x)
+      → LeavesAlike (openedIn s file workers .head .cells) cells cells′ (wholeCall s file workers call cells) (wholeCall s file workers call cells′)
   -- "A later call waits for an earlier one exactly when the published strong-swap test fails on the sets of document 01."
   pub waits : (i j : ℕ) → j < callCount file
       → inRow (rowIn (openedIn s file workers .plan) j) i ≡ (ltb i j && not (strongSwap (setsAt file i) (setsAt file j)))

@@ -1,5 +1,4 @@
 -- REGISTER by the tally: what it prints of an accepted block, from the file and the input alone. No run is mentioned but the serial one.
--- Assumes nothing.
 use mathlib.Core.Path.{_≡_}
 use mathlib.Core.Bool.{Bool, true, false, _&&_}
 use mathlib.Core.List.{List, [], _∷_, _++_}
@@ -24,8 +23,8 @@ use Rattle.console.specs.Register.{answerText, nextNumber, maxInput, registerOf
 use Rattle.console.specs.declared.Line.{Line}
 use Rattle.console.specs.declared.Line.the-variants.{Empty}
 use Rattle.guarantees.specs.BlockTally.{tallyAfter, tallyAnswers}
-use Rattle.guarantees.specs.Agreement.{serially}
-use Rattle.analysis.specs.Laid.{callCount}
+use Rattle.guarantees.specs.Agreement.{serialRunOfFile}
+use Rattle.analysis.specs.LayoutOfBlock.{callCount}
 
 -- The lines of an input, each by its move; none for "a line in no such form". "A line ends at a line feed or, unless empty, at the input's
 -- end".
@@ -63,7 +62,7 @@ unfoldable pub registerByTally : List ℕ → List (Option Move) → List ℕ
 registerByTally file ls =
     linesText 1 ls (tallyAnswers file maxWorkers (movesOf ls))
     ++ (if finishedBelow (tallyAfter file maxWorkers (movesOf ls)) (callCount file)
-    then sheetText (sheetBytes (serially fixedSizes file maxWorkers))
+    then sheetText (sheetBytes (serialRunOfFile fixedSizes file maxWorkers))
     else refusedText 0 27)
 
 -- For every accepted block and every input: whatever the order of the moves, REGISTER prints what the tally and the serial run say.

@@ -1,1 +1,1 @@
-// What holds of the register: the published transaction rule, the demands as statements, and the worked examples.
+// The demands as statements with their proofs, and the worked examples: no code.

@@ -1,4 +1,4 @@
--- What is handed over, text behind text, and kept in the transcript. Assumes nothing.
+-- What is handed over, text behind text, and kept in the transcript.
 use mathlib.Core.Path.{_≡_, refl, sym, ap, subst, _∙_}
 use mathlib.Core.Bool.{Bool, true, false, true≢false}
 use mathlib.Core.List.{List, [], _∷_, _++_, append-assoc, append-nil}
@@ -12,14 +12,14 @@ use lib.Seq.{drop-cons, drop-append-seam, take-append-seam, length-take-le}
 use borrow.Rule.Slice.PartMut.{midOf, postOf, putMid}
 use Rattle.block.specs.Limits.{maxBytes}
 use Rattle.wire.specs.Bytes.{stored, repeated}
-use Rattle.wire.specs.Laws.{stored-append, stored-past, stored-inside}
-use Rattle.text.specs.Written.{Written}
+use Rattle.wire.proofs.BytesLaws.{stored-append, stored-past, stored-inside}
 use Rattle.machine.specs.Run.{Sizes, fixedSizes}
 use Rattle.listing.specs.Listing.{Listed, listingOf, maxListing}
-use Rattle.listing.proofs.Sizes.{listing-fits}
+use Rattle.listing.proofs.ListingSizes.{listing-fits}
 use Rattle.host.specs.Exchange.{Handed, Filled, Reads, FileIn, Inspects}
 use Rattle.host.specs.declared.Exchange.{Exchange}
 use Rattle.host.specs.declared.FileRead.{FileRead}
+use Rattle.text.specs.Written.{Written}
 
 -- ---- a text stored byte by byte: what is stored and what is left make up the whole
 
@@ -78,9 +78,9 @@ pub reads-full : (size n : ℕ) → n ≤ size → size ≤ n → Reads size (re
 reads-full size n l m =
     record { within = l; whole = λ h e. omega arith; none = λ h. absurd (true≢false h) }
 
-pub filled : (before mid after : List ℕ) (n : ℕ) → n ≤ length mid → length mid ≡ length before → drop n after ≡ repeated (length mid - n) 0
+pub read-filled : (before mid after : List ℕ) (n : ℕ) → n ≤ length mid → length mid ≡ length before → drop n after ≡ repeated (length mid - n) 0
     → Filled before after n
-filled before mid after n l e d =
+read-filled before mid after n l e d =
     record { within = omega arith; behind = d ∙ ap (λ (k : ℕ). repeated (k - n) 0) e }
 
 -- The first n bytes of a buffer, lent and come back, before the rest.
@@ -92,13 +92,13 @@ module _ (n : ℕ) (buffer last : List ℕ) {got : ℕ} (l : got ≤ length last
       → Filled buffer after got
   got-filled {after} h e d =
       let same : length (last ++ drop n buffer) ≡ length buffer = omega (arith, length-append last (drop n buffer), length-drop n buffer, length-take-le n buffer h) in
-      filled buffer (last ++ drop n buffer) after got got-fits same d
+      read-filled buffer (last ++ drop n buffer) after got got-fits same d
 
 pub file-in : (before mid after : List ℕ) {r : FileRead} → Reads (length before) r → length mid ≡ length before
     → drop (r .length) after ≡ repeated (length mid - r .length) 0 → FileIn before after r
 file-in before mid after {r} reads e d =
     let l : r .length ≤ length before = reads .within in
-    record { reads = reads; filled = filled before mid after (r .length) (omega arith) e d }
+    record { reads = reads; filled = read-filled before mid after (r .length) (omega arith) e d }
 
 -- A file read into a buffer of one byte more than a block may have.
 module _ (buffer file : List ℕ) {f : FileRead} (i : FileIn buffer file f) (same : length file ≡ length buffer) where
@@ -123,8 +123,8 @@ front {before} {after} {n} {text} w l =
     ap (λ (m : ℕ). take m after) e ∙ ap (take (length text)) (w .same ∙ stored-inside text before 0 f)
     ∙ take-append-seam text (drop (0 + length text) before)
 
-module _ {file : List ℕ} {s : Sizes} {plan keys : List ℕ} {cells : List ℤ} {status : List ℕ} {olds : List ℤ} {before after : List ℕ} {n : ℕ}
-    (l : Listed file s plan keys cells status olds before after n) where
+module _ {file : List ℕ} {s : Sizes} {plan keys : List ℕ} {cells : List ℤ} {status : List ℕ} {saved : List ℤ} {before after : List ℕ} {n : ℕ}
+    (l : Listed file s plan keys cells status saved before after n) where
   pub listing-room : n ≤ maxListing
   listing-room = omega (arith, l .text .end, listing-fits s file)
 

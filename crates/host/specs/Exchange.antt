@@ -1,5 +1,4 @@
 -- What the programs exchange with their host, as far as a contract can say it: what is handed to standard output, and how a file is read.
--- Assumes nothing.
 use mathlib.Core.Path.{_≡_}
 use mathlib.Core.Bool.{true, false}
 use mathlib.Core.List.{List, [], _++_}
@@ -7,12 +6,12 @@ use Prim.Native.Nat.{ℕ, _-_, _≤_, _<_}
 use lib.ListN.{length, drop}
 use Rattle.wire.specs.Bytes.{repeated}
 use Rattle.block.specs.Limits.{maxBytes}
-use Rattle.text.specs.Written.{Written}
 use Rattle.machine.specs.Run.{fixedSizes}
 use Rattle.listing.specs.Listing.{listingOf}
 use Rattle.host.specs.declared.Exchange.{Exchange}
 use Rattle.host.specs.declared.FileRead.{FileRead}
 use Rattle.host.specs.declared.Inspected.{Inspected}
+use Rattle.text.specs.Written.{Written}
 
 -- A text is handed to standard output: whole, or, where a write failed, a first part of it. What is handed over stands in the transcript
 -- behind what was handed over before, as far as the transcript reaches. After a failure nothing more is handed over.

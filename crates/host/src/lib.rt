@@ -6,8 +6,8 @@ use libc::STDOUT_FILENO;
 use listing::MAX_LISTING;
 use machine::layout::CELLS_SIZE;
 use machine::layout::KEYS_SIZE;
-use machine::layout::OLDS_SIZE;
 use machine::layout::PLAN_SIZE;
+use machine::layout::SAVED_SIZE;
 use machine::layout::STATUS_SIZE;
 ghost use mathlib.Core.Path.{_≡_};
 ghost use mathlib.Core.Bool.{false};
@@ -258,7 +258,7 @@ pub fn print_listing(x: Exchange, block: &[u8], transcript: &mut [u8]) -> Exchan
     let mut keys = [0u64; KEYS_SIZE];
     let mut cells = [0i64; CELLS_SIZE];
     let mut status = [0u64; STATUS_SIZE];
-    let mut olds = [0i64; OLDS_SIZE];
+    let mut saved = [0i64; SAVED_SIZE];
     let mut text = [0u8; MAX_LISTING];
     let length = listing::list(
         block,
@@ -266,7 +266,7 @@ pub fn print_listing(x: Exchange, block: &[u8], transcript: &mut [u8]) -> Exchan
         &mut keys,
         &mut cells,
         &mut status,
-        &mut olds,
+        &mut saved,
         &mut text,
     );
     print(x, &text[..length], transcript)

@@ -39,12 +39,12 @@ use Rattle.machine.proofs.Answer as answer
 use Rattle.machine.proofs.Answer.Laws as answer-laws
 use Rattle.moves.proofs.Reply as reply
 use Rattle.moves.proofs.Reply.Laws as reply-laws
-use Rattle.in_place.proofs.Passed.{Passing, paramTys, loanTys, locals, relends, operands, Args, valsOf, Blocks, env, nowhere, At, at-tail, at-front, at-first, at-behind, count}
-use Rattle.in_place.proofs.Passed.{found, alloc-all, pass-all, free-all, params-free, loans-free, relend-all, opds-behind}
+use Rattle.in_place.proofs.Parameters.{Passing, paramTys, loanTys, locals, relends, operands, Args, valsOf, Blocks, env, nowhere, At, at-tail, at-front, at-first, at-behind, passingCount}
+use Rattle.in_place.proofs.Parameters.{found, alloc-all, pass-all, free-all, params-free, loans-free, relend-all, opds-behind}
 
 -- ---- the code. The locals are the result, the head, the parameters; the reply, the copy of the head, and the loans
 abbrev reply-at : List Passing → ℕ
-reply-at ps = suc (suc (count ps))
+reply-at ps = suc (suc (passingCount ps))
 
 abbrev copy-at : List Passing → ℕ
 copy-at ps = suc (reply-at ps)
@@ -67,7 +67,7 @@ abbrev pub lending : ℕ → List Passing → Name → Fn
 lending n ps key = record {
   lifetimes = n;
   outlives = [];
-  params = suc (count ps);
+  params = suc (passingCount ps);
   locals = locals (answer-laws.mir ∷ headTy ∷ []) ++ (locals (paramTys ps) ++ (locals (reply-laws.mir ∷ head-laws.mir ∷ []) ++ (locals (loanTys ps) ++ [])));
   body = body ps key;
 }
@@ -85,7 +85,7 @@ module _ (ps : List Passing) (l₀ l₁ : ℕ) (bs : Blocks (paramTys ps)) (l₂
 
   others-stand : At all-locals (reply-at ps) behind-params
   others-stand =
-      at-tail _ _ (suc (count ps)) behind-params (at-tail _ _ (count ps) behind-params (at-front (env (paramTys ps) bs ++ (behind-params ++ [])) (count ps) behind-params [] (at-behind ps bs (behind-params ++ []))))
+      at-tail _ _ (suc (passingCount ps)) behind-params (at-tail _ _ (passingCount ps) behind-params (at-front (env (paramTys ps) bs ++ (behind-params ++ [])) (passingCount ps) behind-params [] (at-behind ps bs (behind-params ++ []))))
 
   reply-stands : getD all-locals (reply-at ps) nowhere ≡ (reply-laws.mir, l₂)
   reply-stands = others-stand .0

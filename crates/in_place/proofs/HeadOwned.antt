@@ -42,13 +42,13 @@ use Rattle.machine.proofs.Answer as answer
 use Rattle.machine.proofs.Answer.Laws as answer-laws
 use Rattle.moves.proofs.Reply as reply
 use Rattle.moves.proofs.Reply.Laws as reply-laws
-use Rattle.in_place.proofs.Passed.{Passing, copied, relent, paramTys, loanTys, locals, relends, operands, Args, valsOf, Blocks, env, nowhere, At, at-tail, at-front, at-first, at-behind, count}
-use Rattle.in_place.proofs.Passed.{found, alloc-all, pass-all, free-all, params-free, loans-free, relend-all, opds-behind}
+use Rattle.in_place.proofs.Parameters.{Passing, copied, relent, paramTys, loanTys, locals, relends, operands, Args, valsOf, Blocks, env, nowhere, At, at-tail, at-front, at-first, at-behind, passingCount}
+use Rattle.in_place.proofs.Parameters.{found, alloc-all, pass-all, free-all, params-free, loans-free, relend-all, opds-behind}
 use Rattle.in_place.proofs.HeadLent.{head-val, HeadIs, AnswerIs, head-typed, answer-typed, reply-typed, Replied, Left-by-value, Left-lent}
 
 -- ---- the code. The locals are the result, the head, the parameters; the head that is lent, the answer, the reference, the loans, and a copy of the head
 abbrev own-at : List Passing → ℕ
-own-at ps = suc (suc (count ps))
+own-at ps = suc (suc (passingCount ps))
 
 abbrev answer-at : List Passing → ℕ
 answer-at ps = suc (own-at ps)
@@ -84,7 +84,7 @@ abbrev pub owning : ℕ → List Passing → Name → Fn
 owning n ps key = record {
   lifetimes = n;
   outlives = [];
-  params = suc (count ps);
+  params = suc (passingCount ps);
   locals = locals (reply-laws.mir ∷ head-laws.mir ∷ []) ++ (locals (paramTys ps) ++ (local head-laws.mir memorySlot ∷ (locals (answer-laws.mir ∷ refTy ∷ []) ++ (locals (loanTys ps) ++ (local head-laws.mir valueLocal ∷ [])))));
   body = body ps key;
 }
@@ -106,7 +106,7 @@ module _ (ps : List Passing) (l₀ l₁ : ℕ) (bs : Blocks (paramTys ps)) (l₂
   params-stand = at-tail _ _ 1 (env (paramTys ps) bs) (at-tail _ _ 0 (env (paramTys ps) bs) (at-first (env (paramTys ps) bs) behind-params))
 
   others-stand : At all-locals (own-at ps) behind-params
-  others-stand = at-tail _ _ (suc (count ps)) behind-params (at-tail _ _ (count ps) behind-params (at-behind ps bs behind-params))
+  others-stand = at-tail _ _ (suc (passingCount ps)) behind-params (at-tail _ _ (passingCount ps) behind-params (at-behind ps bs behind-params))
 
   own-stands : getD all-locals (own-at ps) nowhere ≡ (head-laws.mir, l₂)
   own-stands = others-stand .0

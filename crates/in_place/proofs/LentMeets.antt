@@ -42,7 +42,7 @@ use Rattle.machine.specs.declared.Head.{Head}
 use Rattle.machine.specs.declared.Answer.{Answer}
 use Rattle.machine.proofs.Head as head
 use Rattle.machine.proofs.Answer as answer
-use Rattle.in_place.proofs.Passed.{Passing, copied, relent, paramTy, paramTys, Arg, Args, valOf, valsOf}
+use Rattle.in_place.proofs.Parameters.{Passing, copied, relent, paramTy, paramTys, Arg, Args, valOf, valsOf}
 use Rattle.in_place.proofs.HeadLent.{lending, head-val, Left-by-value, head-lent}
 
 -- ---- how a parameter is passed on
@@ -60,8 +60,8 @@ shared ℓ κ R = record {
   typed = λ x vs p. (tt, (tt, (record { fits = p .0 .1 .0 }, tt)));
 }
 
-abbrev pub lent : (ℓ : Lifetime) (κ : Lft) (R : RattleType) → On (MutSlice ℓ κ R)
-lent ℓ κ R = record {
+abbrev pub lentSlice : (ℓ : Lifetime) (κ : Lft) (R : RattleType) → On (MutSlice ℓ κ R)
+lentSlice ℓ κ R = record {
   way = relent ℓ (pointee (R .written));
   arg = λ x. (ptr x, length (now x));
   tells = mut-slice-tells ℓ κ R;
@@ -106,9 +106,9 @@ known 𝓤 H A S κs qs a vss =
 
 -- ---- the signature
 -- the parameters behind the head
-abbrev pub behind : {n : ℕ} → List (Slot n) → List (Slot n)
-behind [] = []
-behind (s ∷ ss) = ss
+abbrev pub behindHead : {n : ℕ} → List (Slot n) → List (Slot n)
+behindHead [] = []
+behindHead (s ∷ ss) = ss
 
 abbrev pub lent-head : {n : ℕ} (ss : List (Slot (suc n))) → Kepts ss → Ended
 lent-head {n} ss ks = record {
@@ -127,8 +127,8 @@ module _ {M : Type 1} (𝓤 : URA M) (H : Heap 𝓤) (A : Atoms 𝓤) {n : ℕ} 
   S = lent-head ss ks .signature
 
   -- the contract: it asks nothing, and says `says`
-  abbrev pub promise : Spec 𝓤 S
-  promise = closing 𝓤 H A (lent-head ss ks) (λ κs a. record { ghost = Unit {0}; requires = λ g. emp 𝓤; ensures = λ g. says κs a })
+  abbrev pub lent-promise : Spec 𝓤 S
+  lent-promise = closing 𝓤 H A (lent-head ss ks) (λ κs a. record { ghost = Unit {0}; requires = λ g. emp 𝓤; ensures = λ g. says κs a })
 
   -- the callee's triple at the head x and the parameters a, in the words of that contract
   abbrev tokens : Lfts (suc n) → Shares (suc n) → SProp 𝓤
@@ -145,7 +145,7 @@ module _ {M : Type 1} (𝓤 : URA M) (H : Heap 𝓤) (A : Atoms 𝓤) {n : ℕ} 
       → ent 𝓤 (given-by-value κs qs x a vss) (call (head-val (now x) ∷ flat (typesAt ss κs) vss) (left-by-value κs qs x a))
 
   module _ (W : Given 𝓤 H A) (on : (κs : Lfts (suc n)) → AllOn (typesAt ss κs)) (key : Name) (C : Calls 𝓤 H) (Λ : Loops 𝓤 H) (fm : FmC 𝓤 H (W .laws) C) (by-value : ByValue (C key)) where
-    module _ (y : tripleOf 𝓤 H A S promise .Ghost) where
+    module _ (y : tripleOf 𝓤 H A S lent-promise .Ghost) where
       abbrev κs : Lfts (suc n)
       κs = y .0 .0
 
@@ -162,10 +162,10 @@ module _ {M : Type 1} (𝓤 : URA M) (H : Heap 𝓤) (A : Atoms 𝓤) {n : ℕ} 
       vss = y .0 .4 .1
 
       abbrev Pre : SProp 𝓤
-      Pre = tripleOf 𝓤 H A S promise .pre y
+      Pre = tripleOf 𝓤 H A S lent-promise .pre y
 
       abbrev Post : Val → SProp 𝓤
-      Post = tripleOf 𝓤 H A S promise .post y
+      Post = tripleOf 𝓤 H A S lent-promise .post y
 
       walk : Are (typesAt (S .params) κs) (Ises (typesAt (S .params) κs)) (y .0 .3) (y .0 .4)
           → ent 𝓤 Pre (WpFn 𝓤 H C Λ (lending (suc n) (ways Rs (on κs)) key) (vptr (ptr x .0) (ptr x .1) ∷ valsOf (ways Rs (on κs)) (args Rs (on κs) a)) Post)
@@ -174,7 +174,7 @@ module _ {M : Type 1} (𝓤 : URA M) (H : Heap 𝓤) (A : Atoms 𝓤) {n : ℕ} 
           (tokens κs (y .0 .1)) (owns Rs a vss) (Fins κs ss ks a) (lastsOf κs ss ks a) (λ r h ws. says κs (x, a) r (atExit (lent-head ss ks) κs (x, a) (h, ws))) C Λ fm
           (subst (λ (us : List Val). ent 𝓤 (given-by-value κs (y .0 .1) x a vss) (C key (head-val (now x) ∷ us) (left-by-value κs (y .0 .1) x a))) (values Rs (on κs) a vss (are .1)) (by-value κs (y .0 .1) x a vss)) (y .0 .4 .0)
 
-    pub lent-meets : (f : Fn) → ((κs : Lfts (suc n)) → f ≡ lending (suc n) (ways (typesAt ss κs) (on κs)) key) → Meets 𝓤 H A S (WpFn 𝓤 H C Λ f) promise
+    pub lent-meets : (f : Fn) → ((κs : Lfts (suc n)) → f ≡ lending (suc n) (ways (typesAt ss κs) (on κs)) key) → Meets 𝓤 H A S (WpFn 𝓤 H C Λ f) lent-promise
     lent-meets f is y = fact-use 𝓤 (Are (typesAt (S .params) (κs y)) (Ises (typesAt (S .params) (κs y))) (y .0 .3) (y .0 .4)) (known 𝓤 H A S (κs y) (y .0 .1) (y .0 .3) (y .0 .4)) (λ are.
         subst (λ (g : Fn). ent 𝓤 (Pre y) (WpFn 𝓤 H C Λ g (flat (typesAt (S .params) (κs y)) (y .0 .4)) (Post y))) (sym (is (κs y)))
         (subst (λ (us : List Val). ent 𝓤 (Pre y) (WpFn 𝓤 H C Λ (lending (suc n) (ways (Rs y) (on (κs y))) key) us (Post y))) (sym (λ i. are .0 .0 i ++ values (Rs y) (on (κs y)) (a y) (vss y) (are .1) i)) (walk y are)))
@@ -183,8 +183,8 @@ module _ {M : Type 1} (𝓤 : URA M) (H : Heap 𝓤) (A : Atoms 𝓤) {n : ℕ} 
 pub lent-stated : {M : Type 1} (𝓤 : URA M) (H : Heap 𝓤) (𝓜 : Model 𝓤 H) (𝓖 : GhostRules 𝓤 H) (𝓡 : Running 𝓤 H 𝓜) (γ : Env) {n : ℕ} (ss : List (Slot (suc n))) (ks : Kepts ss)
     (says : (κs : Lfts (suc n)) → Entry.Args (lent-head ss ks .signature) κs → Answer → AtExit (lent-head ss ks) κs → SProp 𝓤) (on : (κs : Lfts (suc n)) → AllOn (typesAt ss κs)) (this key : Name) (f : Fn)
     → ((κs : Lfts (suc n)) → f ≡ lending (suc n) (ways (typesAt ss κs) (on κs)) key) → Closed 𝓤 H (tables 𝓤 H 𝓜 𝓡 γ .C) (tables 𝓤 H 𝓜 𝓡 γ .Λ) this f
-    → ByValue 𝓤 H (𝓖 .A) ss ks says (tables 𝓤 H 𝓜 𝓡 γ .C key) → Meets 𝓤 H (𝓖 .A) (lent-head ss ks .signature) (tables 𝓤 H 𝓜 𝓡 γ .C this) (promise 𝓤 H (𝓖 .A) ss ks says)
+    → ByValue 𝓤 H (𝓖 .A) ss ks says (tables 𝓤 H 𝓜 𝓡 γ .C key) → Meets 𝓤 H (𝓖 .A) (lent-head ss ks .signature) (tables 𝓤 H 𝓜 𝓡 γ .C this) (lent-promise 𝓤 H (𝓖 .A) ss ks says)
 unfolding tablesOf
 lent-stated 𝓤 H 𝓜 𝓖 𝓡 γ ss ks says on this key f is closed by-value =
-    entered 𝓤 H (tripleOf 𝓤 H (𝓖 .A) (lent-head ss ks .signature) (promise 𝓤 H (𝓖 .A) ss ks says)) (tables 𝓤 H 𝓜 𝓡 γ .C) (tables 𝓤 H 𝓜 𝓡 γ .Λ) this f closed
+    entered 𝓤 H (tripleOf 𝓤 H (𝓖 .A) (lent-head ss ks .signature) (lent-promise 𝓤 H (𝓖 .A) ss ks says)) (tables 𝓤 H 𝓜 𝓡 γ .C) (tables 𝓤 H 𝓜 𝓡 γ .Λ) this f closed
     (lent-meets 𝓤 H (𝓖 .A) ss ks says (givenOf 𝓤 H 𝓜 𝓖) on key (tables 𝓤 H 𝓜 𝓡 γ .C) (tables 𝓤 H 𝓜 𝓡 γ .Λ) (fmOf 𝓤 H (givenOf 𝓤 H 𝓜 𝓖 .laws) (tablesOf 𝓤 H 𝓜 (tables 𝓤 H 𝓜 𝓡 γ))) by-value f is)

@@ -37,7 +37,7 @@ use Rattle.machine.specs.declared.Answer.{Answer}
 use Rattle.machine.proofs.Head as head
 use Rattle.machine.proofs.Head.Laws as head-laws
 use Rattle.moves.proofs.Reply as reply
-use Rattle.in_place.proofs.Passed.{valsOf}
+use Rattle.in_place.proofs.Parameters.{valsOf}
 use Rattle.in_place.proofs.HeadLent.{head-val, Left-lent}
 use Rattle.in_place.proofs.HeadOwned.{owning, head-owned}
 use Rattle.in_place.proofs.LentMeets.{AllOn, ways, args, values, well-typed, known}
@@ -59,8 +59,8 @@ module _ {M : Type 1} (𝓤 : URA M) (H : Heap 𝓤) (A : Atoms 𝓤) {n : ℕ} 
   S = owned-head ss ks .signature
 
   -- the contract: it asks nothing, and says `says`
-  abbrev pub promise : Spec 𝓤 S
-  promise = closing 𝓤 H A (owned-head ss ks) (λ κs a. record { ghost = Unit {0}; requires = λ g. emp 𝓤; ensures = λ g y. says κs a (y .answer) (y .head) })
+  abbrev pub owned-promise : Spec 𝓤 S
+  owned-promise = closing 𝓤 H A (owned-head ss ks) (λ κs a. record { ghost = Unit {0}; requires = λ g. emp 𝓤; ensures = λ g y. says κs a (y .answer) (y .head) })
 
   -- the callee's triple at a head h that is lent from the block b for α under the name γ, and at the parameters a, in the words of that contract
   abbrev tokens : Lfts n → Shares n → SProp 𝓤
@@ -82,7 +82,7 @@ module _ {M : Type 1} (𝓤 : URA M) (H : Heap 𝓤) (A : Atoms 𝓤) {n : ℕ} 
       → ent 𝓤 (given-lent κs qs h a vss α γ b) (call (vptr b zero ∷ flat (typesAt ss κs) vss) (left-lent κs qs h a α γ))
 
   module _ (W : Given 𝓤 H A) (on : (κs : Lfts n) → AllOn (typesAt ss κs)) (key : Name) (C : Calls 𝓤 H) (Λ : Loops 𝓤 H) (fm : FmC 𝓤 H (W .laws) C) (by-lent : ByLent (C key)) where
-    module _ (y : tripleOf 𝓤 H A S promise .Ghost) where
+    module _ (y : tripleOf 𝓤 H A S owned-promise .Ghost) where
       abbrev κs : Lfts n
       κs = y .0 .0
 
@@ -105,14 +105,14 @@ module _ {M : Type 1} (𝓤 : URA M) (H : Heap 𝓤) (A : Atoms 𝓤) {n : ℕ} 
       Pre us = sep 𝓤 (sep 𝓤 (tokens κs qs) (sem 𝓤 H A (fsep (head.the-row .own h us) (owns Rs a vss)))) (emp 𝓤)
 
       abbrev Post : Val → SProp 𝓤
-      Post = tripleOf 𝓤 H A S promise .post y
+      Post = tripleOf 𝓤 H A S owned-promise .post y
 
       walk : Are Rs (Ises Rs) a vss → ent 𝓤 (Pre (head-val h ∷ [])) (WpFn 𝓤 H C Λ (owning n (ways Rs (on κs)) key) (head-val h ∷ valsOf (ways Rs (on κs)) (args Rs (on κs) a)) Post)
       walk are =
           head-owned 𝓤 H A W n (ways Rs (on κs)) key h (args Rs (on κs) a) (well-typed Rs (on κs) a vss are) (tokens κs qs) (owns Rs a vss) (Fins κs ss ks a) (lastsOf κs ss ks a) (said κs h a) C Λ fm
           (λ α γ b. subst (λ (us : List Val). ent 𝓤 (given-lent κs qs h a vss α γ b) (C key (vptr b zero ∷ us) (left-lent κs qs h a α γ))) (values Rs (on κs) a vss are) (by-lent κs qs h a vss α γ b))
 
-    pub owned-meets : (f : Fn) → ((κs : Lfts n) → f ≡ owning n (ways (typesAt ss κs) (on κs)) key) → Meets 𝓤 H A S (WpFn 𝓤 H C Λ f) promise
+    pub owned-meets : (f : Fn) → ((κs : Lfts n) → f ≡ owning n (ways (typesAt ss κs) (on κs)) key) → Meets 𝓤 H A S (WpFn 𝓤 H C Λ f) owned-promise
     owned-meets f is y = fact-use 𝓤 (Are (typesAt (S .params) (κs y)) (Ises (typesAt (S .params) (κs y))) (y .0 .3) (y .0 .4)) (known 𝓤 H A S (κs y) (qs y) (y .0 .3) (y .0 .4)) (λ are.
         subst (λ (g : Fn). ent 𝓤 (Pre y (y .0 .4 .0)) (WpFn 𝓤 H C Λ g (y .0 .4 .0 ++ flat (Rs y) (vss y)) (Post y))) (sym (is (κs y)))
         (subst (λ (us : List Val). ent 𝓤 (Pre y us) (WpFn 𝓤 H C Λ (owning n (ways (Rs y) (on (κs y))) key) (us ++ flat (Rs y) (vss y)) (Post y))) (sym (LL.tells head.the-type head-laws.the-laws (h y) (y .0 .4 .0) (are .0)))
@@ -122,8 +122,8 @@ module _ {M : Type 1} (𝓤 : URA M) (H : Heap 𝓤) (A : Atoms 𝓤) {n : ℕ} 
 pub owned-stated : {M : Type 1} (𝓤 : URA M) (H : Heap 𝓤) (𝓜 : Model 𝓤 H) (𝓖 : GhostRules 𝓤 H) (𝓡 : Running 𝓤 H 𝓜) (γ : Env) {n : ℕ} (ss : List (Slot n)) (ks : Kepts ss)
     (says : (κs : Lfts n) → Entry.Args (owned-head ss ks .signature) κs → Answer → Head → AtExit (owned-head ss ks) κs → SProp 𝓤) (on : (κs : Lfts n) → AllOn (typesAt ss κs)) (this key : Name) (f : Fn)
     → ((κs : Lfts n) → f ≡ owning n (ways (typesAt ss κs) (on κs)) key) → Closed 𝓤 H (tables 𝓤 H 𝓜 𝓡 γ .C) (tables 𝓤 H 𝓜 𝓡 γ .Λ) this f
-    → ByLent 𝓤 H (𝓖 .A) ss ks says (tables 𝓤 H 𝓜 𝓡 γ .C key) → Meets 𝓤 H (𝓖 .A) (owned-head ss ks .signature) (tables 𝓤 H 𝓜 𝓡 γ .C this) (promise 𝓤 H (𝓖 .A) ss ks says)
+    → ByLent 𝓤 H (𝓖 .A) ss ks says (tables 𝓤 H 𝓜 𝓡 γ .C key) → Meets 𝓤 H (𝓖 .A) (owned-head ss ks .signature) (tables 𝓤 H 𝓜 𝓡 γ .C this) (owned-promise 𝓤 H (𝓖 .A) ss ks says)
 unfolding tablesOf
 owned-stated 𝓤 H 𝓜 𝓖 𝓡 γ ss ks says on this key f is closed by-lent =
-    entered 𝓤 H (tripleOf 𝓤 H (𝓖 .A) (owned-head ss ks .signature) (promise 𝓤 H (𝓖 .A) ss ks says)) (tables 𝓤 H 𝓜 𝓡 γ .C) (tables 𝓤 H 𝓜 𝓡 γ .Λ) this f closed
+    entered 𝓤 H (tripleOf 𝓤 H (𝓖 .A) (owned-head ss ks .signature) (owned-promise 𝓤 H (𝓖 .A) ss ks says)) (tables 𝓤 H 𝓜 𝓡 γ .C) (tables 𝓤 H 𝓜 𝓡 γ .Λ) this f closed
     (owned-meets 𝓤 H (𝓖 .A) ss ks says (givenOf 𝓤 H 𝓜 𝓖) on key (tables 𝓤 H 𝓜 𝓡 γ .C) (tables 𝓤 H 𝓜 𝓡 γ .Λ) (fmOf 𝓤 H (givenOf 𝓤 H 𝓜 𝓖 .laws) (tablesOf 𝓤 H 𝓜 (tables 𝓤 H 𝓜 𝓡 γ))) by-lent f is)

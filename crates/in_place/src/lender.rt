@@ -15,13 +15,16 @@ pub fn begin_lending(
     keys: &[u64],
     cells: &[i64],
     status: &mut [u64],
-    olds: &mut [i64],
+    saved: &mut [i64],
     worker: usize,
     call: usize,
 ) -> Reply
-    ensures { λ r. ⌜ moved (r .answer) (lent (r .head) (now (plan .entry)) (now (keys .entry)) (now (cells .entry)) (now (status .exit)) (now (olds .exit))) ≡ beginOf (lent head (now (plan .entry)) (now (keys .entry)) (now (cells .entry)) (now (status .entry)) (now (olds .entry))) worker call ⌝ }
+    ensures { λ r. ⌜ moved (r .answer)
+        (lent (r .head) (now (plan .entry)) (now (keys .entry)) (now (cells .entry)) (now (status .exit)) (now (saved .exit)))
+        ≡ beginOf
+        (lent head (now (plan .entry)) (now (keys .entry)) (now (cells .entry)) (now (status .entry)) (now (saved .entry))) worker call ⌝ }
 {
-    let answer = begin_in(&mut head, plan, keys, cells, status, olds, worker, call);
+    let answer = begin_in(&mut head, plan, keys, cells, status, saved, worker, call);
     Reply { head, answer }
 }
 
@@ -33,12 +36,15 @@ pub fn step_lending(
     keys: &[u64],
     cells: &mut [i64],
     status: &mut [u64],
-    olds: &[i64],
+    saved: &[i64],
     worker: usize,
 ) -> Reply
-    ensures { λ r. ⌜ moved (r .answer) (lent (r .head) (now (plan .entry)) (now (keys .entry)) (now (cells .exit)) (now (status .exit)) (now (olds .entry))) ≡ stepOf (now (block .entry)) (lent head (now (plan .entry)) (now (keys .entry)) (now (cells .entry)) (now (status .entry)) (now (olds .entry))) worker ⌝ }
+    ensures { λ r. ⌜ moved (r .answer)
+        (lent (r .head) (now (plan .entry)) (now (keys .entry)) (now (cells .exit)) (now (status .exit)) (now (saved .entry)))
+        ≡ stepOf (now (block .entry))
+        (lent head (now (plan .entry)) (now (keys .entry)) (now (cells .entry)) (now (status .entry)) (now (saved .entry))) worker ⌝ }
 {
-    let answer = step_in(&mut head, block, plan, keys, cells, status, olds, worker);
+    let answer = step_in(&mut head, block, plan, keys, cells, status, saved, worker);
     Reply { head, answer }
 }
 
@@ -49,11 +55,14 @@ pub fn cancel_lending(
     keys: &[u64],
     cells: &mut [i64],
     status: &mut [u64],
-    olds: &[i64],
+    saved: &[i64],
     worker: usize,
 ) -> Reply
-    ensures { λ r. ⌜ moved (r .answer) (lent (r .head) (now (plan .entry)) (now (keys .entry)) (now (cells .exit)) (now (status .exit)) (now (olds .entry))) ≡ cancelOf (lent head (now (plan .entry)) (now (keys .entry)) (now (cells .entry)) (now (status .entry)) (now (olds .entry))) worker ⌝ }
+    ensures { λ r. ⌜ moved (r .answer)
+        (lent (r .head) (now (plan .entry)) (now (keys .entry)) (now (cells .exit)) (now (status .exit)) (now (saved .entry)))
+        ≡ cancelOf
+        (lent head (now (plan .entry)) (now (keys .entry)) (now (cells .entry)) (now (status .entry)) (now (saved .entry))) worker ⌝ }
 {
-    let answer = cancel_in(&mut head, plan, keys, cells, status, olds, worker);
+    let answer = cancel_in(&mut head, plan, keys, cells, status, saved, worker);
     Reply { head, answer }
 }

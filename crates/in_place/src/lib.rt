@@ -17,13 +17,17 @@ pub fn begin_in(
     keys: &[u64],
     cells: &[i64],
     status: &mut [u64],
-    olds: &mut [i64],
+    saved: &mut [i64],
     worker: usize,
     call: usize,
 ) -> Answer
-    ensures { λ r. ⌜ moved r (lent (now (head .exit)) (now (plan .entry)) (now (keys .entry)) (now (cells .entry)) (now (status .exit)) (now (olds .exit))) ≡ beginOf (lent (now (head .entry)) (now (plan .entry)) (now (keys .entry)) (now (cells .entry)) (now (status .entry)) (now (olds .entry))) worker call ⌝ }
+    ensures { λ r. ⌜ moved r
+        (lent (now (head .exit)) (now (plan .entry)) (now (keys .entry)) (now (cells .entry)) (now (status .exit)) (now (saved .exit)))
+        ≡ beginOf
+        (lent (now (head .entry)) (now (plan .entry)) (now (keys .entry)) (now (cells .entry)) (now (status .entry)) (now (saved .entry)))
+        worker call ⌝ }
 {
-    let begun = begin(*head, plan, keys, cells, status, olds, worker, call);
+    let begun = begin(*head, plan, keys, cells, status, saved, worker, call);
     *head = begun.head;
     begun.answer
 }
@@ -36,12 +40,16 @@ pub fn step_in(
     keys: &[u64],
     cells: &mut [i64],
     status: &mut [u64],
-    olds: &[i64],
+    saved: &[i64],
     worker: usize,
 ) -> Answer
-    ensures { λ r. ⌜ moved r (lent (now (head .exit)) (now (plan .entry)) (now (keys .entry)) (now (cells .exit)) (now (status .exit)) (now (olds .entry))) ≡ stepOf (now (block .entry)) (lent (now (head .entry)) (now (plan .entry)) (now (keys .entry)) (now (cells .entry)) (now (status .entry)) (now (olds .entry))) worker ⌝ }
+    ensures { λ r. ⌜ moved r
+        (lent (now (head .exit)) (now (plan .entry)) (now (keys .entry)) (now (cells .exit)) (now (status .exit)) (now (saved .entry)))
+        ≡ stepOf (now (block .entry))
+        (lent (now (head .entry)) (now (plan .entry)) (now (keys .entry)) (now (cells .entry)) (now (status .entry)) (now (saved .entry)))
+        worker ⌝ }
 {
-    let stepped = step(*head, block, plan, keys, cells, status, olds, worker);
+    let stepped = step(*head, block, plan, keys, cells, status, saved, worker);
     *head = stepped.head;
     stepped.answer
 }
@@ -53,12 +61,16 @@ pub fn cancel_in(
     keys: &[u64],
     cells: &mut [i64],
     status: &mut [u64],
-    olds: &[i64],
+    saved: &[i64],
     worker: usize,
 ) -> Answer
-    ensures { λ r. ⌜ moved r (lent (now (head .exit)) (now (plan .entry)) (now (keys .entry)) (now (cells .exit)) (now (status .exit)) (now (olds .entry))) ≡ cancelOf (lent (now (head .entry)) (now (plan .entry)) (now (keys .entry)) (now (cells .entry)) (now (status .entry)) (now (olds .entry))) worker ⌝ }
+    ensures { λ r. ⌜ moved r
+        (lent (now (head .exit)) (now (plan .entry)) (now (keys .entry)) (now (cells .exit)) (now (status .exit)) (now (saved .entry)))
+        ≡ cancelOf
+        (lent (now (head .entry)) (now (plan .entry)) (now (keys .entry)) (now (cells .entry)) (now (status .entry)) (now (saved .entry)))
+        worker ⌝ }
 {
-    let cancelled = cancel(*head, plan, keys, cells, status, olds, worker);
+    let cancelled = cancel(*head, plan, keys, cells, status, saved, worker);
     *head = cancelled.head;
     cancelled.answer
 }

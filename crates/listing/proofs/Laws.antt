@@ -1,4 +1,4 @@
--- What the proofs of this crate cite: a row by its words, and a loop over the rows of a plan. Assumes nothing.
+-- What the proofs of this crate cite: a row by its words, and a loop over the rows of a plan.
 use mathlib.Core.Path.{_≡_, refl, sym, ap, ap₂, _∙_, subst, fun-ext}
 use mathlib.Core.Bool.{Bool}
 use mathlib.Core.List.{List, [], _∷_, _++_, map}
@@ -11,7 +11,7 @@ use lib.ListN.{length, getD, drop, length-append, length-take, List·getD-eq-def
 use lib.Seq.{getD-take, getD-drop}
 use Rattle.wire.specs.Bytes.{stored}
 use Rattle.wire.specs.Decimal.{decimal, lineFeed, parts}
-use Rattle.wire.specs.Laws.{stored-append, stored-length}
+use Rattle.wire.proofs.BytesLaws.{stored-append, stored-length}
 use Rattle.wire.specs.Rows.{inRow, inWord}
 use Rattle.block.specs.Limits.{maxCalls, maxWorkers}
 use Rattle.block.specs.Reader.{Read, accepted, refused, readBlock}
@@ -20,18 +20,19 @@ use Rattle.block.specs.declared.Refusal.{Refusal}
 use Rattle.block.specs.declared.Verdict.{Verdict}
 use Rattle.block.specs.declared.Verdict.the-variants.{Accepted, Refused}
 use Rattle.text.specs.Lines.{passing, blockRefusedText, countsText, rowText}
-use Rattle.text.specs.Written.{Written, spaced, spaced-line, written-more}
+use Rattle.text.proofs.WrittenLaws.{spaced-line, written-more}
 use Rattle.text.proofs.Laws.{digits-length, spaced-length}
 use Rattle.text.proofs.Bits.{bits-length}
+use Rattle.text.specs.Written.{Written, spaced}
 use Rattle.reader.specs.Layout.{layoutOf}
 use Rattle.reader.specs.declared.Layout.{Layout}
-use Rattle.analysis.specs.Laid.{blockIn, blockOf}
+use Rattle.analysis.specs.LayoutOfBlock.{blockIn, blockOf}
 use Rattle.machine.specs.Run.{Sizes, rowIn}
 use Rattle.machine.specs.Opening as machine
 use Rattle.machine.specs.Opening.{openingOf}
-use Rattle.opening.specs.Opened.{opening}
+use Rattle.opening.specs.Opened.{openingWith}
 use Rattle.opening.specs.declared.Opened.{Opened}
-use Rattle.listing.specs.Listing.{rowWords, rowsText, listingText, listingOf, Listed}
+use Rattle.listing.specs.Listing.{callRow, rowsText, listingText, listingOf, Listed}
 
 -- ---- a row
 
@@ -46,18 +47,18 @@ past : (l : List ℕ) (q n : ℕ) → length l ≡ n → (q < n → ⊥) → len
 past l q n e h = omega arith
 
 -- The words that are read are those of the row, where it has them, and 0.
-same-word : (plan : List ℕ) (j q : ℕ) → getD (rowWords plan j) q 0 ≡ getD (rowIn plan j) q 0
+same-word : (plan : List ℕ) (j q : ℕ) → getD (callRow plan j) q 0 ≡ getD (rowIn plan j) q 0
 same-word plan j q = go (decLt q 4)
   where
-    go : Dec (q < 4) → getD (rowWords plan j) q 0 ≡ getD (rowIn plan j) q 0
+    go : Dec (q < 4) → getD (callRow plan j) q 0 ≡ getD (rowIn plan j) q 0
     go (yes h) =
         four-words plan (32 * j + 27) q h
         ∙ sym (getD-take 4 (drop (32 * j + 27) plan) q 0 h ∙ getD-drop (32 * j + 27) plan q 0)
     go (no h) =
-        List·getD-eq-default (rowWords plan j) 0 (past (rowWords plan j) q 4 refl h)
+        List·getD-eq-default (callRow plan j) 0 (past (callRow plan j) q 4 refl h)
         ∙ sym (List·getD-eq-default (rowIn plan j) 0 (simp length-take (omega arith)))
 
-same-row : (plan : List ℕ) (j : ℕ) → rowText j (rowWords plan j) ≡ rowText j (rowIn plan j)
+same-row : (plan : List ℕ) (j : ℕ) → rowText j (callRow plan j) ≡ rowText j (rowIn plan j)
 unfolding inRow
 same-row plan j =
     ap (λ (test : ℕ → Bool). Rattle.wire.specs.Decimal.textLine 119 (decimal j ∷ map decimal (passing test 256 0)))
@@ -88,7 +89,7 @@ module _ (plan : List ℕ) (calls : ℕ) where
       record { whole = rw e; last = rw e; within = omega arith; short = omega arith; same = refl }
 
   pub rowing-on : (s t u : List ℕ) (from at end call : ℕ) (row : List ℕ) → Rowing s t from at call → call < calls
-      → row ≡ rowWords plan call → Written t u at end (rowText call row) → Rowing s u from end (call + 1)
+      → row ≡ callRow plan call → Written t u at end (rowText call row) → Rowing s u from end (call + 1)
   unfolding rowsText
   rowing-on s t u from at end call row g h e w =
       let f : calls - call ≡ suc (calls - (call + 1)) = omega arith in
@@ -149,11 +150,11 @@ cells-read (accepted b) = refl
 cells-read (refused why) = refl
 
 -- A file that is opened, read and listed.
-pub all-listed : (file : List ℕ) (s : Sizes) (plan keys : List ℕ) (cells : List ℤ) (status : List ℕ) (olds : List ℤ) (before after : List ℕ) (r : ℕ)
-    (o : Opened) (l : Layout) → opening o plan keys cells status olds ≡ openingOf s file maxWorkers → l ≡ layoutOf (readBlock file)
+pub all-listed : (file : List ℕ) (s : Sizes) (plan keys : List ℕ) (cells : List ℤ) (status : List ℕ) (saved : List ℤ) (before after : List ℕ) (r : ℕ)
+    (o : Opened) (l : Layout) → openingWith o plan keys cells status saved ≡ openingOf s file maxWorkers → l ≡ layoutOf (readBlock file)
     → Written before after 0 r (listingText (l .functions) (l .cells) (o .head .calls) (o .head .cells) plan (o .verdict))
-    → Listed file s plan keys cells status olds before after r
-all-listed file s plan keys cells status olds before after r o l e f w =
+    → Listed file s plan keys cells status saved before after r
+all-listed file s plan keys cells status saved before after r o l e f w =
     let functions : l .functions ≡ length (blockOf file .functions) = ap (λ (x : Layout). x .functions) f ∙ functions-read (readBlock file) in
     let cellCount : l .cells ≡ length (blockOf file .cells) = ap (λ (x : Layout). x .cells) f ∙ cells-read (readBlock file) in
     let text : listingText (l .functions) (l .cells) (o .head .calls) (o .head .cells) plan (o .verdict) ≡ listingOf s file =
@@ -164,6 +165,6 @@ all-listed file s plan keys cells status olds before after r o l e f w =
       keys-is = ap (λ (x : machine.Opened). x .run .keys) e;
       cells-is = ap (λ (x : machine.Opened). x .run .cells) e;
       status-is = ap (λ (x : machine.Opened). x .run .status) e;
-      olds-is = ap (λ (x : machine.Opened). x .run .olds) e;
+      saved-is = ap (λ (x : machine.Opened). x .run .saved) e;
       text = subst (λ (t : List ℕ). Written before after 0 r t) text w;
     }

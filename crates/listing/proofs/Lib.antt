@@ -1,2 +1,2 @@
 mod Laws
-pub mod Sizes
+pub mod ListingSizes

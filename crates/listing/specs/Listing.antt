@@ -1,4 +1,4 @@
--- What a listing tells of a block: its refusal; or its numbers, and for each call those that it waits for. Assumes nothing.
+-- What a listing tells of a block: its refusal; or its numbers, and for each call those that it waits for.
 use mathlib.Core.Path.{_≡_}
 use mathlib.Core.List.{List, [], _∷_, _++_}
 use Prim.Native.Nat.{ℕ, zero, suc, _+_, _*_, min}
@@ -10,7 +10,7 @@ use Rattle.block.specs.declared.Verdict.{Verdict}
 use Rattle.block.specs.declared.Verdict.the-variants as verdict
 use Rattle.text.specs.Lines.{blockRefusedText, countsText, rowText}
 use Rattle.text.specs.Written.{Written}
-use Rattle.analysis.specs.Laid.{blockOf}
+use Rattle.analysis.specs.LayoutOfBlock.{blockOf}
 use Rattle.machine.specs.Run.{Sizes, rowIn}
 use Rattle.machine.specs.Opening.{Opened, openingOf}
 
@@ -41,16 +41,16 @@ abbrev pub maxListing : ℕ
 maxListing = maxCalls * maxRowText + 86
 
 -- The four words of a call's row, 0 past the plan's end.
-abbrev pub rowWords : List ℕ → ℕ → List ℕ
-rowWords plan j =
+abbrev pub callRow : List ℕ → ℕ → List ℕ
+callRow plan j =
     getD plan (32 * j + 27) 0 ∷ getD plan (32 * j + 27 + 1) 0 ∷ getD plan (32 * j + 27 + 2) 0 ∷ getD plan (32 * j + 27 + 3) 0 ∷ []
 
 -- What a listed file leaves in the buffers of the run and in that of the text.
-pub record Listed (file : List ℕ) (s : Sizes) (plan keys : List ℕ) (cells : List ℤ) (status : List ℕ) (olds : List ℤ) (before after : List ℕ)
+pub record Listed (file : List ℕ) (s : Sizes) (plan keys : List ℕ) (cells : List ℤ) (status : List ℕ) (saved : List ℤ) (before after : List ℕ)
     (length : ℕ) : Type 0 where
   pub plan-is : plan ≡ openingOf s file maxWorkers .run .plan
   pub keys-is : keys ≡ openingOf s file maxWorkers .run .keys
   pub cells-is : cells ≡ openingOf s file maxWorkers .run .cells
   pub status-is : status ≡ openingOf s file maxWorkers .run .status
-  pub olds-is : olds ≡ openingOf s file maxWorkers .run .olds
+  pub saved-is : saved ≡ openingOf s file maxWorkers .run .saved
   pub text : Written before after 0 length (listingOf s file)

@@ -4,8 +4,8 @@ use block::limits::MAX_CALLS;
 use block::limits::MAX_WORKERS;
 use block::numbers::number_of;
 use block::numbers::offset_of;
+use footprint::layout::FIRST_ROW_WORD;
 use footprint::layout::PLAN_WORDS;
-use footprint::layout::ROW;
 use text::block_refused_line;
 use text::counts_line;
 use text::row_line;
@@ -13,9 +13,9 @@ ghost use mathlib.Core.Path.{_≡_};
 ghost use Prim.Native.Nat.{_+_, _<_, _≤_};
 ghost use lib.ListN.{length};
 ghost use Rattle.block.specs.Limits.{maxCalls};
-ghost use Rattle.text.specs.Written.{Written};
 ghost use Rattle.opening.specs.Opened.{sizesFor};
-ghost use Rattle.listing.specs.Listing.{rowWords, rowsText, listingText, Listed};
+ghost use Rattle.listing.specs.Listing.{callRow, rowsText, listingText, Listed};
+ghost use Rattle.text.specs.Written.{Written};
 
 // The longest line of a row: its letter, a call and its earlier calls of three digits behind a space each, and a line feed.
 const MAX_ROW_TEXT: usize = 4 * MAX_CALLS + 6;
@@ -26,9 +26,9 @@ pub const MAX_LISTING: usize = MAX_CALLS * MAX_ROW_TEXT + 86;
 // A call's row in the plan; words past its end count as 0.
 fn row_in(plan: &[u64], call: usize) -> [u64; 4]
     requires { ⌜ call < maxCalls ⌝ }
-    ensures { λ r. ⌜ r ≡ rowWords (now (plan .entry)) call ⌝ }
+    ensures { λ r. ⌜ r ≡ callRow (now (plan .entry)) call ⌝ }
 {
-    let at = PLAN_WORDS * call + ROW;
+    let at = PLAN_WORDS * call + FIRST_ROW_WORD;
     [
         wire::word(plan, at),
         wire::word(plan, at + 1),
@@ -85,12 +85,15 @@ pub fn list(
     keys: &mut [u64],
     cells: &mut [i64],
     status: &mut [u64],
-    olds: &mut [i64],
+    saved: &mut [i64],
     out: &mut [u8],
 ) -> usize
-    ensures { λ r. ⌜ Listed (now (file .entry)) (sizesFor (length (now (plan .entry))) (length (now (keys .entry))) (length (now (cells .entry))) (length (now (status .entry))) (length (now (olds .entry)))) (now (plan .exit)) (now (keys .exit)) (now (cells .exit)) (now (status .exit)) (now (olds .exit)) (now (out .entry)) (now (out .exit)) r ⌝ }
+    ensures { λ r. ⌜ Listed (now (file .entry))
+        (sizesFor (length (now (plan .entry))) (length (now (keys .entry))) (length (now (cells .entry))) (length (now (status .entry)))
+        (length (now (saved .entry)))) (now (plan .exit)) (now (keys .exit)) (now (cells .exit)) (now (status .exit))
+        (now (saved .exit)) (now (out .entry)) (now (out .exit)) r ⌝ }
 {
-    let o = opening::open(file, MAX_WORKERS, plan, keys, cells, status, olds);
+    let o = opening::open(file, MAX_WORKERS, plan, keys, cells, status, saved);
     let verdict = o.verdict;
     let head = o.head;
     let l = reader::read_block(file);

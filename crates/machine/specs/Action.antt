@@ -1,11 +1,12 @@
 -- One place of a call: what it does, as a function of the call and the registers alone. The cells it names are those of
--- `entryAccesses` and `accesses`, in their order. Assumes nothing.
+-- `entryAccesses` and `accesses`, in their order.
 use mathlib.Core.Bool.{Bool}
 use mathlib.Core.List.{List}
 use Prim.Native.Nat.{ℕ, _+_}
 use lib.IntN.{ℤ, pos}
 use lib.Signed.{ltZ, nonNeg}
 use lib.ListN.{getD, set}
+use Rattle.block.specs.Outcomes.{ended, balanceTooLow, thrown, noResult, notPaid}
 use Rattle.arith.specs.Choice.{if_then_else_}
 use Rattle.arith.specs.Exact.{addOf, subOf, mulOf, divOf}
 use Rattle.arith.specs.Compare.{eqZ}
@@ -17,29 +18,10 @@ use Rattle.block.specs.declared.Payee.{Payee}
 use Rattle.block.specs.declared.Payee.the-variants.{To, NoAccount}
 use Rattle.block.specs.declared.Instr.{Instr}
 use Rattle.block.specs.declared.Instr.the-variants.{Stop, Throw, Set, Arg, Sender, Value, Add, Sub, Mul, Div, Get, Put, Bal, Pay, Jeq, Jlt}
-use Rattle.footprint.specs.Access.{targetOf}
+use Rattle.block.specs.Naming.{targetOf}
 use Rattle.machine.specs.declared.Action.{Action}
 use Rattle.machine.specs.declared.Next.{Next}
 use Rattle.machine.specs.declared.Next.the-variants.{Go, End, Load, Store, Transfer}
-
--- The outcomes of a receipt.
-abbrev pub ended : ℕ
-ended = 0
-
-abbrev pub unknownFunction : ℕ
-unknownFunction = 1
-
-abbrev pub balanceTooLow : ℕ
-balanceTooLow = 2
-
-abbrev pub thrown : ℕ
-thrown = 3
-
-abbrev pub noResult : ℕ
-noResult = 4
-
-abbrev pub notPaid : ℕ
-notPaid = 5
 
 -- Places: 0 is the entry, p + 1 is instruction p.
 abbrev pub placeOf : ℕ → ℕ
@@ -56,10 +38,10 @@ abbrev pub assign : ℕ → List ℤ → ℕ → ℤ → Action
 assign place regs x v = doing (set regs x v) (Go (place + 1))
 
 -- x takes an exact result; "a result outside 64 signed bits or a zero divisor with 4".
-unfoldable pub assignChecked : ℕ → List ℤ → ℕ → Checked → Action
-assignChecked place regs x (checked.Value v) = assign place regs x v
-assignChecked place regs x checked.Overflow = doing regs (End noResult)
-assignChecked place regs x checked.ZeroDivisor = doing regs (End noResult)
+unfoldable pub checkedAction : ℕ → List ℤ → ℕ → Checked → Action
+checkedAction place regs x (checked.Value v) = assign place regs x v
+checkedAction place regs x checked.Overflow = doing regs (End noResult)
+checkedAction place regs x checked.ZeroDivisor = doing regs (End noResult)
 
 -- "PAY with 5 if the amount is negative, the target no account, or the contract's balance lower."
 unfoldable pub payAction : List ℤ → ℤ → Payee → Action
@@ -78,10 +60,10 @@ instrAction c place regs (Set x value) = assign place regs x value
 instrAction c place regs (Arg x k) = assign place regs x (pos (argument c k))
 instrAction c place regs (Sender x) = assign place regs x (pos (c .sender .0))
 instrAction c place regs (Value x) = assign place regs x (c .value)
-instrAction c place regs (Add x y z) = assignChecked place regs x (addOf (register regs y) (register regs z))
-instrAction c place regs (Sub x y z) = assignChecked place regs x (subOf (register regs y) (register regs z))
-instrAction c place regs (Mul x y z) = assignChecked place regs x (mulOf (register regs y) (register regs z))
-instrAction c place regs (Div x y z) = assignChecked place regs x (divOf (register regs y) (register regs z))
+instrAction c place regs (Add x y z) = checkedAction place regs x (addOf (register regs y) (register regs z))
+instrAction c place regs (Sub x y z) = checkedAction place regs x (subOf (register regs y) (register regs z))
+instrAction c place regs (Mul x y z) = checkedAction place regs x (mulOf (register regs y) (register regs z))
+instrAction c place regs (Div x y z) = checkedAction place regs x (divOf (register regs y) (register regs z))
 instrAction c place regs (Get x field a b) = doing regs (Load x)
 instrAction c place regs (Put x field a b) = doing regs (Store (register regs x))
 instrAction c place regs (Bal x) = doing regs (Load x)

@@ -1,4 +1,4 @@
--- "Stopped by the state. Number only": what each answer says; 0 stands for accepted. Assumes nothing.
+-- "Stopped by the state. Number only": what each answer says; 0 stands for accepted.
 use Prim.Native.Nat.{ℕ}
 use Rattle.machine.specs.declared.Answer.{Answer}
 use Rattle.machine.specs.declared.Answer.the-variants as answer

@@ -1,5 +1,5 @@
--- Names every definition of this crate that computes, so that a worked example opens them all by one name. Assumes nothing.
-use Rattle.machine.specs.Action.{assignChecked, payAction, instrAction, entryAction}
+-- Names every definition of this crate that computes, so that a worked example opens them all by one name.
+use Rattle.machine.specs.Action.{checkedAction, payAction, instrAction, entryAction}
 use Rattle.machine.specs.Answer.{answerNumber}
 use Rattle.machine.specs.Moves.{earlierBroken, earlierFinished, beginCall, beginChecked, beginOf, stepped, stepRecord, stepHeld, cancelHeld, heldBy, stepFor, cancelFor, moveOf, runAfter, answersOf}
 use Rattle.machine.specs.Opening.{refusedRun, openPrepared, openingOf}
@@ -9,5 +9,5 @@ use Rattle.machine.specs.Step.{findEntry, lookup, entriesAllowed, savedO
 use Rattle.footprint.specs.Computing as footprint
 
 unfoldable pub computing : Unit {0}
-unfolding footprint.computing assignChecked payAction instrAction entryAction answerNumber earlierBroken earlierFinished beginCall beginChecked beginOf stepped stepRecord stepHeld cancelHeld heldBy stepFor cancelFor moveOf runAfter answersOf refusedRun openPrepared openingOf largeEnough stepToEnd stepsToEnd runCalls chosen findEntry lookup entriesAllowed savedOf restored finish loadCell storeCell depositCell transferCells perform stepEntry stepDecoded stepInstr stepCall
+unfolding footprint.computing checkedAction payAction instrAction entryAction answerNumber earlierBroken earlierFinished beginCall beginChecked beginOf stepped stepRecord stepHeld cancelHeld heldBy stepFor cancelFor moveOf runAfter answersOf refusedRun openPrepared openingOf largeEnough stepToEnd stepsToEnd runCalls chosen findEntry lookup entriesAllowed savedOf restored finish loadCell storeCell depositCell transferCells perform stepEntry stepDecoded stepInstr stepCall
 computing = tt

@@ -1,4 +1,4 @@
--- Runs with one thing changed, for the examples of refusal 20. Assumes nothing.
+-- Runs with one thing changed, for the examples of refusal 20.
 use mathlib.Core.List.{List, [], _∷_}
 use Prim.Native.Nat.{ℕ, _-_}
 use lib.IntN.{ℤ}
@@ -7,22 +7,22 @@ use Rattle.machine.specs.Run.{Run, seatOf, withSeat}
 use Rattle.machine.specs.declared.Head.{Head}
 
 abbrev pub withHead : Run → Head → Run
-withHead r h = record { head = h; plan = r .plan; keys = r .keys; cells = r .cells; status = r .status; olds = r .olds }
+withHead r h = record { head = h; plan = r .plan; keys = r .keys; cells = r .cells; status = r .status; saved = r .saved }
 
 abbrev pub withPlan : Run → List ℕ → Run
-withPlan r plan = record { head = r .head; plan = plan; keys = r .keys; cells = r .cells; status = r .status; olds = r .olds }
+withPlan r plan = record { head = r .head; plan = plan; keys = r .keys; cells = r .cells; status = r .status; saved = r .saved }
 
 abbrev pub withKeys : Run → List ℕ → Run
-withKeys r keys = record { head = r .head; plan = r .plan; keys = keys; cells = r .cells; status = r .status; olds = r .olds }
+withKeys r keys = record { head = r .head; plan = r .plan; keys = keys; cells = r .cells; status = r .status; saved = r .saved }
 
 abbrev pub withCells : Run → List ℤ → Run
-withCells r cells = record { head = r .head; plan = r .plan; keys = r .keys; cells = cells; status = r .status; olds = r .olds }
+withCells r cells = record { head = r .head; plan = r .plan; keys = r .keys; cells = cells; status = r .status; saved = r .saved }
 
 abbrev pub withStatus : Run → List ℕ → Run
-withStatus r status = record { head = r .head; plan = r .plan; keys = r .keys; cells = r .cells; status = status; olds = r .olds }
+withStatus r status = record { head = r .head; plan = r .plan; keys = r .keys; cells = r .cells; status = status; saved = r .saved }
 
-abbrev pub withOlds : Run → List ℤ → Run
-withOlds r olds = record { head = r .head; plan = r .plan; keys = r .keys; cells = r .cells; status = r .status; olds = olds }
+abbrev pub withSaved : Run → List ℤ → Run
+withSaved r saved = record { head = r .head; plan = r .plan; keys = r .keys; cells = r .cells; status = r .status; saved = saved }
 
 -- A list without its last element.
 abbrev pub shorter {ℓ} : {A : Type ℓ} → List A → List A
@@ -33,14 +33,14 @@ unfoldable pub tooShort : Run → List Run
 tooShort r =
     withPlan r (shorter (r .plan))
     ∷ withKeys r (shorter (r .keys))
-    ∷ withCells r (shorter (r .cells)) ∷ withStatus r (shorter (r .status)) ∷ withOlds r (shorter (r .olds)) ∷ []
+    ∷ withCells r (shorter (r .cells)) ∷ withStatus r (shorter (r .status)) ∷ withSaved r (shorter (r .saved)) ∷ []
 
 -- One word of a buffer changed.
 abbrev pub planAt : ℕ → ℕ → Run → Run
 planAt i v r = withPlan r (set (r .plan) i v)
 
-abbrev pub keyAt : ℕ → ℕ → Run → Run
-keyAt i v r = withKeys r (set (r .keys) i v)
+abbrev pub withKeyAt : ℕ → ℕ → Run → Run
+withKeyAt i v r = withKeys r (set (r .keys) i v)
 
 abbrev pub valueAt : ℕ → ℤ → Run → Run
 valueAt i v r = withCells r (set (r .cells) i v)
@@ -49,20 +49,20 @@ abbrev pub statusAt : ℕ → ℕ → Run → Run
 statusAt i v r = withStatus r (set (r .status) i v)
 
 abbrev pub oldAt : ℕ → ℤ → Run → Run
-oldAt i v r = withOlds r (set (r .olds) i v)
+oldAt i v r = withSaved r (set (r .saved) i v)
 
 -- The numbers of the head, and a seat's call, place and count.
 abbrev pub workersAs : ℕ → Run → Run
-workersAs n r = withHead r (record { workers = n; calls = r .head .calls; cells = r .head .cells; first = r .head .first; seats = r .head .seats })
+workersAs n r = withHead r (record { workers = n; calls = r .head .calls; cells = r .head .cells; «first_call» = r .head .«first_call»; seats = r .head .seats })
 
 abbrev pub callsAs : ℕ → Run → Run
-callsAs n r = withHead r (record { workers = r .head .workers; calls = n; cells = r .head .cells; first = r .head .first; seats = r .head .seats })
+callsAs n r = withHead r (record { workers = r .head .workers; calls = n; cells = r .head .cells; «first_call» = r .head .«first_call»; seats = r .head .seats })
 
 abbrev pub cellsAs : ℕ → Run → Run
-cellsAs n r = withHead r (record { workers = r .head .workers; calls = r .head .calls; cells = n; first = r .head .first; seats = r .head .seats })
+cellsAs n r = withHead r (record { workers = r .head .workers; calls = r .head .calls; cells = n; «first_call» = r .head .«first_call»; seats = r .head .seats })
 
 abbrev pub firstAs : ℕ → Run → Run
-firstAs n r = withHead r (record { workers = r .head .workers; calls = r .head .calls; cells = r .head .cells; first = n; seats = r .head .seats })
+firstAs n r = withHead r (record { workers = r .head .workers; calls = r .head .calls; cells = r .head .cells; «first_call» = n; seats = r .head .seats })
 
 abbrev pub seatAs : (worker call place count : ℕ) → Run → Run
 seatAs w call place count r = withHead r (withSeat (r .head) w (record { call = call; place = place; count = count; regs = seatOf (r .head) w .regs }))

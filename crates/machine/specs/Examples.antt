@@ -1,35 +1,35 @@
--- The answers 20 to 26 of the three moves, computed on block P's run and on damaged ones. Assumes nothing.
+-- The answers 20 to 26 of the three moves, computed on block P's run and on damaged ones.
 use mathlib.Core.Path.{_≡_, refl}
 use mathlib.Core.List.{List, [], _∷_, _++_, map}
 use Prim.Native.Nat.{ℕ, _+_, _-_, _^_}
 use lib.IntN.{pos, negsuc}
 use lib.ListN.{take, set}
 use Rattle.schedule.specs.declared.Move.the-variants.{Begin, Step, Cancel}
-use Rattle.block.specs.Assemble.{text, joined, STOP, THROW, SET, PUT, function, cell, call, end}
+use Rattle.block.specs.Assemble.{text, joinedParts, STOP, THROW, SET, PUT, function, cell, call, end}
 use Rattle.block.specs.Worked.{P}
 use Rattle.machine.specs.Answer.{answerNumber}
 use Rattle.machine.specs.Run.{Run}
-use Rattle.machine.specs.Opening.{opened}
+use Rattle.machine.specs.Opening.{openedForEight}
 use Rattle.machine.specs.Moves.{beginOf, stepOf, cancelOf, runAfter, answersOf}
 use Rattle.machine.specs.Serial.{serialSteps}
-use Rattle.machine.specs.Damage.{tooShort, planAt, keyAt, valueAt, statusAt, oldAt, workersAs, callsAs, firstAs, seatAs}
+use Rattle.machine.specs.Damage.{tooShort, planAt, withKeyAt, valueAt, statusAt, oldAt, workersAs, callsAs, firstAs, seatAs}
 use Rattle.machine.specs.Computing.{computing}
 
 -- Block P: the table has the balances of 5, 7 and 32768, and field 1 of 32768, as cells 0 to 3. The plan of call 1 starts at word 32
 -- and has entries 3 (cell 0, read and written), 11 (cell 2, likewise), 13 (cell 3, read) and 6 (cell 1, written).
-unfoldable pub start : Run
-start = opened P
+unfoldable pub startP : Run
+startP = openedForEight P
 
 -- Worker 0 holds call 0, at its entry, and before its PUT.
-unfoldable pub begun : Run
-begun = runAfter P start (Begin 0 0 ∷ [])
+unfoldable pub begunP : Run
+begunP = runAfter P startP (Begin 0 0 ∷ [])
 
 unfoldable pub atPut : Run
-atPut = runAfter P start (Begin 0 0 ∷ Step 0 ∷ Step 0 ∷ [])
+atPut = runAfter P startP (Begin 0 0 ∷ Step 0 ∷ Step 0 ∷ [])
 
 -- Call 0 is finished.
 unfoldable pub one : Run
-one = runAfter P start (Begin 0 0 ∷ Step 0 ∷ Step 0 ∷ Step 0 ∷ Step 0 ∷ [])
+one = runAfter P startP (Begin 0 0 ∷ Step 0 ∷ Step 0 ∷ Step 0 ∷ Step 0 ∷ [])
 
 -- Call 1 at its entry; call 2 before its PAY.
 unfoldable pub second : Run
@@ -41,15 +41,15 @@ atPay = runAfter P one (Begin 0 1 ∷ Step 0 ∷ Step 0 ∷ Step 0 ∷ Step 0 �
 -- A call before the THROW behind its PUT.
 unfoldable pub thrower : List ℕ
 thrower =
-    joined (function 32768 0 (PUT 0 1 0 ∷ THROW ∷ []) ∷ cell 32768 1 0 0 (pos 9) ∷ call 5 32768 0 (pos 0) ∷ end ∷ [])
+    joinedParts (function 32768 0 (PUT 0 1 0 ∷ THROW ∷ []) ∷ cell 32768 1 0 0 (pos 9) ∷ call 5 32768 0 (pos 0) ∷ end ∷ [])
 
 unfoldable pub atThrow : Run
-atThrow = runAfter thrower (opened thrower) (Begin 0 0 ∷ Step 0 ∷ Step 0 ∷ [])
+atThrow = runAfter thrower (openedForEight thrower) (Begin 0 0 ∷ Step 0 ∷ Step 0 ∷ [])
 
 -- Calls that end by STOP, behind an instruction, by THROW and in a code of none; of an unknown function; and of an account without the value.
 unfoldable pub endings : List ℕ
 endings =
-    joined
+    joinedParts
     (function 32768 0 (STOP ∷ [])
     ∷ function 32768 1 (SET 0 (pos 1) ∷ [])
     ∷ function 32768 2 (THROW ∷ [])
@@ -70,39 +70,39 @@ cancels rs = map (λ r. answerNumber (cancelOf r 0 .answer)) rs
 
 pub record Moves-P : Type 0 where
   -- "BEGIN(1, 1) first: 25", "STEP on an idle worker: 26", and the other refusals in P.
-  pub answered : answersOf P start (Begin 1 1 ∷ Step 0 ∷ Cancel 0 ∷ Begin 8 0 ∷ Step 8 ∷ Begin 0 3 ∷ Begin 0 0 ∷ Begin 0 2 ∷ Begin 1 0 ∷ []) ≡ 25 ∷ 26 ∷ 26 ∷ 21 ∷ 21 ∷ 22 ∷ 0 ∷ 23 ∷ 24 ∷ []
+  pub answered : answersOf P startP (Begin 1 1 ∷ Step 0 ∷ Cancel 0 ∷ Begin 8 0 ∷ Step 8 ∷ Begin 0 3 ∷ Begin 0 0 ∷ Begin 0 2 ∷ Begin 1 0 ∷ []) ≡ 25 ∷ 26 ∷ 26 ∷ 21 ∷ 21 ∷ 22 ∷ 0 ∷ 23 ∷ 24 ∷ []
   -- "Freeing waiters when a call is cancelled": call 1 still waits for call 0.
-  pub cancelled : answersOf P begun (Cancel 0 ∷ Begin 1 1 ∷ []) ≡ 0 ∷ 25 ∷ []
+  pub cancelled : answersOf P begunP (Cancel 0 ∷ Begin 1 1 ∷ []) ≡ 0 ∷ 25 ∷ []
   -- A cancelled PUT leaves no trace, and the call waits with all else as at the opening but the old values.
-  pub restored : runAfter P atPut (Step 0 ∷ Cancel 0 ∷ []) ≡ start
+  pub restored : runAfter P atPut (Step 0 ∷ Cancel 0 ∷ []) ≡ startP
   -- PUT then THROW: the cell is as before, outcome 3, count 2.
   pub thrown : take 2 (runAfter thrower atThrow (Step 0 ∷ []) .cells) ≡ pos 9 ∷ pos 0 ∷ []
   pub receipt : take 3 (runAfter thrower atThrow (Step 0 ∷ []) .status) ≡ 2 ∷ 3 ∷ 2 ∷ []
   -- "A call's steps are its entry, its counted instructions, and one for reaching the end": there is none behind STOP.
-  pub stepped : map (serialSteps endings (opened endings)) (0 ∷ 1 ∷ 2 ∷ 3 ∷ 4 ∷ 5 ∷ []) ≡ 2 ∷ 3 ∷ 2 ∷ 2 ∷ 1 ∷ 1 ∷ []
+  pub stepped : map (serialSteps endings (openedForEight endings)) (0 ∷ 1 ∷ 2 ∷ 3 ∷ 4 ∷ 5 ∷ []) ≡ 2 ∷ 3 ∷ 2 ∷ 2 ∷ 1 ∷ 1 ∷ []
 
 pub moves-of-p : Moves-P
-unfolding computing text joined P thrower endings start begun atPut atThrow
+unfolding computing text joinedParts P thrower endings startP begunP atPut atThrow
 moves-of-p = record { answered = refl; cancelled = refl; restored = refl; thrown = refl; receipt = refl; stepped = refl }
 
 pub record Damaged : Type 0 where
   -- BEGIN: the sizes, the workers (then 21), the calls (then 22), the held call (then 23), the call's state (then 24), the states of
   -- earlier conflicting calls (then 25), the number of keys, and of each entry the flags and, where it is written, the cell number.
-  pub begin-sizes : begins 0 0 (tooShort start) ≡ 20 ∷ 20 ∷ 20 ∷ 20 ∷ 20 ∷ []
-  pub begin-head : begins 0 0 (workersAs 0 start ∷ workersAs 9 start ∷ callsAs 257 start ∷ seatAs 0 4 0 0 start ∷ seatAs 0 3 0 0 start ∷ []) ≡ 20 ∷ 20 ∷ 20 ∷ 20 ∷ 23 ∷ []
-  pub begin-state : begins 0 0 (statusAt 0 3 start ∷ statusAt 0 2 start ∷ statusAt 0 1 start ∷ []) ≡ 20 ∷ 24 ∷ 24 ∷ []
-  pub begin-earlier : begins 0 1 (statusAt 0 3 start ∷ statusAt 0 1 start ∷ statusAt 0 2 start ∷ []) ≡ 20 ∷ 25 ∷ 0 ∷ []
+  pub begin-sizes : begins 0 0 (tooShort startP) ≡ 20 ∷ 20 ∷ 20 ∷ 20 ∷ 20 ∷ []
+  pub begin-head : begins 0 0 (workersAs 0 startP ∷ workersAs 9 startP ∷ callsAs 257 startP ∷ seatAs 0 4 0 0 startP ∷ seatAs 0 3 0 0 startP ∷ []) ≡ 20 ∷ 20 ∷ 20 ∷ 20 ∷ 23 ∷ []
+  pub begin-state : begins 0 0 (statusAt 0 3 startP ∷ statusAt 0 2 startP ∷ statusAt 0 1 startP ∷ []) ≡ 20 ∷ 24 ∷ 24 ∷ []
+  pub begin-earlier : begins 0 1 (statusAt 0 3 startP ∷ statusAt 0 1 startP ∷ statusAt 0 2 startP ∷ []) ≡ 20 ∷ 25 ∷ 0 ∷ []
   pub begin-entries : begins 0 1 (planAt 34 25 one ∷ planAt 35 0 one ∷ planAt 35 4098 one ∷ planAt 37 4097 one ∷ []) ≡ 20 ∷ 20 ∷ 20 ∷ 0 ∷ []
   -- What a lower number answers first is not looked at: a damaged seat behind 21, a damaged state behind 23.
-  pub begin-order : begins 8 0 (callsAs 257 start ∷ []) ++ begins 0 3 (seatAs 0 4 0 0 start ∷ []) ++ begins 0 0 (statusAt 0 3 begun ∷ []) ≡ 21 ∷ 22 ∷ 23 ∷ []
+  pub begin-order : begins 8 0 (callsAs 257 startP ∷ []) ++ begins 0 3 (seatAs 0 4 0 0 startP ∷ []) ++ begins 0 0 (statusAt 0 3 begunP ∷ []) ≡ 21 ∷ 22 ∷ 23 ∷ []
   -- STEP: the held call, the place, the count, the call's record; the state word is not looked at.
-  pub step-sizes : steps P (tooShort begun) ≡ 20 ∷ 20 ∷ 20 ∷ 20 ∷ 20 ∷ []
-  pub step-head : steps P (workersAs 0 begun ∷ workersAs 9 begun ∷ callsAs 257 begun ∷ seatAs 0 4 0 0 begun ∷ statusAt 0 7 begun ∷ []) ≡ 20 ∷ 20 ∷ 20 ∷ 20 ∷ 0 ∷ []
-  pub step-place : steps P (seatAs 0 1 4 0 begun ∷ seatAs 0 1 3 0 begun ∷ planAt 1 66 begun ∷ seatAs 0 1 0 65 begun ∷ seatAs 0 1 0 64 begun ∷ []) ≡ 20 ∷ 0 ∷ 20 ∷ 20 ∷ 0 ∷ []
-  pub step-record : steps P (firstAs 200 begun ∷ firstAs 0 begun ∷ []) ++ steps (set P 125 128) (begun ∷ []) ≡ 20 ∷ 20 ∷ 20 ∷ []
+  pub step-sizes : steps P (tooShort begunP) ≡ 20 ∷ 20 ∷ 20 ∷ 20 ∷ 20 ∷ []
+  pub step-head : steps P (workersAs 0 begunP ∷ workersAs 9 begunP ∷ callsAs 257 begunP ∷ seatAs 0 4 0 0 begunP ∷ statusAt 0 7 begunP ∷ []) ≡ 20 ∷ 20 ∷ 20 ∷ 20 ∷ 0 ∷ []
+  pub step-place : steps P (seatAs 0 1 4 0 begunP ∷ seatAs 0 1 3 0 begunP ∷ planAt 1 66 begunP ∷ seatAs 0 1 0 65 begunP ∷ seatAs 0 1 0 64 begunP ∷ []) ≡ 20 ∷ 0 ∷ 20 ∷ 20 ∷ 0 ∷ []
+  pub step-record : steps P (firstAs 200 begunP ∷ firstAs 0 begunP ∷ []) ++ steps (set P 125 128) (begunP ∷ []) ≡ 20 ∷ 20 ∷ 20 ∷ []
   -- At an instruction: the code stretch, the instruction, the cell among the entries with the flag that is wanted.
-  pub step-code : steps P (planAt 0 215 atPut ∷ []) ++ steps (set P 16 16) (atPut ∷ begun ∷ []) ≡ 20 ∷ 20 ∷ 0 ∷ []
-  pub step-cell : steps P (keyAt 6 0 atPut ∷ planAt 3 13 atPut ∷ planAt 3 4098 atPut ∷ planAt 2 0 atPut ∷ planAt 2 25 atPut ∷ atPut ∷ []) ≡ 20 ∷ 20 ∷ 20 ∷ 20 ∷ 20 ∷ 0 ∷ []
+  pub step-code : steps P (planAt 0 215 atPut ∷ []) ++ steps (set P 16 16) (atPut ∷ begunP ∷ []) ≡ 20 ∷ 20 ∷ 0 ∷ []
+  pub step-cell : steps P (withKeyAt 6 0 atPut ∷ planAt 3 13 atPut ∷ planAt 3 4098 atPut ∷ planAt 2 0 atPut ∷ planAt 2 25 atPut ∷ atPut ∷ []) ≡ 20 ∷ 20 ∷ 20 ∷ 20 ∷ 20 ∷ 0 ∷ []
   -- At the entry of call 1: the sender's balance, and the contract's where the sender's suffices.
   pub step-entry : steps P (valueAt 0 (negsuc 0) second ∷ valueAt 2 (negsuc 0) second ∷ valueAt 2 (pos (2 ^ 63 - 1)) second ∷ valueAt 2 (negsuc 0) (valueAt 0 (pos 0) second) ∷ second ∷ []) ≡ 20 ∷ 20 ∷ 20 ∷ 0 ∷ 0 ∷ []
   -- At the PAY of call 2 likewise.
@@ -110,12 +110,12 @@ pub record Damaged : Type 0 where
   -- An abort needs the entries; "kept old values are restored untested".
   pub step-abort : steps thrower (planAt 2 25 atThrow ∷ planAt 3 0 atThrow ∷ planAt 3 4098 atThrow ∷ oldAt 0 (negsuc 4) atThrow ∷ []) ≡ 20 ∷ 20 ∷ 20 ∷ 0 ∷ []
   -- CANCEL: the held call, the number of keys and the entries.
-  pub cancel-sizes : cancels (tooShort begun) ≡ 20 ∷ 20 ∷ 20 ∷ 20 ∷ 20 ∷ []
-  pub cancel-head : cancels (workersAs 0 begun ∷ callsAs 257 begun ∷ seatAs 0 4 0 0 begun ∷ seatAs 0 1 99 99 begun ∷ start ∷ []) ≡ 20 ∷ 20 ∷ 20 ∷ 0 ∷ 26 ∷ []
-  pub cancel-entries : cancels (planAt 2 25 begun ∷ planAt 3 0 begun ∷ planAt 3 4098 begun ∷ oldAt 0 (negsuc 4) begun ∷ []) ≡ 20 ∷ 20 ∷ 20 ∷ 0 ∷ []
+  pub cancel-sizes : cancels (tooShort begunP) ≡ 20 ∷ 20 ∷ 20 ∷ 20 ∷ 20 ∷ []
+  pub cancel-head : cancels (workersAs 0 begunP ∷ callsAs 257 begunP ∷ seatAs 0 4 0 0 begunP ∷ seatAs 0 1 99 99 begunP ∷ startP ∷ []) ≡ 20 ∷ 20 ∷ 20 ∷ 0 ∷ 26 ∷ []
+  pub cancel-entries : cancels (planAt 2 25 begunP ∷ planAt 3 0 begunP ∷ planAt 3 4098 begunP ∷ oldAt 0 (negsuc 4) begunP ∷ []) ≡ 20 ∷ 20 ∷ 20 ∷ 0 ∷ []
 
 pub damaged : Damaged
-unfolding computing text joined P thrower start begun atPut one second atPay atThrow tooShort
+unfolding computing text joinedParts P thrower startP begunP atPut one second atPay atThrow tooShort
 damaged =
     record {
       begin-sizes = refl;

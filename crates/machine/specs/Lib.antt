@@ -1,17 +1,14 @@
-pub mod Answer
+-- To read: Run is the lent run and Answer the numbers 20 to 28; Opening is what an opening leaves; Action and Step are one step of one call; Moves is
+-- BEGIN, STEP and CANCEL with their refusals; Serial is the serial run. CallInRun is a call by itself, as demand 2 compares it with the rule.
+-- Examples are computed, on runs of Damage; Computing names what they open.
 pub mod Run
+pub mod Answer
 pub mod Opening
 pub mod Action
 pub mod Step
 pub mod Moves
 pub mod Serial
-pub mod Made
+pub mod CallInRun
 pub mod Damage
-pub mod CodeLaws
-pub mod LookupLaws
-pub mod RestoreLaws
-pub mod HoldLaws
-pub mod StepRule
-pub mod CallRule
 pub mod Examples
 pub mod Computing

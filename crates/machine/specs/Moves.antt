@@ -3,13 +3,14 @@
 -- above, or a code stretch needed by the move past the lent block's end, or a count, place, call state, call number, cell number or
 -- instruction that the run or the block holds, needed by the move and outside its range above, or a balance needed by it below zero or
 -- passing 2^63 - 1 (none after an opening and moves alone; kept old values are restored untested)." "Lowest number first, except that
--- 20 for a value is tested where the test or the change first uses that value". Assumes nothing.
+-- 20 for a value is tested where the test or the change first uses that value".
 use mathlib.Core.Bool.{Bool, true, false, _&&_, _||_, not}
 use mathlib.Core.List.{List, [], _∷_}
 use Prim.Native.Nat.{ℕ, zero, suc, _+_, _-_, _*_}
 use lib.IntN.{ℤ}
 use lib.Dec.{eqb, leb, ltb}
 use lib.ListN.{length, take, drop}
+use Rattle.footprint.specs.Plan.{codeStart, codeLength, keyCount}
 use Rattle.arith.specs.Choice.{if_then_else_}
 use Rattle.wire.specs.Bytes.{stored}
 use Rattle.wire.specs.Rows.{inRow}
@@ -34,15 +35,15 @@ abbrev pub stay : Run → Answer → Moved
 stay r a = record { answer = a; run = r }
 
 -- The number of keys of a call, and its entries.
-abbrev pub keysOf : List ℕ → ℕ → ℕ
-keysOf plan c = planWord plan c 2
+abbrev pub callKeyCount : List ℕ → ℕ → ℕ
+callKeyCount plan call = planWord plan call keyCount
 
 abbrev pub ownEntries : List ℕ → ℕ → List ℕ
-ownEntries plan c = entriesOf plan c (keysOf plan c)
+ownEntries plan call = entriesOf plan call (callKeyCount plan call)
 
 -- The old values that a worker keeps for the n entries of its call.
-abbrev pub oldsOf : List ℤ → ℕ → ℕ → List ℤ
-oldsOf olds w n = take n (drop (maxCallKeys * w) olds)
+abbrev pub savedIn : List ℤ → ℕ → ℕ → List ℤ
+savedIn saved worker n = take n (drop (maxCallKeys * worker) saved)
 
 -- "25 uses the states of all earlier conflicting calls": among the first n, one is no state; and all are finished.
 unfoldable pub earlierBroken : List ℕ → List ℕ → ℕ → Bool
@@ -55,132 +56,132 @@ earlierFinished row status (suc n) = (not (inRow row n) || eqb (stateOf status n
 
 -- "BEGIN(worker, call): running, at entry, the write set's old values kept."
 unfoldable pub beginCall : Run → ℕ → ℕ → Run
-beginCall r w c =
+beginCall r worker call =
     record {
-      head = withSeat (r .head) w (record { call = c + 1; place = 0; count = 0; regs = zeroRegisters });
+      head = withSeat (r .head) worker (record { call = call + 1; place = 0; count = 0; regs = zeroRegisters });
       plan = r .plan;
       keys = r .keys;
       cells = r .cells;
-      status = withState (r .status) c running;
-      olds = stored (r .olds) (maxCallKeys * w) (savedOf (ownEntries (r .plan) c) (r .cells));
+      status = withState (r .status) call running;
+      saved = stored (r .saved) (maxCallKeys * worker) (savedOf (ownEntries (r .plan) call) (r .cells));
     }
 
 -- The call's state, 24; the states of its earlier conflicting calls, 25; its entries.
 unfoldable pub beginChecked : Run → ℕ → ℕ → Moved
-beginChecked r w c =
-    if not (isState (stateOf (r .status) c))
+beginChecked r worker call =
+    if not (isState (stateOf (r .status) call))
     then stay r Damaged
-    else if not (eqb (stateOf (r .status) c) waiting)
+    else if not (eqb (stateOf (r .status) call) waiting)
     then stay r NotWaiting
-    else if earlierBroken (rowIn (r .plan) c) (r .status) c
+    else if earlierBroken (rowIn (r .plan) call) (r .status) call
     then stay r Damaged
-    else if not (earlierFinished (rowIn (r .plan) c) (r .status) c)
+    else if not (earlierFinished (rowIn (r .plan) call) (r .status) call)
     then stay r EarlierUnfinished
-    else if not (restorable (keysOf (r .plan) c) (ownEntries (r .plan) c))
+    else if not (restorable (callKeyCount (r .plan) call) (ownEntries (r .plan) call))
     then stay r Damaged
-    else record { answer = Accepted; run = beginCall r w c }
+    else record { answer = Accepted; run = beginCall r worker call }
 
 -- The number of calls, 22; the worker's held call, 23.
 unfoldable pub beginOf : Run → ℕ → ℕ → Moved
-beginOf r w c =
+beginOf r worker call =
     if not (largeEnough (sizesOf r)) || eqb (r .head .workers) 0 || ltb maxWorkers (r .head .workers)
     then stay r Damaged
-    else if leb (r .head .workers) w
+    else if leb (r .head .workers) worker
     then stay r NoWorker
     else if ltb maxCalls (r .head .calls)
     then stay r Damaged
-    else if leb (r .head .calls) c
+    else if leb (r .head .calls) call
     then stay r NoCall
-    else if ltb (r .head .calls) (seatOf (r .head) w .call)
+    else if ltb (r .head .calls) (seatOf (r .head) worker .call)
     then stay r Damaged
-    else if not (eqb (seatOf (r .head) w .call) 0)
+    else if not (eqb (seatOf (r .head) worker .call) 0)
     then stay r WorkerBusy
-    else beginChecked r w c
+    else beginChecked r worker call
 
 abbrev pub viewOf : List ℕ → Run → ℕ → Call → View
-viewOf block r c call =
+viewOf block r call body =
     record {
       block = block;
-      call = call;
-      start = planWord (r .plan) c 0;
-      code = planWord (r .plan) c 1;
-      count = keysOf (r .plan) c;
-      entries = ownEntries (r .plan) c;
+      call = body;
+      start = planWord (r .plan) call codeStart;
+      code = planWord (r .plan) call codeLength;
+      count = callKeyCount (r .plan) call;
+      entries = ownEntries (r .plan) call;
       keys = r .keys;
     }
 
--- The state of the running call c, as its worker's seat and old values have it.
+-- The state of a running call, as its worker's seat and old values have it.
 abbrev pub localOf : Run → ℕ → ℕ → Local
-localOf r w c =
+localOf r worker call =
     record {
-      place = seatOf (r .head) w .place;
-      count = seatOf (r .head) w .count;
-      regs = seatOf (r .head) w .regs;
-      saved = oldsOf (r .olds) w (keysOf (r .plan) c);
+      place = seatOf (r .head) worker .place;
+      count = seatOf (r .head) worker .count;
+      regs = seatOf (r .head) worker .regs;
+      saved = savedIn (r .saved) worker (callKeyCount (r .plan) call);
     }
 
--- The run after a step of call c on worker w. "A finished or cancelled call frees its worker."
+-- The run after a step of a call on a worker. "A finished or cancelled call frees its worker."
 unfoldable pub stepped : Run → ℕ → ℕ → Stepped → Moved
-stepped r w c damaged = stay r Damaged
-stepped r w c (more l cells) =
+stepped r worker call damaged = stay r Damaged
+stepped r worker call (more l cells) =
     record {
       answer = Accepted;
       run =
           record {
-            head = withSeat (r .head) w (record { call = c + 1; place = l .place; count = l .count; regs = l .regs });
+            head = withSeat (r .head) worker (record { call = call + 1; place = l .place; count = l .count; regs = l .regs });
             plan = r .plan;
             keys = r .keys;
             cells = cells;
             status = r .status;
-            olds = r .olds;
+            saved = r .saved;
           };
     }
-stepped r w c (done outcome count cells) =
+stepped r worker call (done outcome count cells) =
     record {
       answer = Accepted;
       run =
           record {
-            head = withSeat (r .head) w idleSeat;
+            head = withSeat (r .head) worker idleSeat;
             plan = r .plan;
             keys = r .keys;
             cells = cells;
-            status = withReceipt (r .status) c outcome count;
-            olds = r .olds;
+            status = withReceipt (r .status) call outcome count;
+            saved = r .saved;
           };
     }
 
 -- The call's record in the lent block, its fields in their ranges.
 unfoldable pub stepRecord : List ℕ → Run → ℕ → ℕ → CallBody → Moved
-stepRecord block r w c OutOfRange = stay r Damaged
-stepRecord block r w c (InRange call) = stepped r w c (stepCall (viewOf block r c call) (localOf r w c) (r .cells))
+stepRecord block r worker call OutOfRange = stay r Damaged
+stepRecord block r worker call (InRange body) = stepped r worker call (stepCall (viewOf block r call body) (localOf r worker call) (r .cells))
 
 -- The place (entry, or 0 to the code's length), the count, and the call's record.
 unfoldable pub stepHeld : List ℕ → Run → ℕ → ℕ → Moved
-stepHeld block r w c =
-    let at : ℕ = r .head .first + (headBytes + callBytes) * c in
-    if ltb (maxCode + 1) (planWord (r .plan) c 1) || ltb (planWord (r .plan) c 1) (seatOf (r .head) w .place)
+stepHeld block r worker call =
+    let at : ℕ = r .head .«first_call» + (headBytes + callBytes) * call in
+    if ltb (maxCode + 1) (planWord (r .plan) call codeLength) || ltb (planWord (r .plan) call codeLength) (seatOf (r .head) worker .place)
     then stay r Damaged
-    else if ltb maxCode (seatOf (r .head) w .count)
+    else if ltb maxCode (seatOf (r .head) worker .count)
     then stay r Damaged
     else if ltb (length block) (at + (headBytes + callBytes))
     then stay r Damaged
-    else stepRecord block r w c (callOf (drop (at + headBytes) block))
+    else stepRecord block r worker call (callOf (drop (at + headBytes) block))
 
 -- "CANCEL(worker) restores likewise; the call waits again, count 0."
 unfoldable pub cancelHeld : Run → ℕ → ℕ → Moved
-cancelHeld r w c =
-    if restorable (keysOf (r .plan) c) (ownEntries (r .plan) c)
+cancelHeld r worker call =
+    if restorable (callKeyCount (r .plan) call) (ownEntries (r .plan) call)
     then
     record {
       answer = Accepted;
       run =
           record {
-            head = withSeat (r .head) w idleSeat;
+            head = withSeat (r .head) worker idleSeat;
             plan = r .plan;
             keys = r .keys;
-            cells = restored (ownEntries (r .plan) c) (oldsOf (r .olds) w (keysOf (r .plan) c)) (r .cells);
-            status = withState (r .status) c waiting;
-            olds = r .olds;
+            cells = restored (ownEntries (r .plan) call) (savedIn (r .saved) worker (callKeyCount (r .plan) call)) (r .cells);
+            status = withState (r .status) call waiting;
+            saved = r .saved;
           };
     }
     else stay r Damaged
@@ -191,36 +192,36 @@ pub data Held : Type 0 where
   holds : ℕ → Held
 
 unfoldable pub heldBy : Run → ℕ → Held
-heldBy r w =
+heldBy r worker =
     if not (largeEnough (sizesOf r)) || eqb (r .head .workers) 0 || ltb maxWorkers (r .head .workers)
     then answered Damaged
-    else if leb (r .head .workers) w
+    else if leb (r .head .workers) worker
     then answered NoWorker
-    else if eqb (seatOf (r .head) w .call) 0
+    else if eqb (seatOf (r .head) worker .call) 0
     then answered WorkerIdle
-    else if ltb maxCalls (r .head .calls) || ltb (r .head .calls) (seatOf (r .head) w .call)
+    else if ltb maxCalls (r .head .calls) || ltb (r .head .calls) (seatOf (r .head) worker .call)
     then answered Damaged
-    else holds (seatOf (r .head) w .call - 1)
+    else holds (seatOf (r .head) worker .call - 1)
 
 unfoldable pub stepFor : List ℕ → Run → ℕ → Held → Moved
-stepFor block r w (answered a) = stay r a
-stepFor block r w (holds c) = stepHeld block r w c
+stepFor block r worker (answered a) = stay r a
+stepFor block r worker (holds call) = stepHeld block r worker call
 
 unfoldable pub cancelFor : Run → ℕ → Held → Moved
-cancelFor r w (answered a) = stay r a
-cancelFor r w (holds c) = cancelHeld r w c
+cancelFor r worker (answered a) = stay r a
+cancelFor r worker (holds call) = cancelHeld r worker call
 
 abbrev pub stepOf : List ℕ → Run → ℕ → Moved
-stepOf block r w = stepFor block r w (heldBy r w)
+stepOf block r worker = stepFor block r worker (heldBy r worker)
 
 abbrev pub cancelOf : Run → ℕ → Moved
-cancelOf r w = cancelFor r w (heldBy r w)
+cancelOf r worker = cancelFor r worker (heldBy r worker)
 
 -- One move on a lent run and block.
 unfoldable pub moveOf : List ℕ → Run → Move → Moved
-moveOf block r (Begin w c) = beginOf r w c
-moveOf block r (Step w) = stepOf block r w
-moveOf block r (Cancel w) = cancelOf r w
+moveOf block r (Begin worker call) = beginOf r worker call
+moveOf block r (Step worker) = stepOf block r worker
+moveOf block r (Cancel worker) = cancelOf r worker
 
 -- A list of moves, each lent the block and the run that the one before left: the run behind them, and their answers.
 unfoldable pub runAfter : List ℕ → Run → List Move → Run

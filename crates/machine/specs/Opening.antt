@@ -1,4 +1,4 @@
--- The opening: what the head and every lent buffer hold afterwards, accepted or refused. Assumes nothing.
+-- The opening: what the head and every lent buffer hold afterwards, accepted or refused.
 use mathlib.Core.Bool.{_||_, not}
 use mathlib.Core.List.{List}
 use Prim.Native.Nat.{ℕ}
@@ -20,9 +20,9 @@ pub record Opened : Type 0 where
   pub answer : Verdict
   pub run : Run
 
-abbrev pub headOf : (workers calls cells first : ℕ) → Head
-headOf workers calls cells first =
-    record { workers = workers; calls = calls; cells = cells; first = first; seats = repeated maxWorkers idleSeat }
+abbrev pub headOf : (workers calls cells start : ℕ) → Head
+headOf workers calls cells start =
+    record { workers = workers; calls = calls; cells = cells; «first_call» = start; seats = repeated maxWorkers idleSeat }
 
 -- "every buffer lent to be written is zero"
 unfoldable pub refusedRun : Sizes → Refusal → Opened
@@ -36,7 +36,7 @@ refusedRun s why =
             keys = repeated (s .keys) 0;
             cells = repeated (s .cells) (pos 0);
             status = repeated (s .status) 0;
-            olds = repeated (s .olds) (pos 0);
+            saved = repeated (s .saved) (pos 0);
           };
     }
 
@@ -48,12 +48,12 @@ openPrepared s workers p verdict.Accepted =
       answer = verdict.Accepted;
       run =
           record {
-            head = headOf workers (p .calls) (p .cells) (p .first);
+            head = headOf workers (p .calls) (p .cells) (p .firstCall);
             plan = p .plan;
             keys = p .keys;
             cells = p .values;
             status = repeated (s .status) 0;
-            olds = repeated (s .olds) (pos 0);
+            saved = repeated (s .saved) (pos 0);
           };
     }
 
@@ -68,5 +68,5 @@ openingOf s file workers =
     else openPrepared s workers p (p .verdict)
 
 -- The run of a block as opened for eight workers in buffers of the fixed sizes.
-abbrev pub opened : List ℕ → Run
-opened block = openingOf fixedSizes block maxWorkers .run
+abbrev pub openedForEight : List ℕ → Run
+openedForEight block = openingOf fixedSizes block maxWorkers .run

@@ -1,12 +1,13 @@
--- The run that a caller lends: a head and five buffers, and where each thing stands in them. Assumes nothing.
+-- The run that a caller lends: a head and five buffers, and where each thing stands in them.
 use mathlib.Core.Bool.{Bool, _&&_}
 use mathlib.Core.List.{List, [], _∷_}
-use Prim.Native.Nat.{ℕ, _+_, _*_, _/_, _%_}
+use Prim.Native.Nat.{ℕ, _+_, _*_}
 use lib.IntN.{ℤ, pos}
 use lib.Dec.{eqb, leb}
 use lib.ListN.{length, getD, take, drop, set}
 use Rattle.block.specs.Limits.{maxCalls, maxCallKeys, maxWorkers}
-use Rattle.footprint.specs.Plan.{planWords, highWord, lowWord, Room, fixedRoom, roomEnough}
+use Rattle.wire.specs.Rows.{rowWords}
+use Rattle.footprint.specs.Plan.{planWords, highWord, lowWord, Room, fixedRoom, roomEnough, firstEntry, firstRowWord, keyWords}
 use Rattle.machine.specs.declared.Seat.{Seat}
 use Rattle.machine.specs.declared.Head.{Head}
 
@@ -16,7 +17,7 @@ pub record Run : Type 0 where
   pub keys : List ℕ
   pub cells : List ℤ
   pub status : List ℕ
-  pub olds : List ℤ
+  pub saved : List ℤ
 
 -- A call has 32 words of the plan and 4 of the status; a worker has 24 old values.
 abbrev pub statusWords : ℕ
@@ -28,10 +29,17 @@ pub record Sizes : Type 0 where
   pub keys : ℕ
   pub cells : ℕ
   pub status : ℕ
-  pub olds : ℕ
+  pub saved : ℕ
 
 abbrev pub sizesOf : Run → Sizes
-sizesOf r = record { plan = length (r .plan); keys = length (r .keys); cells = length (r .cells); status = length (r .status); olds = length (r .olds) }
+sizesOf r =
+    record {
+      plan = length (r .plan);
+      keys = length (r .keys);
+      cells = length (r .cells);
+      status = length (r .status);
+      saved = length (r .saved);
+    }
 
 -- "the fixed size for the limits above"
 abbrev pub fixedSizes : Sizes
@@ -41,7 +49,7 @@ fixedSizes =
       keys = fixedRoom .keys;
       cells = fixedRoom .cells;
       status = maxCalls * statusWords;
-      olds = maxWorkers * maxCallKeys;
+      saved = maxWorkers * maxCallKeys;
     }
 
 -- The three buffers that an opening prepares.
@@ -50,7 +58,7 @@ roomIn s = record { plan = s .plan; keys = s .keys; cells = s .cells }
 
 -- 20: "a lent buffer .. shorter than the fixed size"
 unfoldable pub largeEnough : Sizes → Bool
-largeEnough s = roomEnough (roomIn s) && leb (fixedSizes .status) (s .status) && leb (fixedSizes .olds) (s .olds)
+largeEnough s = roomEnough (roomIn s) && leb (fixedSizes .status) (s .status) && leb (fixedSizes .saved) (s .saved)
 
 -- "A worker's eight registers start at zero at each BEGIN."
 abbrev pub zeroRegisters : List ℤ
@@ -60,36 +68,26 @@ abbrev pub idleSeat : Seat
 idleSeat = record { call = 0; place = 0; count = 0; regs = zeroRegisters }
 
 abbrev pub seatOf : Head → ℕ → Seat
-seatOf h w = getD (h .seats) w idleSeat
+seatOf h worker = getD (h .seats) worker idleSeat
 
 abbrev pub withSeat : Head → ℕ → Seat → Head
-withSeat h w s = record { workers = h .workers; calls = h .calls; cells = h .cells; first = h .first; seats = set (h .seats) w s }
+withSeat h worker s = record { workers = h .workers; calls = h .calls; cells = h .cells; «first_call» = h .«first_call»; seats = set (h .seats) worker s }
 
--- The words of call c in the plan.
+-- The words of a call in the plan.
 abbrev pub planWord : List ℕ → ℕ → ℕ → ℕ
-planWord plan c k = getD plan (planWords * c + k) 0
+planWord plan call k = getD plan (planWords * call + k) 0
 
 abbrev pub entriesOf : List ℕ → ℕ → ℕ → List ℕ
-entriesOf plan c n = take n (drop (planWords * c + 3) plan)
+entriesOf plan call n = take n (drop (planWords * call + firstEntry) plan)
 
 abbrev pub rowIn : List ℕ → ℕ → List ℕ
-rowIn plan c = take 4 (drop (planWords * c + 27) plan)
-
--- An entry's cell number and flags.
-abbrev pub entryCell : ℕ → ℕ
-entryCell e = e / 4
-
-abbrev pub entryReads : ℕ → Bool
-entryReads e = eqb (e % 2) 1
-
-abbrev pub entryWrites : ℕ → Bool
-entryWrites e = leb 2 (e % 4)
+rowIn plan call = take rowWords (drop (planWords * call + firstRowWord) plan)
 
 -- Whether cell n has this key.
 abbrev pub hasKey : List ℕ → ℕ → ℕ → Bool
-hasKey keys n k = eqb (getD keys (2 * n) 0) (highWord k) && eqb (getD keys (2 * n + 1) 0) (lowWord k)
+hasKey keys n k = eqb (getD keys (keyWords * n) 0) (highWord k) && eqb (getD keys (keyWords * n + 1) 0) (lowWord k)
 
--- "A call is waiting, running .. or finished": word 0 of its status; word 1 is its outcome, word 2 its count.
+-- "A call is waiting, running .. or finished": the first word of its status; the next are its outcome and its count.
 abbrev pub waiting : ℕ
 waiting = 0
 
@@ -99,19 +97,28 @@ running = 1
 abbrev pub finished : ℕ
 finished = 2
 
+abbrev pub stateWord : ℕ
+stateWord = 0
+
+abbrev pub outcomeWord : ℕ
+outcomeWord = 1
+
+abbrev pub countWord : ℕ
+countWord = 2
+
 abbrev pub statusWord : List ℕ → ℕ → ℕ → ℕ
-statusWord status c k = getD status (statusWords * c + k) 0
+statusWord status call k = getD status (statusWords * call + k) 0
 
 abbrev pub stateOf : List ℕ → ℕ → ℕ
-stateOf status c = statusWord status c 0
+stateOf status call = statusWord status call stateWord
 
 abbrev pub isState : ℕ → Bool
 isState s = leb s finished
 
 abbrev pub withState : List ℕ → ℕ → ℕ → List ℕ
-withState status c s = set status (statusWords * c) s
+withState status call s = set status (statusWords * call) s
 
 -- The receipt of a finished call: its outcome and its count.
 abbrev pub withReceipt : List ℕ → ℕ → ℕ → ℕ → List ℕ
-withReceipt status c outcome count =
-    set (set (withState status c finished) (statusWords * c + 1) outcome) (statusWords * c + 2) count
+withReceipt status call outcome count =
+    set (set (withState status call finished) (statusWords * call + outcomeWord) outcome) (statusWords * call + countWord) count

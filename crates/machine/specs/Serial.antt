@@ -1,4 +1,4 @@
--- "Serial run: calls 0, 1, .. each begun and stepped to its end." Assumes nothing.
+-- "Serial run: calls 0, 1, .. each begun and stepped to its end."
 use mathlib.Core.Bool.{Bool, true, false}
 use mathlib.Core.List.{List, [], _∷_}
 use Prim.Native.Nat.{ℕ, zero, suc, _+_, min}
@@ -14,30 +14,30 @@ abbrev pub maxSteps : ℕ
 maxSteps = maxCode + 2
 
 -- The serial run uses worker 0.
-abbrev pub isIdle : Run → Bool
-isIdle r = eqb (seatOf (r .head) 0 .call) 0
+abbrev pub isSerialIdle : Run → Bool
+isSerialIdle r = eqb (seatOf (r .head) 0 .call) 0
 
 -- Steps until the worker is free, `left` at most; and how many they are.
 unfoldable pub stepToEnd : ℕ → List ℕ → Run → Run
 stepToEnd zero block r = r
-stepToEnd (suc left) block r = elim (isIdle r) [ true ↦ r | false ↦ stepToEnd left block (stepOf block r 0 .run) ]
+stepToEnd (suc left) block r = elim (isSerialIdle r) [ true ↦ r | false ↦ stepToEnd left block (stepOf block r 0 .run) ]
 
 unfoldable pub stepsToEnd : ℕ → List ℕ → Run → ℕ
 stepsToEnd zero block r = 0
 stepsToEnd (suc left) block r =
-    elim (isIdle r) [ true ↦ 0 | false ↦ suc (stepsToEnd left block (stepOf block r 0 .run)) ]
+    elim (isSerialIdle r) [ true ↦ 0 | false ↦ suc (stepsToEnd left block (stepOf block r 0 .run)) ]
 
 abbrev pub runCall : List ℕ → Run → ℕ → Run
-runCall block r c = stepToEnd maxSteps block (beginOf r 0 c .run)
+runCall block r call = stepToEnd maxSteps block (beginOf r 0 call .run)
 
 unfoldable pub runCalls : List ℕ → Run → List ℕ → Run
 runCalls block r [] = r
-runCalls block r (c ∷ cs) = runCalls block (runCall block r c) cs
+runCalls block r (call ∷ cs) = runCalls block (runCall block r call) cs
 
 -- The calls of a list that pass a test.
 unfoldable pub chosen : (ℕ → Bool) → List ℕ → List ℕ
 chosen test [] = []
-chosen test (c ∷ cs) = if test c then c ∷ chosen test cs else chosen test cs
+chosen test (call ∷ cs) = if test call then call ∷ chosen test cs else chosen test cs
 
 abbrev pub allCalls : Run → List ℕ
 allCalls r = below (min (r .head .calls) maxCalls)
@@ -52,4 +52,4 @@ serialRunOf test block r = runCalls block r (chosen test (allCalls r))
 
 -- "the number of steps that the serial run takes for that call"
 abbrev pub serialSteps : List ℕ → Run → ℕ → ℕ
-serialSteps block r c = stepsToEnd maxSteps block (beginOf (runCalls block r (below c)) 0 c .run)
+serialSteps block r call = stepsToEnd maxSteps block (beginOf (runCalls block r (below call)) 0 call .run)

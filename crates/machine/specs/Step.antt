@@ -1,5 +1,5 @@
 -- "A call, step by step": one step of one call. It depends on the view of the call, its local state and the cells, and on nothing
--- else. Assumes nothing.
+-- else.
 use mathlib.Core.Bool.{Bool, true, _&&_, _||_, not}
 use mathlib.Core.List.{List, [], _∷_}
 use Prim.Native.Nat.{ℕ, _+_, _-_, _*_, _%_}
@@ -16,8 +16,10 @@ use Rattle.block.specs.declared.Call.{Call}
 use Rattle.block.specs.declared.Decoded.{Decoded}
 use Rattle.block.specs.declared.Decoded.the-variants.{Valid, Invalid}
 use Rattle.footprint.specs.Access.{Access, reading, accesses, entryAccesses}
-use Rattle.machine.specs.Run.{entryCell, entryReads, entryWrites, hasKey}
-use Rattle.machine.specs.Action.{ended, unknownFunction, thrown, instrAction, entryAction}
+use Rattle.machine.specs.Run.{hasKey}
+use Rattle.footprint.specs.Plan.{entryCell, entryReads, entryWrites, entryFlags}
+use Rattle.machine.specs.Action.{instrAction, entryAction}
+use Rattle.block.specs.Outcomes.{ended, unknownFunction, thrown}
 use Rattle.machine.specs.declared.Action.{Action}
 use Rattle.machine.specs.declared.Next.{Next}
 use Rattle.machine.specs.declared.Next.the-variants.{Go, End, Load, Store, Transfer}
@@ -69,7 +71,7 @@ cellAt cells n = getD cells n (pos 0)
 unfoldable pub entriesAllowed : List ℕ → Bool
 entriesAllowed [] = true
 entriesAllowed (e ∷ es) =
-    not (eqb (e % 4) 0) && (not (entryWrites e) || ltb (entryCell e) maxKeys) && entriesAllowed es
+    not (eqb (e % entryFlags) 0) && (not (entryWrites e) || ltb (entryCell e) maxKeys) && entriesAllowed es
 
 abbrev pub restorable : ℕ → List ℕ → Bool
 restorable count es = leb count maxCallKeys && entriesAllowed es

@@ -11,11 +11,11 @@ ghost use Rattle.machine.specs.Run.{largeEnough};
 // A call has STATUS_WORDS words of the status: its state, its outcome, its count, and one more.
 pub const STATUS_WORDS: usize = 4;
 
-pub const STATE: usize = 0;
+pub const STATE_WORD: usize = 0;
 
-pub const OUTCOME: usize = 1;
+pub const OUTCOME_WORD: usize = 1;
 
-pub const COUNT: usize = 2;
+pub const COUNT_WORD: usize = 2;
 
 // The states.
 pub const WAITING: u64 = 0;
@@ -33,15 +33,15 @@ pub const CELLS_SIZE: usize = MAX_KEYS;
 
 pub const STATUS_SIZE: usize = MAX_CALLS * STATUS_WORDS;
 
-pub const OLDS_SIZE: usize = MAX_WORKERS * MAX_CALL_KEYS;
+pub const SAVED_SIZE: usize = MAX_WORKERS * MAX_CALL_KEYS;
 
 // Whether buffers of these lengths are large enough. 20: "a lent buffer .. shorter than the fixed size"
-pub fn large_enough(plan: usize, keys: usize, cells: usize, status: usize, olds: usize) -> bool
-    ensures { λ r. ⌜ r ≡ largeEnough (record { plan = plan; keys = keys; cells = cells; status = status; olds = olds }) ⌝ }
+pub fn large_enough(plan: usize, keys: usize, cells: usize, status: usize, saved: usize) -> bool
+    ensures { λ r. ⌜ r ≡ largeEnough (record { plan = plan; keys = keys; cells = cells; status = status; saved = saved }) ⌝ }
 {
     (PLAN_SIZE <= plan)
         & (KEYS_SIZE <= keys)
         & (CELLS_SIZE <= cells)
         & (STATUS_SIZE <= status)
-        & (OLDS_SIZE <= olds)
+        & (SAVED_SIZE <= saved)
 }

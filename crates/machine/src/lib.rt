@@ -17,7 +17,7 @@ pub struct Head {
     pub workers: usize,
     pub calls: usize,
     pub cells: usize,
-    pub first: usize,
+    pub first_call: usize,
     pub seats: [Seat; 8],
 }
 

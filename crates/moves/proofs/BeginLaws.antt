@@ -1,4 +1,4 @@
--- The mathematics of the proofs of `begin`, over plain variables: the ways of BEGIN are those of its definition. Assumes nothing.
+-- The mathematics of the proofs of `begin`, over plain variables: the ways of BEGIN are those of its definition.
 use mathlib.Core.Path.{_≡_, refl, sym, _∙_}
 use mathlib.Core.Bool.{Bool, true, false, not}
 use mathlib.Core.List.{List}
@@ -13,13 +13,13 @@ use Rattle.wire.specs.Bytes.{stored}
 use Rattle.block.specs.Limits.{maxCalls, maxCallKeys}
 use Rattle.machine.specs.Run.{Run, entriesOf, largeEnough, rowIn, seatOf, sizesOf, stateOf, withSeat, zeroRegisters}
 use Rattle.machine.specs.Step.{restorable, savedOf}
-use Rattle.machine.specs.Moves.{Moved, stay, keysOf, earlierBroken, earlierFinished, beginCall, beginChecked, beginOf}
+use Rattle.machine.specs.Moves.{Moved, stay, callKeyCount, earlierBroken, earlierFinished, beginCall, beginChecked, beginOf}
 use Rattle.machine.specs.declared.Head.{Head}
 use Rattle.machine.specs.declared.Seat.{Seat}
 use Rattle.machine.specs.declared.Answer.{Answer}
 use Rattle.machine.specs.declared.Answer.the-variants.{Accepted, Damaged, NoCall, WorkerBusy, NotWaiting, EarlierUnfinished}
 use Rattle.moves.specs.Lent.{lent, moved}
-use Rattle.moves.specs.Tests.{behind, workerTested, headTested, earlierOf, FewKeys}
+use Rattle.moves.specs.Tests.{unlessRefused, workerTested, headTested, earlierOf, FewKeys}
 use Rattle.moves.specs.declared.Tested.{Tested}
 use Rattle.moves.specs.declared.Tested.the-variants.{Passed, Refused}
 use Rattle.moves.specs.declared.Earlier.{Earlier}
@@ -29,10 +29,10 @@ use Rattle.moves.proofs.HeldLaws.{worker-behind}
 -- ---- behind tests
 
 module _ (r : Run) (on : Moved) {t : Tested} {y : Moved} where
-  pub behind-stop : {a : Answer} → t ≡ Refused a → behind t (stay r) on ≡ y → stay r a ≡ y
+  pub behind-stop : {a : Answer} → t ≡ Refused a → unlessRefused t (stay r) on ≡ y → stay r a ≡ y
   behind-stop e h = rw e at h
 
-  pub behind-on : {x : Moved} → t ≡ Passed → behind t (stay r) on ≡ y → x ≡ on → x ≡ y
+  pub behind-on : {x : Moved} → t ≡ Passed → unlessRefused t (stay r) on ≡ y → x ≡ on → x ≡ y
   behind-on e h f = f ∙ (rw e at h)
 
 pub few-keys : {t : Tested} {n k : ℕ} → t ≡ Passed → FewKeys t k → n ≡ k → n ≤ maxCallKeys
@@ -68,7 +68,7 @@ module _ (calls busy c : ℕ) where
 
   -- BEGIN goes on behind these tests.
   head-behind : {A : Type 0} (stop : Answer → A) (on : A)
-      → behind (headTested calls busy c) stop on
+      → unlessRefused (headTested calls busy c) stop on
       ≡ (if ltb maxCalls calls
       then stop Damaged
       else if leb calls c
@@ -82,7 +82,7 @@ module _ (calls busy c : ℕ) where
   head-behind stop on = go (ltb maxCalls calls) (leb calls c) (ltb calls busy) (not (eqb busy 0))
     where
       go : (p q r s : Bool)
-          → behind (if p then Refused Damaged else if q then Refused NoCall else if r then Refused Damaged else if s then Refused WorkerBusy else Passed)
+          → unlessRefused (if p then Refused Damaged else if q then Refused NoCall else if r then Refused Damaged else if s then Refused WorkerBusy else Passed)
           stop on
           ≡ (if p then stop Damaged else if q then stop NoCall else if r then stop Damaged else if s then stop WorkerBusy else on)
       go true q r s = refl
@@ -106,26 +106,26 @@ module _ (calls busy c : ℕ) where
       go false true r s e = let z : _≡_ {A = ℕ} 0 1 = cc in absurd (omega arith)
       go false false r s e = (refl, refl)
 
-module _ (h : Head) (w c : ℕ) (plan keys status : List ℕ) (cells olds : List ℤ) {large : Bool} (sized : large ≡ largeEnough (sizesOf (lent h plan keys cells status olds)))
+module _ (h : Head) (w c : ℕ) (plan keys status : List ℕ) (cells saved : List ℤ) {large : Bool} (sized : large ≡ largeEnough (sizesOf (lent h plan keys cells status saved)))
     {t : Tested} (tested : t ≡ workerTested large (h .workers) w) where
   -- What is left behind the tests of the worker, from the number of calls and the seat's entry.
   abbrev behindWorker : Moved
   behindWorker =
-      behind (headTested (h .calls) (seatOf h w .call) c) (stay (lent h plan keys cells status olds)) (beginChecked (lent h plan keys cells status olds) w c)
+      unlessRefused (headTested (h .calls) (seatOf h w .call) c) (stay (lent h plan keys cells status saved)) (beginChecked (lent h plan keys cells status saved) w c)
 
-  begin-behind : behind t (stay (lent h plan keys cells status olds)) behindWorker ≡ beginOf (lent h plan keys cells status olds) w c
+  begin-behind : unlessRefused t (stay (lent h plan keys cells status saved)) behindWorker ≡ beginOf (lent h plan keys cells status saved) w c
   unfolding beginOf
   begin-behind =
       rw
-      (tested, sized, head-behind (h .calls) (seatOf h w .call) c (stay (lent h plan keys cells status olds)) (beginChecked (lent h plan keys cells status olds) w c))
+      (tested, sized, head-behind (h .calls) (seatOf h w .call) c (stay (lent h plan keys cells status saved)) (beginChecked (lent h plan keys cells status saved) w c))
       (worker-behind _ _ _ _ _)
 
-  pub begin-refused : {a : Answer} → t ≡ Refused a → stay (lent h plan keys cells status olds) a ≡ beginOf (lent h plan keys cells status olds) w c
+  pub begin-refused : {a : Answer} → t ≡ Refused a → stay (lent h plan keys cells status saved) a ≡ beginOf (lent h plan keys cells status saved) w c
   begin-refused e = rw e at begin-behind
 
   pub begin-seated : t ≡ Passed → {s : Seat} → s ≡ seatOf h w → {u : Tested} → u ≡ headTested (h .calls) (s .call) c
-      → behind u (stay (lent h plan keys cells status olds)) (beginChecked (lent h plan keys cells status olds) w c)
-      ≡ beginOf (lent h plan keys cells status olds) w c
+      → unlessRefused u (stay (lent h plan keys cells status saved)) (beginChecked (lent h plan keys cells status saved) w c)
+      ≡ beginOf (lent h plan keys cells status saved) w c
   begin-seated on seat told = rw (told, seat) (rw on at begin-behind)
 
 -- ---- what the plan and the states tell
@@ -147,46 +147,46 @@ on-earlier row status c x y z = go (earlierBroken row status c) (earlierFinished
     go false true = refl
     go false false = refl
 
-module _ (h : Head) (plan keys status : List ℕ) (cells olds : List ℤ) (w c : ℕ) {s : ℕ} (state : s ≡ stateOf status c) where
-  pub checked-broken : 2 < s → stay (lent h plan keys cells status olds) Damaged ≡ beginChecked (lent h plan keys cells status olds) w c
+module _ (h : Head) (plan keys status : List ℕ) (cells saved : List ℤ) (w c : ℕ) {s : ℕ} (state : s ≡ stateOf status c) where
+  pub checked-broken : 2 < s → stay (lent h plan keys cells status saved) Damaged ≡ beginChecked (lent h plan keys cells status saved) w c
   unfolding beginChecked
   checked-broken l = rw (← state, lt-leb s 2 l)
 
-  pub checked-begun : s ≤ 2 → (s ≡ 0 → ⊥) → stay (lent h plan keys cells status olds) NotWaiting ≡ beginChecked (lent h plan keys cells status olds) w c
+  pub checked-begun : s ≤ 2 → (s ≡ 0 → ⊥) → stay (lent h plan keys cells status saved) NotWaiting ≡ beginChecked (lent h plan keys cells status saved) w c
   unfolding beginChecked
   checked-begun l some = rw (← state, le-leb s 2 l, ne-eqb s 0 some)
 
   -- A waiting call: its earlier conflicting calls, and then its entries.
   module _ (l : s ≤ 2) (waits : s ≡ 0) {row : List ℕ} (is-row : row ≡ rowIn plan c) {e : Earlier} (is-earlier : e ≡ earlierOf row status c) where
-    waiting : onEarlier e (stay (lent h plan keys cells status olds) Damaged) (stay (lent h plan keys cells status olds) EarlierUnfinished)
-        (if not (restorable (keysOf plan c) (entriesOf plan c (keysOf plan c)))
-        then stay (lent h plan keys cells status olds) Damaged
-        else moved Accepted (beginCall (lent h plan keys cells status olds) w c))
-        ≡ beginChecked (lent h plan keys cells status olds) w c
+    waiting : onEarlier e (stay (lent h plan keys cells status saved) Damaged) (stay (lent h plan keys cells status saved) EarlierUnfinished)
+        (if not (restorable (callKeyCount plan c) (entriesOf plan c (callKeyCount plan c)))
+        then stay (lent h plan keys cells status saved) Damaged
+        else moved Accepted (beginCall (lent h plan keys cells status saved) w c))
+        ≡ beginChecked (lent h plan keys cells status saved) w c
     unfolding beginChecked
     waiting = rw (← state, le-leb s 2 l, eq-eqb s 0 waits, is-earlier, is-row) (on-earlier _ _ _ _ _ _)
 
-    pub waiting-broken : e ≡ Broken → stay (lent h plan keys cells status olds) Damaged ≡ beginChecked (lent h plan keys cells status olds) w c
+    pub waiting-broken : e ≡ Broken → stay (lent h plan keys cells status saved) Damaged ≡ beginChecked (lent h plan keys cells status saved) w c
     waiting-broken f = rw f at waiting
 
-    pub waiting-unfinished : e ≡ Unfinished → stay (lent h plan keys cells status olds) EarlierUnfinished ≡ beginChecked (lent h plan keys cells status olds) w c
+    pub waiting-unfinished : e ≡ Unfinished → stay (lent h plan keys cells status saved) EarlierUnfinished ≡ beginChecked (lent h plan keys cells status saved) w c
     waiting-unfinished f = rw f at waiting
 
-    module _ (f : e ≡ Finished) {n : ℕ} (count : n ≡ keysOf plan c) where
-      pub waiting-damaged : false ≡ restorable n (entriesOf plan c n) → stay (lent h plan keys cells status olds) Damaged ≡ beginChecked (lent h plan keys cells status olds) w c
+    module _ (f : e ≡ Finished) {n : ℕ} (count : n ≡ callKeyCount plan c) where
+      pub waiting-damaged : false ≡ restorable n (entriesOf plan c n) → stay (lent h plan keys cells status saved) Damaged ≡ beginChecked (lent h plan keys cells status saved) w c
       waiting-damaged r = rw (f, ← count, ← r) at waiting
 
       pub waiting-good : true ≡ restorable n (entriesOf plan c n)
-          → moved Accepted (beginCall (lent h plan keys cells status olds) w c) ≡ beginChecked (lent h plan keys cells status olds) w c
+          → moved Accepted (beginCall (lent h plan keys cells status saved) w c) ≡ beginChecked (lent h plan keys cells status saved) w c
       waiting-good r = rw (f, ← count, ← r) at waiting
 
 -- ---- the change
 
-pub begun : (h : Head) (plan keys status : List ℕ) (cells olds : List ℤ) (w c : ℕ) {n : ℕ} → n ≡ keysOf plan c
-    → {status′ : List ℕ} {olds′ : List ℤ}
-    → olds′ ≡ stored olds (maxCallKeys * w) (savedOf (entriesOf plan c n) cells)
+pub begin-done : (h : Head) (plan keys status : List ℕ) (cells saved : List ℤ) (w c : ℕ) {n : ℕ} → n ≡ callKeyCount plan c
+    → {status′ : List ℕ} {saved′ : List ℤ}
+    → saved′ ≡ stored saved (maxCallKeys * w) (savedOf (entriesOf plan c n) cells)
     → status′ ≡ set status (4 * c) 1
-    → moved Accepted (lent (withSeat h w (record { call = c + 1; place = 0; count = 0; regs = zeroRegisters })) plan keys cells status′ olds′)
-    ≡ moved Accepted (beginCall (lent h plan keys cells status olds) w c)
+    → moved Accepted (lent (withSeat h w (record { call = c + 1; place = 0; count = 0; regs = zeroRegisters })) plan keys cells status′ saved′)
+    ≡ moved Accepted (beginCall (lent h plan keys cells status saved) w c)
 unfolding beginCall
-begun h plan keys status cells olds w c count e f = rw (e, f, count)
+begin-done h plan keys status cells saved w c count e f = rw (e, f, count)

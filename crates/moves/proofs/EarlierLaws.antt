@@ -1,4 +1,4 @@
--- The mathematics of the walk over a call's earlier conflicting calls, over plain variables. Assumes nothing.
+-- The mathematics of the walk over a call's earlier conflicting calls, over plain variables.
 use mathlib.Core.Path.{_≡_, refl, sym, ap, _∙_}
 use mathlib.Core.Bool.{Bool, true, false, _&&_, _||_, not, or-true}
 use mathlib.Core.List.{List, [], _∷_}
@@ -13,7 +13,7 @@ use lib.Seq.{getD-take, getD-drop, ext-getD}
 use Rattle.arith.specs.Choice.{if_then_else_}
 use Rattle.wire.specs.Rows.{inRow}
 use Rattle.wire.specs.RowOps.{nextBit}
-use Rattle.wire.specs.NextLaws.{next-ge, next-hit, next-least}
+use Rattle.wire.proofs.NextLaws.{next-ge, next-hit, next-least}
 use Rattle.machine.specs.Run.{stateOf, finished}
 use Rattle.machine.specs.Moves.{earlierBroken, earlierFinished}
 use Rattle.moves.specs.Tests.{earlierOf}

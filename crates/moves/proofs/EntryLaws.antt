@@ -1,4 +1,4 @@
--- The mathematics of the proofs of `entries`, over plain variables: one entry's tests, and the loops over a call's entries. Assumes nothing.
+-- The mathematics of the proofs of `entries`, over plain variables: one entry's tests, and the loops over a call's entries.
 use mathlib.Core.Path.{_≡_, sym, _∙_}
 use mathlib.Core.Bool.{Bool, true, false, _&&_, _||_, not, and-false}
 use mathlib.Core.List.{List, [], _∷_}
@@ -14,7 +14,7 @@ use lib.Seq.{drop-cons, getD-take, getD-drop}
 use Rattle.arith.specs.Choice.{if_then_else_}
 use Rattle.wire.specs.Bytes.{stored}
 use Rattle.block.specs.Limits.{maxCallKeys, maxKeys}
-use Rattle.machine.specs.Run.{entryCell, entryWrites}
+use Rattle.footprint.specs.Plan.{entryCell, entryWrites}
 use Rattle.machine.specs.Step.{cellAt, entriesAllowed, restorable, savedOf, restored}
 use Rattle.moves.proofs.HeldLaws.{and-left}
 
@@ -76,28 +76,28 @@ module _ (plan : List ℕ) (at n : ℕ) (fits : at + n ≤ length plan) where
 
   -- A turn of keeping stores the next entry's value; at the end all are kept.
   module _ (cells : List ℤ) where
-    pub save-turn : (base k : ℕ) → k < n → (olds more : List ℤ) (old : ℤ)
+    pub save-turn : (base k : ℕ) → k < n → (saved more : List ℤ) (old : ℤ)
         → old ≡ (if entryWrites (getD plan (at + k) 0) then cellAt cells (entryCell (getD plan (at + k) 0)) else pos 0)
-        → more ≡ set olds (base + k) old
-        → stored olds (base + k) (savedOf (entriesFrom k) cells) ≡ stored more (base + (k + 1)) (savedOf (entriesFrom (k + 1)) cells)
+        → more ≡ set saved (base + k) old
+        → stored saved (base + k) (savedOf (entriesFrom k) cells) ≡ stored more (base + (k + 1)) (savedOf (entriesFrom (k + 1)) cells)
     unfolding stored savedOf
-    save-turn base k l olds more old e f = rw (part-some plan at n fits 0 k l, f, e, ← add-assoc base k 1)
+    save-turn base k l saved more old e f = rw (part-some plan at n fits 0 k l, f, e, ← add-assoc base k 1)
 
-    pub save-end : (base k : ℕ) → n ≤ k → (olds : List ℤ) → stored olds (base + k) (savedOf (entriesFrom k) cells) ≡ olds
+    pub save-end : (base k : ℕ) → n ≤ k → (saved : List ℤ) → stored saved (base + k) (savedOf (entriesFrom k) cells) ≡ saved
     unfolding stored savedOf
-    save-end base k l olds = rw (part-none plan at n fits k l)
+    save-end base k l saved = rw (part-none plan at n fits k l)
 
   -- A turn of restoring takes the next entry with its old value; at the end all are restored.
-  module _ (olds : List ℤ) (base : ℕ) (kept : base + n ≤ length olds) where
-    abbrev oldsFrom : ℕ → List ℤ
-    oldsFrom k = drop k (take n (drop base olds))
+  module _ (saved : List ℤ) (base : ℕ) (kept : base + n ≤ length saved) where
+    abbrev savedFrom : ℕ → List ℤ
+    savedFrom k = drop k (take n (drop base saved))
 
-    pub restore-turn : (k : ℕ) → k < n → (cells more : List ℤ) (old : ℤ) → old ≡ getD olds (base + k) (pos 0)
+    pub restore-turn : (k : ℕ) → k < n → (cells more : List ℤ) (old : ℤ) → old ≡ getD saved (base + k) (pos 0)
         → more ≡ (if entryWrites (getD plan (at + k) 0) then set cells (entryCell (getD plan (at + k) 0)) old else cells)
-        → restored (entriesFrom k) (oldsFrom k) cells ≡ restored (entriesFrom (k + 1)) (oldsFrom (k + 1)) more
+        → restored (entriesFrom k) (savedFrom k) cells ≡ restored (entriesFrom (k + 1)) (savedFrom (k + 1)) more
     unfolding restored
-    restore-turn k l cells more old e f = rw (part-some plan at n fits 0 k l, part-some olds base n kept (pos 0) k l, f, e)
+    restore-turn k l cells more old e f = rw (part-some plan at n fits 0 k l, part-some saved base n kept (pos 0) k l, f, e)
 
-    pub restore-end : (k : ℕ) → n ≤ k → (cells : List ℤ) → restored (entriesFrom k) (oldsFrom k) cells ≡ cells
+    pub restore-end : (k : ℕ) → n ≤ k → (cells : List ℤ) → restored (entriesFrom k) (savedFrom k) cells ≡ cells
     unfolding restored
     restore-end k l cells = rw (part-none plan at n fits k l)

@@ -1,4 +1,4 @@
--- The mathematics of the proofs of `held`, over plain variables: the sizes, the first tests of every move, and the held call. Assumes nothing.
+-- The mathematics of the proofs of `held`, over plain variables: the sizes, the first tests of every move, and the held call.
 use mathlib.Core.Path.{_≡_, refl, sym, ap, _∙_}
 use mathlib.Core.Bool.{Bool, true, false, _&&_, _||_, not}
 use mathlib.Core.List.{List, [], _∷_}
@@ -20,7 +20,7 @@ use Rattle.machine.specs.declared.Seat.{Seat}
 use Rattle.machine.specs.declared.Answer.{Answer}
 use Rattle.machine.specs.declared.Answer.the-variants.{Damaged, NoWorker, WorkerIdle}
 use Rattle.moves.specs.Lent.{lent, moved}
-use Rattle.moves.specs.Tests.{behind, workerTested}
+use Rattle.moves.specs.Tests.{unlessRefused, workerTested}
 use Rattle.moves.specs.HeldCall.{asHeld, heldFrom, HeldInRun}
 use Rattle.moves.specs.declared.Holding.{Holding}
 use Rattle.moves.specs.declared.Holding.the-variants.{Answered, Holds}
@@ -52,9 +52,9 @@ module _ (s : Sizes) (large : true ≡ largeEnough s) where
   unfolding largeEnough roomEnough
   large-plan = leb-true _ _ (sym (and-left _ _ (and-left _ _ (and-left _ _ (and-left _ _ large)))))
 
-  pub large-olds : fixedSizes .olds ≤ s .olds
+  pub large-saved : fixedSizes .saved ≤ s .saved
   unfolding largeEnough
-  large-olds =
+  large-saved =
       leb-true _ _
       (sym (and-right (roomEnough (roomIn s) && leb (fixedSizes .status) (s .status)) _ large))
 
@@ -73,26 +73,26 @@ seat-read h w d long l = getD-inside (h .seats) w d idleSeat (omega arith)
 -- A seat that is put back where it was leaves the head, and so the run.
 seat-same : (h : Head) (w : ℕ) → withSeat h w (seatOf h w) ≡ h
 seat-same h w =
-    ap (λ (l : List Seat). record { workers = h .workers; calls = h .calls; cells = h .cells; first = h .first; seats = l })
+    ap (λ (l : List Seat). record { workers = h .workers; calls = h .calls; cells = h .cells; «first_call» = h .«first_call»; seats = l })
     (set-getD (h .seats) w idleSeat)
 
-pub seat-kept : (h : Head) (w : ℕ) (plan keys status : List ℕ) (cells olds : List ℤ) {s : Seat} {a : Answer} {m : Moved} → s ≡ seatOf h w
-    → stay (lent h plan keys cells status olds) a ≡ m → moved a (lent (withSeat h w s) plan keys cells status olds) ≡ m
-seat-kept h w plan keys status cells olds {s} {a} e f =
+pub seat-kept : (h : Head) (w : ℕ) (plan keys status : List ℕ) (cells saved : List ℤ) {s : Seat} {a : Answer} {m : Moved} → s ≡ seatOf h w
+    → stay (lent h plan keys cells status saved) a ≡ m → moved a (lent (withSeat h w s) plan keys cells status saved) ≡ m
+seat-kept h w plan keys status cells saved {s} {a} e f =
     let same : withSeat h w s ≡ h = ap (withSeat h w) e ∙ seat-same h w in
-    ap (λ (g : Head). moved a (lent g plan keys cells status olds)) same ∙ f
+    ap (λ (g : Head). moved a (lent g plan keys cells status saved)) same ∙ f
 
 -- ---- the worker
 
 module _ (large : Bool) (n w : ℕ) where
   -- A move that starts with these tests goes on behind them.
   pub worker-behind : {A : Type 0} (stop : Answer → A) (on : A)
-      → behind (workerTested large n w) stop on
+      → unlessRefused (workerTested large n w) stop on
       ≡ (if not large || eqb n 0 || ltb maxWorkers n then stop Damaged else if leb n w then stop NoWorker else on)
   unfolding workerTested
   worker-behind stop on = go (not large || eqb n 0 || ltb maxWorkers n) (leb n w)
     where
-      go : (a b : Bool) → behind (if a then Refused Damaged else if b then Refused NoWorker else Passed) stop on ≡ (if a then stop Damaged else if b then stop NoWorker else on)
+      go : (a b : Bool) → unlessRefused (if a then Refused Damaged else if b then Refused NoWorker else Passed) stop on ≡ (if a then stop Damaged else if b then stop NoWorker else on)
       go true b = refl
       go false true = refl
       go false false = refl
@@ -159,21 +159,21 @@ pub held-known : {c : ℕ} {k : Holding} → k ≡ Holds c → HeldInRun k → c
 held-known e h = rw e at h
 
 -- The tests of the worker, and behind them its seat, decide what is held.
-module _ (h : Head) (w : ℕ) (plan keys status : List ℕ) (cells olds : List ℤ) {large : Bool} (sized : large ≡ largeEnough (sizesOf (lent h plan keys cells status olds)))
+module _ (h : Head) (w : ℕ) (plan keys status : List ℕ) (cells saved : List ℤ) {large : Bool} (sized : large ≡ largeEnough (sizesOf (lent h plan keys cells status saved)))
     {t : Tested} (tested : t ≡ workerTested large (h .workers) w) where
-  held-behind : behind t answered (heldFrom (h .calls) (seatOf h w .call)) ≡ heldBy (lent h plan keys cells status olds) w
+  held-behind : unlessRefused t answered (heldFrom (h .calls) (seatOf h w .call)) ≡ heldBy (lent h plan keys cells status saved) w
   unfolding heldBy
   held-behind = rw (tested, sized) (worker-behind _ _ _ _ _)
 
-  pub held-refused : {a : Answer} → t ≡ Refused a → answered a ≡ heldBy (lent h plan keys cells status olds) w
+  pub held-refused : {a : Answer} → t ≡ Refused a → answered a ≡ heldBy (lent h plan keys cells status saved) w
   held-refused e = rw e at held-behind
 
   module _ (on : t ≡ Passed) {s : Seat} (seat : s ≡ seatOf h w) (k : Holding) (found : asHeld k ≡ heldFrom (h .calls) (s .call)) where
-    held-on : asHeld k ≡ heldBy (lent h plan keys cells status olds) w
+    held-on : asHeld k ≡ heldBy (lent h plan keys cells status saved) w
     held-on = found ∙ (rw seat (rw on at held-behind))
 
-    pub held-answered : {a : Answer} → k ≡ Answered a → answered a ≡ heldBy (lent h plan keys cells status olds) w
+    pub held-answered : {a : Answer} → k ≡ Answered a → answered a ≡ heldBy (lent h plan keys cells status saved) w
     held-answered e = ap asHeld (sym e) ∙ held-on
 
-    pub held-call : {c : ℕ} → k ≡ Holds c → holds c ≡ heldBy (lent h plan keys cells status olds) w
+    pub held-call : {c : ℕ} → k ≡ Holds c → holds c ≡ heldBy (lent h plan keys cells status saved) w
     held-call e = ap asHeld (sym e) ∙ held-on

@@ -1,10 +1,11 @@
-mod BeginLaws
-mod CancelLaws
-mod EarlierLaws
-mod EntryLaws
+-- The mathematics of the code, in the order of a move: the first tests, the entries, BEGIN; the lookup, an action, a step; CANCEL.
 mod HeldLaws
-mod LookupLaws
+mod EntryLaws
+mod EarlierLaws
+mod BeginLaws
+mod LookupCodeLaws
+mod ViewCodeLaws
 mod PerformLaws
-mod RunLaws
-mod StepLaws
-mod ViewLaws
+mod StepCodeLaws
+mod LentRunLaws
+mod CancelLaws

@@ -1,4 +1,4 @@
--- The mathematics of the proofs of `perform`, over plain variables: the ends of a step, and for each action the tests that lead to an end. Assumes nothing.
+-- The mathematics of the proofs of `perform`, over plain variables: the ends of a step, and for each action the tests that lead to an end.
 use mathlib.Core.Path.{_≡_, refl, sym, ap, _∙_}
 use mathlib.Core.Bool.{Bool, true, false, _&&_, not, and-false}
 use mathlib.Core.List.{List, []}
@@ -12,34 +12,34 @@ use lib.Signed.{ltZ, leZ, nonNeg}
 use mir.Syntax.{w64}
 use mir.Val.{SFits}
 use Rattle.arith.specs.Balance.{largest}
-use Rattle.arith.specs.Laws.{sum, diff, ltZ-true, ltZ-false, nonNeg-true, le-leZ, lt-leZ, sfits-parts, parts-sfits}
-use Rattle.arith.proofs.Laws.{read, back, read-fits, diff-fits}
+use Rattle.arith.proofs.IntegerLaws.{sum, diff, ltZ-true, ltZ-false, nonNeg-true, le-leZ, lt-leZ, sfits-parts, parts-sfits}
+use Rattle.arith.proofs.Laws.{read, read-back, read-fits, diff-fits}
 use Rattle.block.specs.Key.{isBalance}
 use Rattle.block.proofs.Laws.{negative, not-negative}
 use Rattle.footprint.specs.Access.{Access}
 use Rattle.footprint.specs.declared.KeyUse.{KeyUse}
 use Rattle.footprint.specs.declared.Uses.{Uses}
 use Rattle.machine.specs.Step.{View, Local, Stepped, damaged, done, cellAt, restorable, restored, finish, loadCell, storeCell, depositCell, transferCells, perform, lookup}
-use Rattle.machine.specs.Action.{thrown}
+use Rattle.block.specs.Outcomes.{thrown}
 use Rattle.machine.specs.declared.Next.{Next}
 use Rattle.machine.specs.declared.Next.the-variants.{Go, End, Load, Store, Transfer}
 use Rattle.machine.specs.declared.Lookup.{Lookup}
 use Rattle.machine.specs.declared.Lookup.the-variants.{Cell, NoCell}
-use Rattle.moves.specs.Turn.{Stands, accessOf, accessesOf, broken, cellView, going, localAt, lookupIn, over, turned, Payable, Worded}
+use Rattle.moves.specs.Turn.{StandsForStep, accessOf, accessesOf, brokenTurn, cellView, going, actionLocal, lookupIn, over, turned, Payable, KeyWorded}
 use Rattle.moves.specs.declared.Turn.{Turn}
 
 -- ---- the ends of a step
 
-pub stays : {t : Turn} (cells : List ℤ) {s : Stepped} → t ≡ broken → s ≡ damaged → Stands t cells cells s
+pub stays : {t : Turn} (cells : List ℤ) {s : Stepped} → t ≡ brokenTurn → s ≡ damaged → StandsForStep t cells cells s
 stays cells e f = rw (e, f)
 
 pub ends : {t : Turn} (before : List ℤ) {after : List ℤ} {s : Stepped} {outcome count : ℕ} {left : List ℤ} → t ≡ over outcome count → after ≡ left
-    → s ≡ done outcome count left → Stands t after before s
+    → s ≡ done outcome count left → StandsForStep t after before s
 ends before e f g = rw (e, f, g)
 
 -- ---- a key's field
 
-pub balance-words : (u : KeyUse) → Worded u → eqb (u .high / 2 ^ 32 % 2 ^ 16) 0 ≡ isBalance (accessOf u .key)
+pub balance-words : (u : KeyUse) → KeyWorded u → eqb (u .high / 2 ^ 32 % 2 ^ 16) 0 ≡ isBalance (accessOf u .key)
 balance-words u h =
     let field : u .high / 2 ^ 32 % 2 ^ 16 ≡ (u .high * 2 ^ 32 + u .low) / 2 ^ 64 % 2 ^ 16 = omega arith in
     ap (λ (n : ℕ). eqb n 0) field
@@ -64,13 +64,13 @@ module _ (v : View) (l : Local) (count outcome : ℕ) (cells : List ℤ) where
 
 module _ {z : ℤ} (f : SFits w64 z) where
   pub read-below : ltZ (read z) (pos 0) ≡ true → nonNeg z ≡ false
-  read-below e = negative z (sym (ap (λ (x : ℤ). ltZ x (pos 0)) (back f)) ∙ e)
+  read-below e = negative z (sym (ap (λ (x : ℤ). ltZ x (pos 0)) (read-back f)) ∙ e)
 
   pub read-above : ltZ (read z) (pos 0) ≡ false → nonNeg z ≡ true
-  read-above e = not-negative z (sym (ap (λ (x : ℤ). ltZ x (pos 0)) (back f)) ∙ e)
+  read-above e = not-negative z (sym (ap (λ (x : ℤ). ltZ x (pos 0)) (read-back f)) ∙ e)
 
   pub read-less : {y : ℤ} {b : Bool} → SFits w64 y → ltZ (read z) (read y) ≡ b → ltZ z y ≡ b
-  read-less {y} g e = sym (ap (λ (x : ℤ). ltZ x (read y)) (back f) ∙ ap (ltZ z) (back g)) ∙ e
+  read-less {y} g e = sym (ap (λ (x : ℤ). ltZ x (read y)) (read-back f) ∙ ap (ltZ z) (read-back g)) ∙ e
 
 -- The test of a loaded balance, as the machine makes it.
 sign : (z : ℤ) → ltZ z (pos 0) ≡ not (nonNeg z)
@@ -79,37 +79,37 @@ sign (negsuc n) = refl
 
 sign-test : (v : ℤ) → SFits w64 v → {balance whole : Bool} {b : Bool} → balance ≡ whole → (balance && ltZ (read v) (pos 0)) ≡ b → (whole && not (nonNeg v)) ≡ b
 sign-test v f {balance} {whole} e h =
-    let read-sign : ltZ (read v) (pos 0) ≡ not (nonNeg v) = ap (λ (x : ℤ). ltZ x (pos 0)) (back f) ∙ sign v in rw (← e, ← read-sign) h
+    let read-sign : ltZ (read v) (pos 0) ≡ not (nonNeg v) = ap (λ (x : ℤ). ltZ x (pos 0)) (read-back f) ∙ sign v in rw (← e, ← read-sign) h
 
 -- ---- a load and a store
 
 module _ (place count : ℕ) (regs : List ℤ) (x : ℕ) (a : Access) (cells : List ℤ) {found : Lookup} {t : Turn} where
-  pub load-nowhere : found ≡ NoCell → t ≡ broken → (saved : List ℤ)
-      → Stands t cells cells (loadCell (localAt place saved) count regs x a cells found)
+  pub load-nowhere : found ≡ NoCell → t ≡ brokenTurn → (saved : List ℤ)
+      → StandsForStep t cells cells (loadCell (actionLocal place saved) count regs x a cells found)
   unfolding loadCell
   load-nowhere e f saved = rw (e, f)
 
   module _ (v : ℤ) (fits : SFits w64 v) {n : ℕ} {balance : Bool} (here : found ≡ Cell n) (at : v ≡ cellAt cells n) (known : balance ≡ isBalance (a .key)) where
-    pub load-damaged : (balance && ltZ (read v) (pos 0)) ≡ true → t ≡ broken → (saved : List ℤ)
-        → Stands t cells cells (loadCell (localAt place saved) count regs x a cells found)
+    pub load-damaged : (balance && ltZ (read v) (pos 0)) ≡ true → t ≡ brokenTurn → (saved : List ℤ)
+        → StandsForStep t cells cells (loadCell (actionLocal place saved) count regs x a cells found)
     unfolding loadCell
     load-damaged e f saved = rw (f, here, ← at, sign-test v fits known e)
 
     pub load-done : (balance && ltZ (read v) (pos 0)) ≡ false → {loaded : List ℤ} → loaded ≡ set regs x (read v) → t ≡ going (place + 1) count loaded → (saved : List ℤ)
-        → Stands t cells cells (loadCell (localAt place saved) count regs x a cells found)
+        → StandsForStep t cells cells (loadCell (actionLocal place saved) count regs x a cells found)
     unfolding loadCell
-    load-done e l f saved = rw (f, l, back fits, here, ← at, sign-test v fits known e)
+    load-done e l f saved = rw (f, l, read-back fits, here, ← at, sign-test v fits known e)
 
 module _ (place count : ℕ) (regs : List ℤ) (value : ℤ) (cells : List ℤ) {found : Lookup} {t : Turn} where
-  pub store-nowhere : found ≡ NoCell → t ≡ broken → (saved : List ℤ)
-      → Stands t cells cells (storeCell (localAt place saved) count regs value cells found)
+  pub store-nowhere : found ≡ NoCell → t ≡ brokenTurn → (saved : List ℤ)
+      → StandsForStep t cells cells (storeCell (actionLocal place saved) count regs value cells found)
   unfolding storeCell
   store-nowhere e f saved = rw (e, f)
 
   pub store-done : SFits w64 value → {n : ℕ} {after : List ℤ} → found ≡ Cell n → after ≡ set cells n (read value) → t ≡ going (place + 1) count regs → (saved : List ℤ)
-      → Stands t after cells (storeCell (localAt place saved) count regs value cells found)
+      → StandsForStep t after cells (storeCell (actionLocal place saved) count regs value cells found)
   unfolding storeCell
-  store-done fits e a f saved = rw (e, a, f, back fits)
+  store-done fits e a f saved = rw (e, a, f, read-back fits)
 
 -- ---- the second half of a transfer
 
@@ -123,7 +123,7 @@ module _ {there : ℤ} (f : SFits w64 there) (above : ltZ (read there) (pos 0) �
 
   module _ {amount : ℤ} (g : SFits w64 amount) where
     room-test : {b : Bool} → ltZ (read (largest -ℤ read there)) (read amount) ≡ b → ltZ (largest -ℤ there) amount ≡ b
-    room-test e = ap (λ (x : ℤ). ltZ (largest -ℤ x) amount) (sym (back f)) ∙ read-less room-fits g e
+    room-test e = ap (λ (x : ℤ). ltZ (largest -ℤ x) amount) (sym (read-back f)) ∙ read-less room-fits g e
 
     no-room : ltZ (read (largest -ℤ read there)) (read amount) ≡ true → leZ (there +ℤ amount) largest ≡ false
     no-room e =
@@ -142,7 +142,7 @@ module _ {there : ℤ} (f : SFits w64 there) (above : ltZ (read there) (pos 0) �
 
     -- The sum fits where there is room for it.
     pub into-fits : nonNeg amount ≡ true → ltZ (read (largest -ℤ read there)) (read amount) ≡ false → SFits w64 (read there +ℤ read amount)
-    into-fits nonneg e = rw (back f, back g) (sum-fits nonneg e)
+    into-fits nonneg e = rw (read-back f, read-back g) (sum-fits nonneg e)
 
 rest-fits : {held amount : ℤ} → SFits w64 held → SFits w64 amount → nonNeg amount ≡ true → ltZ held amount ≡ false → SFits w64 (held -ℤ amount)
 rest-fits {held} {amount} f g nonneg e =
@@ -150,78 +150,78 @@ rest-fits {held} {amount} f g nonneg e =
 
 -- What is left of a value that holds the amount fits.
 pub from-fits : {held amount : ℤ} → SFits w64 held → SFits w64 amount → nonNeg amount ≡ true → ltZ held amount ≡ false → SFits w64 (read held -ℤ read amount)
-from-fits f g nonneg e = rw (back f, back g) (rest-fits f g nonneg e)
+from-fits f g nonneg e = rw (read-back f, read-back g) (rest-fits f g nonneg e)
 
 module _ (place count : ℕ) (regs : List ℤ) {amount : ℤ} (g : SFits w64 amount) (n m : ℕ) (cells : List ℤ) {there : ℤ} (f : SFits w64 there) (at : there ≡ cellAt cells m) {t : Turn} where
-  pub deposit-below : ltZ (read there) (pos 0) ≡ true → t ≡ broken → (saved : List ℤ)
-      → Stands t cells cells (depositCell (localAt place saved) count regs amount n cells (Cell m))
+  pub deposit-below : ltZ (read there) (pos 0) ≡ true → t ≡ brokenTurn → (saved : List ℤ)
+      → StandsForStep t cells cells (depositCell (actionLocal place saved) count regs amount n cells (Cell m))
   unfolding depositCell
   deposit-below e b saved = rw (b, ← at, read-below f e)
 
-  pub deposit-full : ltZ (read there) (pos 0) ≡ false → ltZ (read (largest -ℤ read there)) (read amount) ≡ true → t ≡ broken → (saved : List ℤ)
-      → Stands t cells cells (depositCell (localAt place saved) count regs amount n cells (Cell m))
+  pub deposit-full : ltZ (read there) (pos 0) ≡ false → ltZ (read (largest -ℤ read there)) (read amount) ≡ true → t ≡ brokenTurn → (saved : List ℤ)
+      → StandsForStep t cells cells (depositCell (actionLocal place saved) count regs amount n cells (Cell m))
   unfolding depositCell
   deposit-full e r b saved = rw (b, ← at, no-room f e g r, and-false (nonNeg there))
 
   pub deposit-done : ltZ (read there) (pos 0) ≡ false → ltZ (read (largest -ℤ read there)) (read amount) ≡ false → nonNeg amount ≡ true
       → {held : ℤ} → SFits w64 held → held ≡ cellAt cells n → ltZ held amount ≡ false → {mid after : List ℤ}
       → mid ≡ set cells n (read (read held -ℤ read amount)) → after ≡ set mid m (read (read there +ℤ read amount)) → t ≡ going (place + 1) count regs → (saved : List ℤ)
-      → Stands t after cells (depositCell (localAt place saved) count regs amount n cells (Cell m))
+      → StandsForStep t after cells (depositCell (actionLocal place saved) count regs amount n cells (Cell m))
   unfolding depositCell
   deposit-done e r nonneg {held} h from holds p q b saved =
-      let paid : read (read held -ℤ read amount) ≡ held -ℤ amount = back (from-fits h g nonneg holds) ∙ rw (back h, back g) in
-      let taken : read (read there +ℤ read amount) ≡ there +ℤ amount = back (into-fits f e g nonneg r) ∙ rw (back f, back g) in
+      let paid : read (read held -ℤ read amount) ≡ held -ℤ amount = read-back (from-fits h g nonneg holds) ∙ rw (read-back h, read-back g) in
+      let taken : read (read there +ℤ read amount) ≡ there +ℤ amount = read-back (into-fits f e g nonneg r) ∙ rw (read-back f, read-back g) in
       rw (b, q, p, paid, taken, ← at, ← from, read-above f e, has-room f e g r)
 
 -- ---- the whole of a transfer
 
-pub deposit-nowhere : (place count : ℕ) (regs : List ℤ) (amount : ℤ) (n : ℕ) (cells : List ℤ) {found : Lookup} {t : Turn} → found ≡ NoCell → t ≡ broken → (saved : List ℤ)
-    → Stands t cells cells (depositCell (localAt place saved) count regs amount n cells found)
+pub deposit-nowhere : (place count : ℕ) (regs : List ℤ) (amount : ℤ) (n : ℕ) (cells : List ℤ) {found : Lookup} {t : Turn} → found ≡ NoCell → t ≡ brokenTurn → (saved : List ℤ)
+    → StandsForStep t cells cells (depositCell (actionLocal place saved) count regs amount n cells found)
 unfolding depositCell
 deposit-nowhere place count regs amount n cells e f saved = rw (e, f)
 
 pub deposit-found : (place count : ℕ) (regs : List ℤ) {amount : ℤ} → SFits w64 amount → (n : ℕ) (cells : List ℤ) {found : Lookup} (m : ℕ) {t : Turn} {after : List ℤ} → found ≡ Cell m
-    → ((saved : List ℤ) → Stands t after cells (depositCell (localAt place saved) count regs (read amount) n cells (Cell m)))
-    → (saved : List ℤ) → Stands t after cells (depositCell (localAt place saved) count regs amount n cells found)
+    → ((saved : List ℤ) → StandsForStep t after cells (depositCell (actionLocal place saved) count regs (read amount) n cells (Cell m)))
+    → (saved : List ℤ) → StandsForStep t after cells (depositCell (actionLocal place saved) count regs amount n cells found)
 deposit-found place count regs {amount} g n cells m e p saved =
-    p saved ∙ ap (λ (x : ℤ). turned cells (depositCell (localAt place saved) count regs x n cells (Cell m))) (back g)
-    ∙ sym (ap (λ (x : Lookup). turned cells (depositCell (localAt place saved) count regs amount n cells x)) e)
+    p saved ∙ ap (λ (x : ℤ). turned cells (depositCell (actionLocal place saved) count regs x n cells (Cell m))) (read-back g)
+    ∙ sym (ap (λ (x : Lookup). turned cells (depositCell (actionLocal place saved) count regs amount n cells x)) e)
 
 module _ (plan keys : List ℕ) (c place : ℕ) (saved : List ℤ) (count : ℕ) (regs : List ℤ) {amount : ℤ} (g : SFits w64 amount) (short : ℕ) (to : Access) (cells : List ℤ) where
   abbrev transferred : Lookup → Stepped
-  transferred = transferCells (cellView plan keys c) (localAt place saved) count regs amount short to cells
+  transferred = transferCells (cellView plan keys c) (actionLocal place saved) count regs amount short to cells
 
   module _ {found : Lookup} {t : Turn} where
-    pub transfer-nowhere : found ≡ NoCell → t ≡ broken → Stands t cells cells (transferred found)
+    pub transfer-nowhere : found ≡ NoCell → t ≡ brokenTurn → StandsForStep t cells cells (transferred found)
     unfolding transferCells
     transfer-nowhere e f = rw (e, f)
 
     module _ {n : ℕ} (here : found ≡ Cell n) {held : ℤ} (f : SFits w64 held) (at : held ≡ cellAt cells n) where
-      pub transfer-below : ltZ (read held) (pos 0) ≡ true → t ≡ broken → Stands t cells cells (transferred found)
+      pub transfer-below : ltZ (read held) (pos 0) ≡ true → t ≡ brokenTurn → StandsForStep t cells cells (transferred found)
       unfolding transferCells
       transfer-below e b = rw (b, here, ← at, read-below f e)
 
       module _ (above : ltZ (read held) (pos 0) ≡ false) {after : List ℤ} where
-        pub transfer-short : ltZ (read held) (read amount) ≡ true
-            → Stands t after cells (finish (cellView plan [] c) (localAt 0 saved) count short cells)
-            → Stands t after cells (transferred found)
+        pub transfer-short-turn : ltZ (read held) (read amount) ≡ true
+            → StandsForStep t after cells (finish (cellView plan [] c) (actionLocal 0 saved) count short cells)
+            → StandsForStep t after cells (transferred found)
         unfolding transferCells finish
-        transfer-short e p = rw (here, ← at, read-above f above, read-less f g e) p
+        transfer-short-turn e p = rw (here, ← at, read-above f above, read-less f g e) p
 
         pub transfer-enough : ltZ (read held) (read amount) ≡ false
-            → ((old : List ℤ) → Stands t after cells (depositCell (localAt place old) count regs (read amount) n cells (lookupIn plan keys c to)))
-            → Stands t after cells (transferred found)
+            → ((old : List ℤ) → StandsForStep t after cells (depositCell (actionLocal place old) count regs (read amount) n cells (lookupIn plan keys c to)))
+            → StandsForStep t after cells (transferred found)
         unfolding transferCells lookup
         transfer-enough e p =
             rw (here, ← at, read-above f above, read-less f g e)
-            (p saved ∙ ap (λ (x : ℤ). turned cells (depositCell (localAt place saved) count regs x n cells (lookupIn plan keys c to))) (back g))
+            (p saved ∙ ap (λ (x : ℤ). turned cells (depositCell (actionLocal place saved) count regs x n cells (lookupIn plan keys c to))) (read-back g))
 
 -- The first cell holds enough.
 pub enough : {held : ℤ} (amount : ℤ) {x : ℤ} {b : Bool} → SFits w64 held → held ≡ x → ltZ (read held) (read amount) ≡ b → ltZ x (read amount) ≡ b
-enough amount f e h = rw (← e, ← back f) h
+enough amount f e h = rw (← e, ← read-back f) h
 
 pub still-nonneg : {amount : ℤ} → SFits w64 amount → nonNeg amount ≡ true → nonNeg (read amount) ≡ true
-still-nonneg f e = rw (back f) e
+still-nonneg f e = rw (read-back f) e
 
 -- ---- an action
 
@@ -230,38 +230,38 @@ payable e p = rw e at p
 
 module _ (plan keys : List ℕ) (c place : ℕ) (saved : List ℤ) (count : ℕ) (us : Uses) (regs : List ℤ) (cells : List ℤ) where
   abbrev performed : Next → Stepped
-  performed next = perform (cellView plan keys c) (localAt place saved) count (accessesOf us) regs next cells
+  performed next = perform (cellView plan keys c) (actionLocal place saved) count (accessesOf us) regs next cells
 
   module _ {next : Next} {t : Turn} {after : List ℤ} where
-    pub perform-go : {to : ℕ} → next ≡ Go to → t ≡ going to count regs → after ≡ cells → Stands t after cells (performed next)
+    pub perform-go : {to : ℕ} → next ≡ Go to → t ≡ going to count regs → after ≡ cells → StandsForStep t after cells (performed next)
     unfolding perform
     perform-go e f a = rw (e, f, a)
 
     pub perform-end : {outcome : ℕ} → next ≡ End outcome
-        → Stands t after cells (finish (cellView plan [] c) (localAt 0 saved) count outcome cells)
-        → Stands t after cells (performed next)
+        → StandsForStep t after cells (finish (cellView plan [] c) (actionLocal 0 saved) count outcome cells)
+        → StandsForStep t after cells (performed next)
     unfolding perform finish
     perform-end e p = rw e p
 
     pub perform-load : {x : ℕ} → next ≡ Load x
-        → ((old : List ℤ) → Stands t after cells (loadCell (localAt place old) count regs x (accessOf (us .first)) cells (lookupIn plan keys c (accessOf (us .first)))))
-        → Stands t after cells (performed next)
+        → ((old : List ℤ) → StandsForStep t after cells (loadCell (actionLocal place old) count regs x (accessOf (us .first)) cells (lookupIn plan keys c (accessOf (us .first)))))
+        → StandsForStep t after cells (performed next)
     unfolding perform lookup
     perform-load e p = rw e (p saved)
 
     pub perform-store : {v : ℤ} → SFits w64 v → next ≡ Store v
-        → ((old : List ℤ) → Stands t after cells (storeCell (localAt place old) count regs (read v) cells (lookupIn plan keys c (accessOf (us .first)))))
-        → Stands t after cells (performed next)
+        → ((old : List ℤ) → StandsForStep t after cells (storeCell (actionLocal place old) count regs (read v) cells (lookupIn plan keys c (accessOf (us .first)))))
+        → StandsForStep t after cells (performed next)
     unfolding perform lookup
     perform-store f e p =
-        rw e (p saved ∙ ap (λ (x : ℤ). turned cells (storeCell (localAt place saved) count regs x cells (lookupIn plan keys c (accessOf (us .first))))) (back f))
+        rw e (p saved ∙ ap (λ (x : ℤ). turned cells (storeCell (actionLocal place saved) count regs x cells (lookupIn plan keys c (accessOf (us .first))))) (read-back f))
 
     pub perform-transfer : {amount : ℤ} {short : ℕ} → SFits w64 amount → next ≡ Transfer amount short
-        → Stands t after cells (transferCells (cellView plan keys c) (localAt place saved) count regs (read amount) short (accessOf (us .second)) cells (lookupIn plan keys c (accessOf (us .first))))
-        → Stands t after cells (performed next)
+        → StandsForStep t after cells (transferCells (cellView plan keys c) (actionLocal place saved) count regs (read amount) short (accessOf (us .second)) cells (lookupIn plan keys c (accessOf (us .first))))
+        → StandsForStep t after cells (performed next)
     unfolding perform lookup
     perform-transfer {short = short} f e p =
         rw e
         (p
-        ∙ ap (λ (x : ℤ). turned cells (transferCells (cellView plan keys c) (localAt place saved) count regs x short (accessOf (us .second)) cells (lookupIn plan keys c (accessOf (us .first)))))
-        (back f))
+        ∙ ap (λ (x : ℤ). turned cells (transferCells (cellView plan keys c) (actionLocal place saved) count regs x short (accessOf (us .second)) cells (lookupIn plan keys c (accessOf (us .first)))))
+        (read-back f))

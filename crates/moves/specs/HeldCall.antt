@@ -1,4 +1,4 @@
--- What STEP and CANCEL test of the worker's seat, in the type of their definition, and what is known of the held call. Assumes nothing.
+-- What STEP and CANCEL test of the worker's seat, in the type of their definition, and what is known of the held call.
 use mathlib.Core.Bool.{_||_}
 use Prim.Native.Nat.{ℕ, _-_, _<_}
 use lib.Dec.{eqb, ltb}
@@ -11,7 +11,7 @@ use Rattle.moves.specs.declared.Holding.the-variants.{Answered, Holds}
 
 abbrev pub asHeld : Holding → definition.Held
 asHeld (Answered a) = definition.answered a
-asHeld (Holds c) = definition.holds c
+asHeld (Holds call) = definition.holds call
 
 -- What is held, from the number of calls and the seat's entry.
 abbrev pub heldFrom : ℕ → ℕ → definition.Held
@@ -25,4 +25,4 @@ heldFrom calls call =
 -- A held call is one of at most 256.
 abbrev pub HeldInRun : Holding → Type 0
 HeldInRun (Answered a) = Unit {0}
-HeldInRun (Holds c) = c < maxCalls
+HeldInRun (Holds call) = call < maxCalls

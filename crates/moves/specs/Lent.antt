@@ -1,4 +1,4 @@
--- The run that the parts lent to a move make up, and what a move leaves of it. Assumes nothing.
+-- The run that the parts lent to a move make up, and what a move leaves of it.
 use mathlib.Core.List.{List}
 use Prim.Native.Nat.{ℕ}
 use lib.IntN.{ℤ}
@@ -8,8 +8,8 @@ use Rattle.machine.specs.declared.Head.{Head}
 use Rattle.machine.specs.declared.Answer.{Answer}
 
 abbrev pub lent : Head → List ℕ → List ℕ → List ℤ → List ℕ → List ℤ → Run
-lent head plan keys cells status olds =
-    record { head = head; plan = plan; keys = keys; cells = cells; status = status; olds = olds }
+lent head plan keys cells status saved =
+    record { head = head; plan = plan; keys = keys; cells = cells; status = status; saved = saved }
 
 abbrev pub moved : Answer → Run → Moved
 moved answer run = record { answer = answer; run = run }

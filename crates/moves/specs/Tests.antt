@@ -1,4 +1,4 @@
--- What the tests of a move find, as the code answers it: how a move goes on behind them. Assumes nothing.
+-- What the tests of a move find, as the code answers it: how a move goes on behind them.
 use mathlib.Core.Bool.{Bool, _||_, not}
 use mathlib.Core.List.{List}
 use Prim.Native.Nat.{ℕ, _≤_}
@@ -14,25 +14,25 @@ use Rattle.moves.specs.declared.Earlier.{Earlier}
 use Rattle.moves.specs.declared.Earlier.the-variants.{Broken, Unfinished, Finished}
 
 -- What follows tests: a refusal ends the move, else it goes on.
-abbrev pub behind : {A : Type 0} → Tested → (Answer → A) → A → A
-behind Passed stop on = on
-behind (Refused a) stop on = stop a
+abbrev pub unlessRefused : {A : Type 0} → Tested → (Answer → A) → A → A
+unlessRefused Passed stop on = on
+unlessRefused (Refused a) stop on = stop a
 
 -- What every move tests first: 20 for the sizes and the number of workers, 21 for the worker.
 unfoldable pub workerTested : Bool → ℕ → ℕ → Tested
-workerTested large workers w =
+workerTested large workers worker =
     if not large || eqb workers 0 || ltb maxWorkers workers
     then Refused Damaged
-    else if leb workers w
+    else if leb workers worker
     then Refused NoWorker
     else Passed
 
 -- What BEGIN tests next: 20 for the number of calls, 22, 20 for the call that the worker holds, 23.
 unfoldable pub headTested : ℕ → ℕ → ℕ → Tested
-headTested calls busy c =
+headTested calls busy call =
     if ltb maxCalls calls
     then Refused Damaged
-    else if leb calls c
+    else if leb calls call
     then Refused NoCall
     else if ltb calls busy
     then Refused Damaged
@@ -40,12 +40,12 @@ headTested calls busy c =
     then Refused WorkerBusy
     else Passed
 
--- The earlier conflicting calls of call c, in one answer.
+-- The earlier conflicting calls of a call, in one answer.
 unfoldable pub earlierOf : List ℕ → List ℕ → ℕ → Earlier
-earlierOf row status c =
-    if earlierBroken row status c
+earlierOf row status call =
+    if earlierBroken row status call
     then Broken
-    else if earlierFinished row status c
+    else if earlierFinished row status call
     then Finished
     else Unfinished
 

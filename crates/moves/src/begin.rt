@@ -8,8 +8,8 @@ use crate::entries::restorable;
 use crate::entries::save;
 use crate::held::worker_tested;
 use block::limits::MAX_CALLS;
+use footprint::layout::FIRST_ROW_WORD;
 use footprint::layout::PLAN_WORDS;
-use footprint::layout::ROW;
 use machine::Answer;
 use machine::Head;
 use machine::Seat;
@@ -26,11 +26,11 @@ ghost use lib.ListN.{length};
 ghost use Rattle.arith.specs.Choice.{if_then_else_};
 ghost use Rattle.block.specs.Limits.{maxCalls, maxWorkers};
 ghost use Rattle.machine.specs.Run.{fixedSizes, rowIn, seatOf, stateOf, withSeat};
-ghost use Rattle.machine.specs.Moves.{beginCall, beginChecked, beginOf, keysOf, stay};
+ghost use Rattle.machine.specs.Moves.{beginCall, beginChecked, beginOf, callKeyCount, stay};
 ghost use Rattle.machine.specs.declared.Head.{Head};
 ghost use Rattle.machine.specs.declared.Answer.the-variants.{Accepted};
 ghost use Rattle.moves.specs.Lent.{lent, moved};
-ghost use Rattle.moves.specs.Tests.{behind, earlierOf, headTested, FewKeys};
+ghost use Rattle.moves.specs.Tests.{unlessRefused, earlierOf, headTested, FewKeys};
 ghost use Rattle.moves.specs.declared.Earlier.the-variants.{Unfinished, Finished};
 
 // The state of a call.
@@ -47,7 +47,7 @@ fn row_of(plan: &[u64], call: usize) -> [u64; 4]
     requires { ⌜ fixedSizes .plan ≤ length (now plan) ⌝ }
     ensures { λ r. ⌜ r ≡ rowIn (now (plan .entry)) call ⌝ }
 {
-    let at = PLAN_WORDS * call + ROW;
+    let at = PLAN_WORDS * call + FIRST_ROW_WORD;
     [plan[at], plan[at + 1], plan[at + 2], plan[at + 3]]
 }
 
@@ -107,8 +107,11 @@ fn head_tested(calls: usize, busy: usize, call: usize) -> Tested
 fn call_tested(plan: &[u64], status: &[u64], call: usize) -> Tested
     requires { ⌜ call < maxCalls ⌝ }
     requires { ⌜ fixedSizes .plan ≤ length (now plan) ⌝ }
-    ensures { λ r. ⌜ ((head : Head) (keys : List ℕ) (cells olds : List ℤ) (w : ℕ) → behind r (stay (lent head (now (plan .entry)) keys cells (now (status .entry)) olds)) (moved Accepted (beginCall (lent head (now (plan .entry)) keys cells (now (status .entry)) olds) w call)) ≡ beginChecked (lent head (now (plan .entry)) keys cells (now (status .entry)) olds) w call) ⌝ }
-    ensures { λ r. ⌜ FewKeys r (keysOf (now (plan .entry)) call) ⌝ }
+    ensures { λ r. ⌜ ((head : Head) (keys : List ℕ) (cells saved : List ℤ) (worker : ℕ)
+        → unlessRefused r (stay (lent head (now (plan .entry)) keys cells (now (status .entry)) saved))
+        (moved Accepted (beginCall (lent head (now (plan .entry)) keys cells (now (status .entry)) saved) worker call))
+        ≡ beginChecked (lent head (now (plan .entry)) keys cells (now (status .entry)) saved) worker call) ⌝ }
+    ensures { λ r. ⌜ FewKeys r (callKeyCount (now (plan .entry)) call) ⌝ }
 {
     let state = state_of(status, call);
     if FINISHED < state {
@@ -137,20 +140,23 @@ fn begin_call(
     plan: &[u64],
     cells: &[i64],
     status: &mut [u64],
-    olds: &mut [i64],
+    saved: &mut [i64],
     worker: usize,
     call: usize,
 ) -> Seated
     requires { ⌜ call < maxCalls ⌝ }
     requires { ⌜ worker < maxWorkers ⌝ }
     requires { ⌜ fixedSizes .plan ≤ length (now plan) ⌝ }
-    ensures { λ r. ⌜ ((head : Head) (keys : List ℕ) → seat ≡ seatOf head worker → moved (r .answer) (lent (withSeat head worker (r .seat)) (now (plan .entry)) keys (now (cells .entry)) (now (status .exit)) (now (olds .exit))) ≡ beginChecked (lent head (now (plan .entry)) keys (now (cells .entry)) (now (status .entry)) (now (olds .entry))) worker call) ⌝ }
+    ensures { λ r. ⌜ ((head : Head) (keys : List ℕ) → seat ≡ seatOf head worker
+        → moved (r .answer)
+        (lent (withSeat head worker (r .seat)) (now (plan .entry)) keys (now (cells .entry)) (now (status .exit)) (now (saved .exit)))
+        ≡ beginChecked (lent head (now (plan .entry)) keys (now (cells .entry)) (now (status .entry)) (now (saved .entry))) worker call) ⌝ }
 {
     if let Tested::Refused(answer) = call_tested(plan, status, call) {
         return Seated { seat, answer };
     }
     let n = key_count(plan, call);
-    save(plan, call, n, cells, olds, worker);
+    save(plan, call, n, cells, saved, worker);
     wire::put_word(status, STATUS_WORDS * call, RUNNING);
     let at_entry = Seat {
         call: call + 1,
@@ -171,18 +177,21 @@ pub fn begin(
     keys: &[u64],
     cells: &[i64],
     status: &mut [u64],
-    olds: &mut [i64],
+    saved: &mut [i64],
     worker: usize,
     call: usize,
 ) -> Reply
-    ensures { λ r. ⌜ moved (r .answer) (lent (r .head) (now (plan .entry)) (now (keys .entry)) (now (cells .entry)) (now (status .exit)) (now (olds .exit))) ≡ beginOf (lent head (now (plan .entry)) (now (keys .entry)) (now (cells .entry)) (now (status .entry)) (now (olds .entry))) worker call ⌝ }
+    ensures { λ r. ⌜ moved (r .answer)
+        (lent (r .head) (now (plan .entry)) (now (keys .entry)) (now (cells .entry)) (now (status .exit)) (now (saved .exit)))
+        ≡ beginOf
+        (lent head (now (plan .entry)) (now (keys .entry)) (now (cells .entry)) (now (status .entry)) (now (saved .entry))) worker call ⌝ }
 {
     let large = large_enough(
         plan.len(),
         keys.len(),
         cells.len(),
         status.len(),
-        olds.len(),
+        saved.len(),
     );
     if let Tested::Refused(answer) = worker_tested(head.workers, large, worker) {
         return Reply { head, answer };
@@ -192,7 +201,7 @@ pub fn begin(
     if let Tested::Refused(answer) = head_tested(head.calls, seat.call, call) {
         return Reply { head, answer };
     }
-    let after = begin_call(seat, plan, cells, status, olds, worker, call);
+    let after = begin_call(seat, plan, cells, status, saved, worker, call);
     let answer = after.answer;
     let seat = after.seat;
     next.seats[worker] = seat;

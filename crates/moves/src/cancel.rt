@@ -25,31 +25,34 @@ ghost use Rattle.machine.specs.Moves.{cancelHeld, cancelOf};
 ghost use Rattle.machine.specs.declared.Head.{Head};
 ghost use Rattle.moves.specs.Lent.{lent, moved};
 
-// The call c that the worker holds, given back.
+// The call that the worker holds, given back.
 fn cancel_held(
     seat: Seat,
     plan: &[u64],
     cells: &mut [i64],
     status: &mut [u64],
-    olds: &[i64],
+    saved: &[i64],
     worker: usize,
-    c: usize,
+    call: usize,
 ) -> Seated
-    requires { ⌜ c < maxCalls ⌝ }
+    requires { ⌜ call < maxCalls ⌝ }
     requires { ⌜ worker < maxWorkers ⌝ }
     requires { ⌜ fixedSizes .plan ≤ length (now plan) ⌝ }
-    requires { ⌜ fixedSizes .olds ≤ length (now olds) ⌝ }
-    ensures { λ r. ⌜ ((head : Head) (keys : List ℕ) → seat ≡ seatOf head worker → moved (r .answer) (lent (withSeat head worker (r .seat)) (now (plan .entry)) keys (now (cells .exit)) (now (status .exit)) (now (olds .entry))) ≡ cancelHeld (lent head (now (plan .entry)) keys (now (cells .entry)) (now (status .entry)) (now (olds .entry))) worker c) ⌝ }
+    requires { ⌜ fixedSizes .saved ≤ length (now saved) ⌝ }
+    ensures { λ r. ⌜ ((head : Head) (keys : List ℕ) → seat ≡ seatOf head worker
+        → moved (r .answer)
+        (lent (withSeat head worker (r .seat)) (now (plan .entry)) keys (now (cells .exit)) (now (status .exit)) (now (saved .entry)))
+        ≡ cancelHeld (lent head (now (plan .entry)) keys (now (cells .entry)) (now (status .entry)) (now (saved .entry))) worker call) ⌝ }
 {
-    let n = key_count(plan, c);
-    if !restorable(plan, c, n) {
+    let n = key_count(plan, call);
+    if !restorable(plan, call, n) {
         return Seated {
             seat,
             answer: Answer::Damaged,
         };
     }
-    restore(plan, c, n, olds, worker, cells);
-    wire::put_word(status, STATUS_WORDS * c, WAITING);
+    restore(plan, call, n, saved, worker, cells);
+    wire::put_word(status, STATUS_WORDS * call, WAITING);
     Seated {
         seat: idle_seat(),
         answer: Answer::Accepted,
@@ -63,17 +66,20 @@ pub fn cancel(
     keys: &[u64],
     cells: &mut [i64],
     status: &mut [u64],
-    olds: &[i64],
+    saved: &[i64],
     worker: usize,
 ) -> Reply
-    ensures { λ r. ⌜ moved (r .answer) (lent (r .head) (now (plan .entry)) (now (keys .entry)) (now (cells .exit)) (now (status .exit)) (now (olds .entry))) ≡ cancelOf (lent head (now (plan .entry)) (now (keys .entry)) (now (cells .entry)) (now (status .entry)) (now (olds .entry))) worker ⌝ }
+    ensures { λ r. ⌜ moved (r .answer)
+        (lent (r .head) (now (plan .entry)) (now (keys .entry)) (now (cells .exit)) (now (status .exit)) (now (saved .entry)))
+        ≡ cancelOf
+        (lent head (now (plan .entry)) (now (keys .entry)) (now (cells .entry)) (now (status .entry)) (now (saved .entry))) worker ⌝ }
 {
     let large = large_enough(
         plan.len(),
         keys.len(),
         cells.len(),
         status.len(),
-        olds.len(),
+        saved.len(),
     );
     if let Tested::Refused(answer) = worker_tested(head.workers, large, worker) {
         return Reply { head, answer };
@@ -82,8 +88,8 @@ pub fn cancel(
     let seat = next.seats[worker];
     match held(head.calls, seat.call) {
         Holding::Answered(answer) => Reply { head, answer },
-        Holding::Holds(c) => {
-            let after = cancel_held(seat, plan, cells, status, olds, worker, c);
+        Holding::Holds(call) => {
+            let after = cancel_held(seat, plan, cells, status, saved, worker, call);
             let answer = after.answer;
             let seat = after.seat;
             next.seats[worker] = seat;

@@ -42,6 +42,14 @@ pub enum Earlier {
     Finished,
 }
 
+// Where a step works: the call that runs and its worker, its place, and its count with this place's own instruction.
+pub struct Site {
+    pub worker: usize,
+    pub call: usize,
+    pub place: usize,
+    pub count: u64,
+}
+
 // How a step of a call ends: the lent run is damaged, the call goes on at a place, or it is finished with an outcome.
 pub enum Fate {
     Broken,

@@ -2,11 +2,11 @@
 use block::limits::MAX_CALL_KEYS;
 use block::limits::MAX_KEYS;
 use footprint::KeyUse;
+use footprint::layout::ENTRY_FLAGS;
 use footprint::layout::FIRST_ENTRY;
-use footprint::layout::FLAGS;
 use footprint::layout::KEY_COUNT;
 use footprint::layout::PLAN_WORDS;
-use footprint::layout::WRITES;
+use footprint::layout::WRITES_FLAG;
 use machine::Lookup;
 ghost use mathlib.Core.Path.{_≡_};
 ghost use mathlib.Core.Bool.{_&&_, _||_, not};
@@ -14,23 +14,23 @@ ghost use Prim.Native.Nat.{_*_, _≤_, _<_};
 ghost use lib.ListN.{length};
 ghost use Rattle.arith.specs.Choice.{if_then_else_};
 ghost use Rattle.block.specs.Limits.{maxCalls, maxKeys};
-ghost use Rattle.footprint.specs.Plan.{planWords};
-ghost use Rattle.machine.specs.Run.{entryCell, entryReads, entryWrites, hasKey, planWord};
-ghost use Rattle.moves.specs.Turn.{accessOf, lookupIn, Worded};
+ghost use Rattle.footprint.specs.Plan.{planWords, entryCell, entryReads, entryWrites};
+ghost use Rattle.machine.specs.Run.{hasKey, planWord};
+ghost use Rattle.moves.specs.Turn.{accessOf, lookupIn, KeyWorded};
 
-// Word k of call c in the plan.
-pub(crate) fn plan_word(plan: &[u64], c: usize, k: usize) -> u64
-    requires { ⌜ c < maxCalls ⌝ }
+// Word k of a call in the plan.
+pub(crate) fn plan_word(plan: &[u64], call: usize, k: usize) -> u64
+    requires { ⌜ call < maxCalls ⌝ }
     requires { ⌜ k < planWords ⌝ }
-    ensures { λ r. ⌜ r ≡ planWord (now (plan .entry)) c k ⌝ }
+    ensures { λ r. ⌜ r ≡ planWord (now (plan .entry)) call k ⌝ }
 {
-    wire::word(plan, PLAN_WORDS * c + k)
+    wire::word(plan, PLAN_WORDS * call + k)
 }
 
 // Whether cell n has the key of a use.
 fn has_key(keys: &[u64], n: usize, u: KeyUse) -> bool
     requires { ⌜ n < maxKeys ⌝ }
-    requires { ⌜ Worded u ⌝ }
+    requires { ⌜ KeyWorded u ⌝ }
     ensures { λ r. ⌜ r ≡ hasKey (now (keys .entry)) n (accessOf u .key) ⌝ }
 {
     let high = wire::word(keys, 2 * n);
@@ -43,36 +43,37 @@ fn has_flags(e: u64, u: KeyUse) -> bool
     ensures { λ r. ⌜ r ≡ ((not (u .reads) || entryReads e) && (not (u .writes) || entryWrites e)) ⌝ }
 {
     let read = e % 2 == 1;
-    let written = WRITES <= e % FLAGS;
+    let written = WRITES_FLAG <= e % ENTRY_FLAGS;
     (!u.reads | read) & (!u.writes | written)
 }
 
 // The cell of an entry that has the wanted key, if it has the flags too.
 fn kept(e: u64, u: KeyUse) -> Lookup
-    ensures { λ r. ⌜ r ≡ (if (not (u .reads) || entryReads e) && (not (u .writes) || entryWrites e) then Lookup.Cell (entryCell e) else Lookup.NoCell) ⌝ }
+    ensures { λ r. ⌜ r
+        ≡ (if (not (u .reads) || entryReads e) && (not (u .writes) || entryWrites e) then Lookup.Cell (entryCell e) else Lookup.NoCell) ⌝ }
 {
     if has_flags(e, u) {
-        return Lookup::Cell((e / FLAGS) as usize);
+        return Lookup::Cell((e / ENTRY_FLAGS) as usize);
     }
     Lookup::NoCell
 }
 
-// The cell that the entries of call c keep for the key of a use, with the flags that it wants; an entry that is looked at has a cell
+// The cell that the entries of a call keep for the key of a use, with the flags that it wants; an entry that is looked at has a cell
 // number of the table.
-pub(crate) fn lookup(plan: &[u64], keys: &[u64], c: usize, u: KeyUse) -> Lookup
+pub(crate) fn lookup(plan: &[u64], keys: &[u64], call: usize, u: KeyUse) -> Lookup
     requires { ⌜ maxCalls * planWords ≤ length (now plan) ⌝ }
-    requires { ⌜ c < maxCalls ⌝ }
-    requires { ⌜ Worded u ⌝ }
-    ensures { λ r. ⌜ r ≡ lookupIn (now (plan .entry)) (now (keys .entry)) c (accessOf u) ⌝ }
+    requires { ⌜ call < maxCalls ⌝ }
+    requires { ⌜ KeyWorded u ⌝ }
+    ensures { λ r. ⌜ r ≡ lookupIn (now (plan .entry)) (now (keys .entry)) call (accessOf u) ⌝ }
 {
-    let n = plan_word(plan, c, KEY_COUNT) as usize;
+    let n = plan_word(plan, call, KEY_COUNT) as usize;
     if MAX_CALL_KEYS < n {
         return Lookup::NoCell;
     }
     let mut k = 0;
     while k < n {
-        let e = plan_word(plan, c, FIRST_ENTRY + k);
-        let cell = (e / FLAGS) as usize;
+        let e = plan_word(plan, call, FIRST_ENTRY + k);
+        let cell = (e / ENTRY_FLAGS) as usize;
         if MAX_KEYS <= cell {
             return Lookup::NoCell;
         }

@@ -1,11 +1,16 @@
 // An action done on the cells that a place accesses. Every test stands before the first store, so that a damaged run is left as it was.
 use crate::Fate;
+use crate::Site;
 use crate::Turn;
 use crate::entries::restorable;
 use crate::entries::restore;
 use crate::lookup::lookup;
 use crate::lookup::plan_word;
 use action::loaded;
+use arith::LARGEST;
+use block::outcomes::THROWN;
+use block::record::FIELD_BASE;
+use block::record::FIELDS;
 use footprint::KeyUse;
 use footprint::Uses;
 use footprint::layout::KEY_COUNT;
@@ -23,22 +28,11 @@ ghost use Rattle.block.specs.Key.{isBalance};
 ghost use Rattle.block.specs.Limits.{maxCalls, maxCode};
 ghost use Rattle.footprint.specs.Plan.{planWords};
 ghost use Rattle.machine.specs.Step.{cellAt, depositCell, finish, loadCell, perform, storeCell, transferCells};
-ghost use Rattle.moves.specs.Turn.{accessOf, accessesOf, broken, cellView, going, localAt, lookupIn, ownOlds, over, turned, Doable, Ready, Worded};
-
-// The first outcome of those that restore the cells.
-const THROWN: u64 = 3;
-
-// The place value of the field in a key's high word, and the field's own range.
-const FIELD_PLACE: u64 = 4294967296;
-
-const FIELDS: u64 = 65536;
-
-// The largest value.
-const LARGEST: i64 = 9223372036854775807;
+ghost use Rattle.moves.specs.Turn.{accessOf, accessesOf, brokenTurn, cellView, going, actionLocal, lookupIn, workerSaved, over, turned, Doable, Ready, KeyWorded};
 
 // The three ends of a step.
 pub(crate) fn damaged() -> Turn
-    ensures { λ r. ⌜ r ≡ broken ⌝ }
+    ensures { λ r. ⌜ r ≡ brokenTurn ⌝ }
 {
     Turn {
         fate: Fate::Broken,
@@ -69,32 +63,28 @@ pub(crate) fn done(outcome: u64, count: u64) -> Turn
 
 // "Field 0 .. is the balance."
 fn is_balance(u: KeyUse) -> bool
-    requires { ⌜ Worded u ⌝ }
+    requires { ⌜ KeyWorded u ⌝ }
     ensures { λ r. ⌜ r ≡ isBalance (accessOf u .key) ⌝ }
 {
-    u.high / FIELD_PLACE % FIELDS == 0
+    u.high / FIELD_BASE % FIELDS == 0
 }
 
 // The end of a call. "On 3, 4, 5 the same step restores every cell of the write set."
-fn finish(
-    plan: &[u64],
-    cells: &mut [i64],
-    olds: &[i64],
-    w: usize,
-    c: usize,
-    count: u64,
-    outcome: u64,
-) -> Turn
-    requires { ⌜ Ready (now plan) (now olds) w c ⌝ }
-    ensures { λ r. ⌜ record { turn = r; cells = now (cells .exit) } ≡ turned (now (cells .entry)) (finish (cellView (now (plan .entry)) [] c) (localAt 0 (ownOlds (now (plan .entry)) (now (olds .entry)) w c)) count outcome (now (cells .entry))) ⌝ }
+fn finish(plan: &[u64], cells: &mut [i64], saved: &[i64], site: Site, outcome: u64) -> Turn
+    requires { ⌜ Ready (now plan) (now saved) (site .worker) (site .call) ⌝ }
+    ensures { λ r. ⌜ record { turn = r; cells = now (cells .exit) }
+        ≡ turned (now (cells .entry))
+        (finish (cellView (now (plan .entry)) [] (site .call))
+        (actionLocal 0 (workerSaved (now (plan .entry)) (now (saved .entry)) (site .worker) (site .call))) (site .count) outcome
+        (now (cells .entry))) ⌝ }
 {
     if outcome < THROWN {
-        return done(outcome, count);
+        return done(outcome, site.count);
     }
-    let n = plan_word(plan, c, KEY_COUNT) as usize;
-    if restorable(plan, c, n) {
-        restore(plan, c, n, olds, w, cells);
-        return done(outcome, count);
+    let n = plan_word(plan, site.call, KEY_COUNT) as usize;
+    if restorable(plan, site.call, n) {
+        restore(plan, site.call, n, saved, site.worker, cells);
+        return done(outcome, site.count);
     }
     damaged()
 }
@@ -104,20 +94,22 @@ fn load(
     plan: &[u64],
     keys: &[u64],
     cells: &[i64],
-    c: usize,
-    place: usize,
-    count: u64,
+    site: Site,
     regs: [i64; 8],
     x: usize,
     u: KeyUse,
 ) -> Turn
     requires { ⌜ maxCalls * planWords ≤ length (now plan) ⌝ }
-    requires { ⌜ c < maxCalls ⌝ }
-    requires { ⌜ place ≤ maxCode ⌝ }
-    requires { ⌜ Worded u ⌝ }
-    ensures { λ r. ⌜ ((saved : List ℤ) → record { turn = r; cells = now (cells .entry) } ≡ turned (now (cells .entry)) (loadCell (localAt place saved) count regs x (accessOf u) (now (cells .entry)) (lookupIn (now (plan .entry)) (now (keys .entry)) c (accessOf u)))) ⌝ }
+    requires { ⌜ site .call < maxCalls ⌝ }
+    requires { ⌜ site .place ≤ maxCode ⌝ }
+    requires { ⌜ KeyWorded u ⌝ }
+    ensures { λ r. ⌜ ((saved : List ℤ)
+        → record { turn = r; cells = now (cells .entry) }
+        ≡ turned (now (cells .entry))
+        (loadCell (actionLocal (site .place) saved) (site .count) regs x (accessOf u) (now (cells .entry))
+        (lookupIn (now (plan .entry)) (now (keys .entry)) (site .call) (accessOf u)))) ⌝ }
 {
-    match lookup(plan, keys, c, u) {
+    match lookup(plan, keys, site.call, u) {
         Lookup::NoCell => damaged(),
         Lookup::Cell(n) => {
             let v = wire::value(cells, n);
@@ -125,7 +117,7 @@ fn load(
             if balance & (v < 0) {
                 return damaged();
             }
-            go_on(place + 1, count, loaded(balance, regs, x, v))
+            go_on(site.place + 1, site.count, loaded(balance, regs, x, v))
         }
     }
 }
@@ -135,24 +127,26 @@ fn store(
     plan: &[u64],
     keys: &[u64],
     cells: &mut [i64],
-    c: usize,
-    place: usize,
-    count: u64,
+    site: Site,
     regs: [i64; 8],
     v: i64,
     u: KeyUse,
 ) -> Turn
     requires { ⌜ maxCalls * planWords ≤ length (now plan) ⌝ }
-    requires { ⌜ c < maxCalls ⌝ }
-    requires { ⌜ place ≤ maxCode ⌝ }
-    requires { ⌜ Worded u ⌝ }
-    ensures { λ r. ⌜ ((saved : List ℤ) → record { turn = r; cells = now (cells .exit) } ≡ turned (now (cells .entry)) (storeCell (localAt place saved) count regs v (now (cells .entry)) (lookupIn (now (plan .entry)) (now (keys .entry)) c (accessOf u)))) ⌝ }
+    requires { ⌜ site .call < maxCalls ⌝ }
+    requires { ⌜ site .place ≤ maxCode ⌝ }
+    requires { ⌜ KeyWorded u ⌝ }
+    ensures { λ r. ⌜ ((saved : List ℤ)
+        → record { turn = r; cells = now (cells .exit) }
+        ≡ turned (now (cells .entry))
+        (storeCell (actionLocal (site .place) saved) (site .count) regs v (now (cells .entry))
+        (lookupIn (now (plan .entry)) (now (keys .entry)) (site .call) (accessOf u)))) ⌝ }
 {
-    match lookup(plan, keys, c, u) {
+    match lookup(plan, keys, site.call, u) {
         Lookup::NoCell => damaged(),
         Lookup::Cell(n) => {
             wire::put_value(cells, n, v);
-            go_on(place + 1, count, regs)
+            go_on(site.place + 1, site.count, regs)
         }
     }
 }
@@ -170,7 +164,9 @@ fn pay_into(
     requires { ⌜ place ≤ maxCode ⌝ }
     requires { ⌜ nonNeg amount ≡ true ⌝ }
     requires { ⌜ ltZ (cellAt (now cells) n) amount ≡ false ⌝ }
-    ensures { λ r. ⌜ ((saved : List ℤ) → record { turn = r; cells = now (cells .exit) } ≡ turned (now (cells .entry)) (depositCell (localAt place saved) count regs amount n (now (cells .entry)) (Lookup.Cell m))) ⌝ }
+    ensures { λ r. ⌜ ((saved : List ℤ)
+        → record { turn = r; cells = now (cells .exit) }
+        ≡ turned (now (cells .entry)) (depositCell (actionLocal place saved) count regs amount n (now (cells .entry)) (Lookup.Cell m))) ⌝ }
 {
     let held = wire::value(cells, n);
     let there = wire::value(cells, m);
@@ -190,25 +186,27 @@ fn deposit(
     plan: &[u64],
     keys: &[u64],
     cells: &mut [i64],
-    c: usize,
-    place: usize,
-    count: u64,
+    site: Site,
     regs: [i64; 8],
     amount: i64,
     n: usize,
     u: KeyUse,
 ) -> Turn
     requires { ⌜ maxCalls * planWords ≤ length (now plan) ⌝ }
-    requires { ⌜ c < maxCalls ⌝ }
-    requires { ⌜ place ≤ maxCode ⌝ }
-    requires { ⌜ Worded u ⌝ }
+    requires { ⌜ site .call < maxCalls ⌝ }
+    requires { ⌜ site .place ≤ maxCode ⌝ }
+    requires { ⌜ KeyWorded u ⌝ }
     requires { ⌜ nonNeg amount ≡ true ⌝ }
     requires { ⌜ ltZ (cellAt (now cells) n) amount ≡ false ⌝ }
-    ensures { λ r. ⌜ ((saved : List ℤ) → record { turn = r; cells = now (cells .exit) } ≡ turned (now (cells .entry)) (depositCell (localAt place saved) count regs amount n (now (cells .entry)) (lookupIn (now (plan .entry)) (now (keys .entry)) c (accessOf u)))) ⌝ }
+    ensures { λ r. ⌜ ((saved : List ℤ)
+        → record { turn = r; cells = now (cells .exit) }
+        ≡ turned (now (cells .entry))
+        (depositCell (actionLocal (site .place) saved) (site .count) regs amount n (now (cells .entry))
+        (lookupIn (now (plan .entry)) (now (keys .entry)) (site .call) (accessOf u)))) ⌝ }
 {
-    match lookup(plan, keys, c, u) {
+    match lookup(plan, keys, site.call, u) {
         Lookup::NoCell => damaged(),
-        Lookup::Cell(m) => pay_into(cells, place, count, regs, amount, n, m),
+        Lookup::Cell(m) => pay_into(cells, site.place, site.count, regs, amount, n, m),
     }
 }
 
@@ -217,25 +215,27 @@ fn transfer(
     plan: &[u64],
     keys: &[u64],
     cells: &mut [i64],
-    olds: &[i64],
-    w: usize,
-    c: usize,
-    place: usize,
-    count: u64,
+    saved: &[i64],
+    site: Site,
     regs: [i64; 8],
     amount: i64,
     short: u64,
-    us: Uses,
+    uses: Uses,
 ) -> Turn
-    requires { ⌜ Ready (now plan) (now olds) w c ⌝ }
-    requires { ⌜ place ≤ maxCode ⌝ }
-    requires { ⌜ Worded (us .first) ⌝ }
-    requires { ⌜ Worded (us .second) ⌝ }
+    requires { ⌜ Ready (now plan) (now saved) (site .worker) (site .call) ⌝ }
+    requires { ⌜ site .place ≤ maxCode ⌝ }
+    requires { ⌜ KeyWorded (uses .first) ⌝ }
+    requires { ⌜ KeyWorded (uses .second) ⌝ }
     requires { ⌜ nonNeg amount ≡ true ⌝ }
-    ensures { λ r. ⌜ record { turn = r; cells = now (cells .exit) } ≡ turned (now (cells .entry)) (transferCells (cellView (now (plan .entry)) (now (keys .entry)) c) (localAt place (ownOlds (now (plan .entry)) (now (olds .entry)) w c)) count regs amount short (accessOf (us .second)) (now (cells .entry)) (lookupIn (now (plan .entry)) (now (keys .entry)) c (accessOf (us .first)))) ⌝ }
+    ensures { λ r. ⌜ record { turn = r; cells = now (cells .exit) }
+        ≡ turned (now (cells .entry))
+        (transferCells (cellView (now (plan .entry)) (now (keys .entry)) (site .call))
+        (actionLocal (site .place) (workerSaved (now (plan .entry)) (now (saved .entry)) (site .worker) (site .call)))
+        (site .count) regs amount short (accessOf (uses .second)) (now (cells .entry))
+        (lookupIn (now (plan .entry)) (now (keys .entry)) (site .call) (accessOf (uses .first)))) ⌝ }
 {
-    let to = us.second;
-    let Lookup::Cell(n) = lookup(plan, keys, c, us.first) else {
+    let to = uses.second;
+    let Lookup::Cell(n) = lookup(plan, keys, site.call, uses.first) else {
         return damaged();
     };
     let held = wire::value(cells, n);
@@ -243,48 +243,46 @@ fn transfer(
         return damaged();
     }
     if held < amount {
-        return finish(plan, cells, olds, w, c, count, short);
+        return finish(plan, cells, saved, site, short);
     }
-    deposit(plan, keys, cells, c, place, count, regs, amount, n, to)
+    deposit(plan, keys, cells, site, regs, amount, n, to)
 }
 
-// An action is done on the cells that the place accesses. `count` is the count with this place's own instruction.
+// An action is done on the cells that the place accesses.
 pub(crate) fn perform(
     plan: &[u64],
     keys: &[u64],
     cells: &mut [i64],
-    olds: &[i64],
-    w: usize,
-    c: usize,
-    place: usize,
-    count: u64,
-    us: Uses,
-    a: Action,
+    saved: &[i64],
+    site: Site,
+    uses: Uses,
+    action: Action,
 ) -> Turn
-    requires { ⌜ Ready (now plan) (now olds) w c ⌝ }
-    requires { ⌜ Doable place us (a .next) ⌝ }
-    ensures { λ r. ⌜ record { turn = r; cells = now (cells .exit) } ≡ turned (now (cells .entry)) (perform (cellView (now (plan .entry)) (now (keys .entry)) c) (localAt place (ownOlds (now (plan .entry)) (now (olds .entry)) w c)) count (accessesOf us) (a .regs) (a .next) (now (cells .entry))) ⌝ }
+    requires { ⌜ Ready (now plan) (now saved) (site .worker) (site .call) ⌝ }
+    requires { ⌜ Doable (site .place) uses (action .next) ⌝ }
+    ensures { λ r. ⌜ record { turn = r; cells = now (cells .exit) }
+        ≡ turned (now (cells .entry))
+        (perform (cellView (now (plan .entry)) (now (keys .entry)) (site .call))
+        (actionLocal (site .place) (workerSaved (now (plan .entry)) (now (saved .entry)) (site .worker) (site .call))) (site .count)
+        (accessesOf uses) (action .regs) (action .next) (now (cells .entry))) ⌝ }
 {
-    let next = a.next;
-    let regs = a.regs;
+    let next = action.next;
+    let regs = action.regs;
     match next {
-        Next::Go(to) => go_on(to, count, regs),
-        Next::End(outcome) => finish(plan, cells, olds, w, c, count, outcome),
-        Next::Load(x) => load(plan, keys, cells, c, place, count, regs, x, us.first),
-        Next::Store(v) => store(plan, keys, cells, c, place, count, regs, v, us.first),
+        Next::Go(to) => go_on(to, site.count, regs),
+        Next::End(outcome) => finish(plan, cells, saved, site, outcome),
+        Next::Load(x) => load(plan, keys, cells, site, regs, x, uses.first),
+        Next::Store(v) => store(plan, keys, cells, site, regs, v, uses.first),
         Next::Transfer { amount, short } => transfer(
             plan,
             keys,
             cells,
-            olds,
-            w,
-            c,
-            place,
-            count,
+            saved,
+            site,
             regs,
             amount,
             short,
-            us,
+            uses,
         ),
     }
 }

@@ -3,6 +3,7 @@ use crate::Fate;
 use crate::Holding;
 use crate::Reply;
 use crate::Seated;
+use crate::Site;
 use crate::Tested;
 use crate::Turn;
 use crate::held::held;
@@ -18,6 +19,8 @@ use block::Call;
 use block::CallBody;
 use block::Decoded;
 use block::limits::MAX_CODE;
+use block::outcomes::ENDED;
+use block::outcomes::UNKNOWN_FUNCTION;
 use block::record::CALL_BYTES;
 use block::record::HEAD_BYTES;
 use block::record::INSTR_BYTES;
@@ -39,6 +42,7 @@ ghost use mathlib.Core.List.{List};
 ghost use Prim.Native.Nat.{ℕ, _+_, _-_, _*_, _≤_, _<_};
 ghost use lib.Dec.{ltb};
 ghost use lib.ListN.{drop};
+ghost use Rattle.footprint.specs.Plan.{codeLength};
 ghost use Rattle.block.specs.Instruction.{decode, instrBytes};
 ghost use Rattle.block.specs.Limits.{maxCalls, maxCode};
 ghost use Rattle.block.specs.Record.{callBytes, headBytes};
@@ -47,12 +51,7 @@ ghost use Rattle.machine.specs.Step.{stepCall, stepDecoded, stepEntry, stepInst
 ghost use Rattle.machine.specs.Moves.{stepHeld, stepOf};
 ghost use Rattle.machine.specs.declared.Head.{Head};
 ghost use Rattle.moves.specs.Lent.{lent, moved};
-ghost use Rattle.moves.specs.Turn.{localIn, ownOlds, settledBy, settledRun, turned, viewIn, Ready, Placed};
-
-// The outcomes of a call that ends behind its code, and of one whose function is unknown.
-const ENDED: u64 = 0;
-
-const UNKNOWN_FUNCTION: u64 = 1;
+ghost use Rattle.moves.specs.Turn.{localIn, workerSaved, settledBy, settledRun, turned, viewIn, Ready, SeatInRange};
 
 // The length of a call record.
 const RECORD_BYTES: usize = HEAD_BYTES + CALL_BYTES;
@@ -64,34 +63,33 @@ fn step_entry(
     plan: &[u64],
     keys: &[u64],
     cells: &mut [i64],
-    olds: &[i64],
-    w: usize,
-    c: usize,
+    saved: &[i64],
+    worker: usize,
+    call: usize,
     seat: Seat,
-    call: Call,
+    body: Call,
 ) -> Turn
-    requires { ⌜ Ready (now plan) (now olds) w c ⌝ }
+    requires { ⌜ Ready (now plan) (now saved) worker call ⌝ }
     requires { ⌜ seat .place ≤ maxCode ⌝ }
-    ensures { λ r. ⌜ ((block : List ℕ) → record { turn = r; cells = now (cells .exit) } ≡ turned (now (cells .entry)) (stepEntry (viewIn block (now (plan .entry)) (now (keys .entry)) c call) (localIn seat (ownOlds (now (plan .entry)) (now (olds .entry)) w c)) (now (cells .entry)))) ⌝ }
+    ensures { λ r. ⌜ ((block : List ℕ)
+        → record { turn = r; cells = now (cells .exit) }
+        ≡ turned (now (cells .entry))
+        (stepEntry (viewIn block (now (plan .entry)) (now (keys .entry)) call body)
+        (localIn seat (workerSaved (now (plan .entry)) (now (saved .entry)) worker call)) (now (cells .entry)))) ⌝ }
 {
-    if plan_word(plan, c, CODE_LENGTH) == 0 {
+    if plan_word(plan, call, CODE_LENGTH) == 0 {
         return done(UNKNOWN_FUNCTION, seat.count);
     }
     let regs = seat.regs;
-    let uses = entry_uses(call);
-    let action = enter(call, regs);
-    perform(
-        plan,
-        keys,
-        cells,
-        olds,
-        w,
-        c,
-        seat.place,
-        seat.count,
-        uses,
-        action,
-    )
+    let uses = entry_uses(body);
+    let action = enter(body, regs);
+    let site = Site {
+        worker,
+        call,
+        place: seat.place,
+        count: seat.count,
+    };
+    perform(plan, keys, cells, saved, site, uses, action)
 }
 
 // "Else one instruction runs and counts 1, also the one that fails." The instruction is the one of the code at the seat's place.
@@ -101,37 +99,38 @@ fn step_decoded(
     plan: &[u64],
     keys: &[u64],
     cells: &mut [i64],
-    olds: &[i64],
-    w: usize,
-    c: usize,
+    saved: &[i64],
+    worker: usize,
+    call: usize,
     seat: Seat,
-    call: Call,
+    body: Call,
 ) -> Turn
-    requires { ⌜ Ready (now plan) (now olds) w c ⌝ }
+    requires { ⌜ Ready (now plan) (now saved) worker call ⌝ }
     requires { ⌜ (0 < seat .place) × (seat .place ≤ maxCode) ⌝ }
     requires { ⌜ seat .count ≤ maxCode ⌝ }
-    ensures { λ r. ⌜ ((block : List ℕ) → record { turn = r; cells = now (cells .exit) } ≡ turned (now (cells .entry)) (stepDecoded (viewIn block (now (plan .entry)) (now (keys .entry)) c call) (localIn seat (ownOlds (now (plan .entry)) (now (olds .entry)) w c)) (now (cells .entry)) (decode (seat .place - 1) size (drop (instrBytes * (seat .place - 1)) (now (code .entry)))))) ⌝ }
+    ensures { λ r. ⌜ ((block : List ℕ)
+        → record { turn = r; cells = now (cells .exit) }
+        ≡ turned (now (cells .entry))
+        (stepDecoded (viewIn block (now (plan .entry)) (now (keys .entry)) call body)
+        (localIn seat (workerSaved (now (plan .entry)) (now (saved .entry)) worker call)) (now (cells .entry))
+        (decode (seat .place - 1) size (drop (instrBytes * (seat .place - 1)) (now (code .entry)))))) ⌝ }
 {
     let index = seat.place - 1;
     let regs = seat.regs;
-    let acted = act_at(code, INSTR_BYTES * index, index as u16, size, call, regs);
+    let acted = act_at(code, INSTR_BYTES * index, index as u16, size, body, regs);
     let decoded = acted.decoded;
     let Decoded::Valid(i) = decoded else {
         return damaged();
     };
-    let uses = instr_uses(call, i);
-    perform(
-        plan,
-        keys,
-        cells,
-        olds,
-        w,
-        c,
-        seat.place,
-        seat.count + 1,
-        uses,
-        acted.action,
-    )
+    let uses = instr_uses(body, i);
+    let count = seat.count + 1;
+    let site = Site {
+        worker,
+        call,
+        place: seat.place,
+        count,
+    };
+    perform(plan, keys, cells, saved, site, uses, acted.action)
 }
 
 // The code stretch lies in the lent block; the instruction is decoded there.
@@ -140,20 +139,23 @@ fn step_instr(
     plan: &[u64],
     keys: &[u64],
     cells: &mut [i64],
-    olds: &[i64],
-    w: usize,
-    c: usize,
+    saved: &[i64],
+    worker: usize,
+    call: usize,
     seat: Seat,
-    call: Call,
+    body: Call,
 ) -> Turn
-    requires { ⌜ Ready (now plan) (now olds) w c ⌝ }
-    requires { ⌜ (0 < seat .place) × (seat .place < planWord (now plan) c 1) ⌝ }
-    requires { ⌜ planWord (now plan) c 1 ≤ maxCode + 1 ⌝ }
+    requires { ⌜ Ready (now plan) (now saved) worker call ⌝ }
+    requires { ⌜ (0 < seat .place) × (seat .place < planWord (now plan) call codeLength) ⌝ }
+    requires { ⌜ planWord (now plan) call codeLength ≤ maxCode + 1 ⌝ }
     requires { ⌜ seat .count ≤ maxCode ⌝ }
-    ensures { λ r. ⌜ record { turn = r; cells = now (cells .exit) } ≡ turned (now (cells .entry)) (stepInstr (viewIn (now (block .entry)) (now (plan .entry)) (now (keys .entry)) c call) (localIn seat (ownOlds (now (plan .entry)) (now (olds .entry)) w c)) (now (cells .entry))) ⌝ }
+    ensures { λ r. ⌜ record { turn = r; cells = now (cells .exit) }
+        ≡ turned (now (cells .entry))
+        (stepInstr (viewIn (now (block .entry)) (now (plan .entry)) (now (keys .entry)) call body)
+        (localIn seat (workerSaved (now (plan .entry)) (now (saved .entry)) worker call)) (now (cells .entry))) ⌝ }
 {
-    let start = plan_word(plan, c, CODE_START) as usize;
-    let size = plan_word(plan, c, CODE_LENGTH) as usize - 1;
+    let start = plan_word(plan, call, CODE_START) as usize;
+    let size = plan_word(plan, call, CODE_LENGTH) as usize - 1;
     let len = INSTR_BYTES * size;
     if block.len() < len {
         return damaged();
@@ -162,7 +164,18 @@ fn step_instr(
         return damaged();
     }
     let code = code_at(block, start, size);
-    step_decoded(code, size as u16, plan, keys, cells, olds, w, c, seat, call)
+    step_decoded(
+        code,
+        size as u16,
+        plan,
+        keys,
+        cells,
+        saved,
+        worker,
+        call,
+        seat,
+        body,
+    )
 }
 
 // One step of a call. "At place = length: outcome 0."
@@ -171,40 +184,43 @@ fn step_call(
     plan: &[u64],
     keys: &[u64],
     cells: &mut [i64],
-    olds: &[i64],
-    w: usize,
-    c: usize,
+    saved: &[i64],
+    worker: usize,
+    call: usize,
     seat: Seat,
-    call: Call,
+    body: Call,
 ) -> Turn
-    requires { ⌜ Ready (now plan) (now olds) w c ⌝ }
-    requires { ⌜ Placed (now plan) c seat ⌝ }
-    ensures { λ r. ⌜ record { turn = r; cells = now (cells .exit) } ≡ turned (now (cells .entry)) (stepCall (viewIn (now (block .entry)) (now (plan .entry)) (now (keys .entry)) c call) (localIn seat (ownOlds (now (plan .entry)) (now (olds .entry)) w c)) (now (cells .entry))) ⌝ }
+    requires { ⌜ Ready (now plan) (now saved) worker call ⌝ }
+    requires { ⌜ SeatInRange (now plan) call seat ⌝ }
+    ensures { λ r. ⌜ record { turn = r; cells = now (cells .exit) }
+        ≡ turned (now (cells .entry))
+        (stepCall (viewIn (now (block .entry)) (now (plan .entry)) (now (keys .entry)) call body)
+        (localIn seat (workerSaved (now (plan .entry)) (now (saved .entry)) worker call)) (now (cells .entry))) ⌝ }
 {
     if seat.place == 0 {
-        return step_entry(plan, keys, cells, olds, w, c, seat, call);
+        return step_entry(plan, keys, cells, saved, worker, call, seat, body);
     }
-    if seat.place as u64 == plan_word(plan, c, CODE_LENGTH) {
+    if seat.place as u64 == plan_word(plan, call, CODE_LENGTH) {
         return done(ENDED, seat.count);
     }
-    step_instr(block, plan, keys, cells, olds, w, c, seat, call)
+    step_instr(block, plan, keys, cells, saved, worker, call, seat, body)
 }
 
 // The receipt of a finished call: its outcome and its count.
-fn put_receipt(status: &mut [u64], c: usize, outcome: u64, count: u64)
-    requires { ⌜ c < maxCalls ⌝ }
-    ensures { λ r. ⌜ now (status .exit) ≡ withReceipt (now (status .entry)) c outcome count ⌝ }
+fn put_receipt(status: &mut [u64], call: usize, outcome: u64, count: u64)
+    requires { ⌜ call < maxCalls ⌝ }
+    ensures { λ r. ⌜ now (status .exit) ≡ withReceipt (now (status .entry)) call outcome count ⌝ }
 {
-    let at = STATUS_WORDS * c;
+    let at = STATUS_WORDS * call;
     wire::put_word(status, at, FINISHED);
     wire::put_word(status, at + 1, outcome);
     wire::put_word(status, at + 2, count);
 }
 
 // "A finished or cancelled call frees its worker."
-fn settle(seat: Seat, status: &mut [u64], c: usize, turn: Turn) -> Seated
-    requires { ⌜ c < maxCalls ⌝ }
-    ensures { λ r. ⌜ record { seated = r; status = now (status .exit) } ≡ settledBy seat (now (status .entry)) c turn ⌝ }
+fn settle(seat: Seat, status: &mut [u64], call: usize, turn: Turn) -> Seated
+    requires { ⌜ call < maxCalls ⌝ }
+    ensures { λ r. ⌜ record { seated = r; status = now (status .exit) } ≡ settledBy seat (now (status .entry)) call turn ⌝ }
 {
     let fate = turn.fate;
     let regs = turn.regs;
@@ -215,7 +231,7 @@ fn settle(seat: Seat, status: &mut [u64], c: usize, turn: Turn) -> Seated
         },
         Fate::Going(place) => {
             let on = Seat {
-                call: c + 1,
+                call: call + 1,
                 place,
                 count: turn.count,
                 regs,
@@ -226,7 +242,7 @@ fn settle(seat: Seat, status: &mut [u64], c: usize, turn: Turn) -> Seated
             }
         }
         Fate::Over(outcome) => {
-            put_receipt(status, c, outcome, turn.count);
+            put_receipt(status, call, outcome, turn.count);
             Seated {
                 seat: idle_seat(),
                 answer: Answer::Accepted,
@@ -236,11 +252,14 @@ fn settle(seat: Seat, status: &mut [u64], c: usize, turn: Turn) -> Seated
 }
 
 // The place (entry, or 0 to the code's length) and the count.
-fn in_range(plan: &[u64], c: usize, seat: Seat) -> bool
-    requires { ⌜ c < maxCalls ⌝ }
-    ensures { λ r. ⌜ r ≡ (not (ltb (maxCode + 1) (planWord (now (plan .entry)) c 1) || ltb (planWord (now (plan .entry)) c 1) (seat .place)) && not (ltb maxCode (seat .count))) ⌝ }
+fn in_range(plan: &[u64], call: usize, seat: Seat) -> bool
+    requires { ⌜ call < maxCalls ⌝ }
+    ensures { λ r. ⌜ r
+        ≡ (not (ltb (maxCode + 1) (planWord (now (plan .entry)) call codeLength)
+        || ltb (planWord (now (plan .entry)) call codeLength) (seat .place))
+        && not (ltb maxCode (seat .count))) ⌝ }
 {
-    let code = plan_word(plan, c, CODE_LENGTH) as usize;
+    let code = plan_word(plan, call, CODE_LENGTH) as usize;
     if LAST_PLACE < code {
         return false;
     }
@@ -250,43 +269,46 @@ fn in_range(plan: &[u64], c: usize, seat: Seat) -> bool
     seat.count <= MAX_CODE as u64
 }
 
-// Whether the record of call c lies in a block of `len` bytes whose first call record starts at `first`.
-fn has_record(len: usize, first: usize, c: usize) -> bool
-    requires { ⌜ c < maxCalls ⌝ }
-    ensures { λ r. ⌜ r ≡ not (ltb len (first + (headBytes + callBytes) * c + (headBytes + callBytes))) ⌝ }
+// Whether the record of a call lies in a block of `len` bytes whose first call record starts at `start`.
+fn has_record(len: usize, start: usize, call: usize) -> bool
+    requires { ⌜ call < maxCalls ⌝ }
+    ensures { λ r. ⌜ r ≡ not (ltb len (start + (headBytes + callBytes) * call + (headBytes + callBytes))) ⌝ }
 {
-    let end = RECORD_BYTES * c + RECORD_BYTES;
+    let end = RECORD_BYTES * call + RECORD_BYTES;
     if len < end {
         return false;
     }
-    first <= len - end
+    start <= len - end
 }
 
-// A step of the call c that worker w holds, in a run whose first call record starts at `first`.
+// A step of the call that a worker holds, in a run whose first call record starts at `start`.
 fn step_held(
     seat: Seat,
-    first: usize,
+    start: usize,
     block: &[u8],
     plan: &[u64],
     keys: &[u64],
     cells: &mut [i64],
-    olds: &[i64],
-    w: usize,
-    c: usize,
+    saved: &[i64],
+    worker: usize,
+    call: usize,
 ) -> Turn
-    requires { ⌜ Ready (now plan) (now olds) w c ⌝ }
-    ensures { λ r. ⌜ ((head : Head) (status : List ℕ) → seat ≡ seatOf head w → first ≡ head .first → settledRun head (now (plan .entry)) (now (keys .entry)) (now (cells .exit)) status (now (olds .entry)) w c r ≡ stepHeld (now (block .entry)) (lent head (now (plan .entry)) (now (keys .entry)) (now (cells .entry)) status (now (olds .entry))) w c) ⌝ }
+    requires { ⌜ Ready (now plan) (now saved) worker call ⌝ }
+    ensures { λ r. ⌜ ((head : Head) (status : List ℕ) → seat ≡ seatOf head worker → start ≡ head .«first_call»
+        → settledRun head (now (plan .entry)) (now (keys .entry)) (now (cells .exit)) status (now (saved .entry)) worker call r
+        ≡ stepHeld (now (block .entry))
+        (lent head (now (plan .entry)) (now (keys .entry)) (now (cells .entry)) status (now (saved .entry))) worker call) ⌝ }
 {
-    if !in_range(plan, c, seat) {
+    if !in_range(plan, call, seat) {
         return damaged();
     }
-    if !has_record(block.len(), first, c) {
+    if !has_record(block.len(), start, call) {
         return damaged();
     }
-    let CallBody::InRange(call) = call_at(block, first + RECORD_BYTES * c + HEAD_BYTES) else {
+    let CallBody::InRange(body) = call_at(block, start + RECORD_BYTES * call + HEAD_BYTES) else {
         return damaged();
     };
-    step_call(block, plan, keys, cells, olds, w, c, seat, call)
+    step_call(block, plan, keys, cells, saved, worker, call, seat, body)
 }
 
 // STEP(worker) on a lent run and block: the answer and the head, with the cells and the status changed in place.
@@ -297,17 +319,20 @@ pub fn step(
     keys: &[u64],
     cells: &mut [i64],
     status: &mut [u64],
-    olds: &[i64],
+    saved: &[i64],
     worker: usize,
 ) -> Reply
-    ensures { λ r. ⌜ moved (r .answer) (lent (r .head) (now (plan .entry)) (now (keys .entry)) (now (cells .exit)) (now (status .exit)) (now (olds .entry))) ≡ stepOf (now (block .entry)) (lent head (now (plan .entry)) (now (keys .entry)) (now (cells .entry)) (now (status .entry)) (now (olds .entry))) worker ⌝ }
+    ensures { λ r. ⌜ moved (r .answer)
+        (lent (r .head) (now (plan .entry)) (now (keys .entry)) (now (cells .exit)) (now (status .exit)) (now (saved .entry)))
+        ≡ stepOf (now (block .entry))
+        (lent head (now (plan .entry)) (now (keys .entry)) (now (cells .entry)) (now (status .entry)) (now (saved .entry))) worker ⌝ }
 {
     let large = large_enough(
         plan.len(),
         keys.len(),
         cells.len(),
         status.len(),
-        olds.len(),
+        saved.len(),
     );
     if let Tested::Refused(answer) = worker_tested(head.workers, large, worker) {
         return Reply { head, answer };
@@ -316,9 +341,19 @@ pub fn step(
     let seat = next.seats[worker];
     match held(head.calls, seat.call) {
         Holding::Answered(answer) => Reply { head, answer },
-        Holding::Holds(c) => {
-            let turn = step_held(seat, head.first, block, plan, keys, cells, olds, worker, c);
-            let after = settle(seat, status, c, turn);
+        Holding::Holds(call) => {
+            let turn = step_held(
+                seat,
+                head.first_call,
+                block,
+                plan,
+                keys,
+                cells,
+                saved,
+                worker,
+                call,
+            );
+            let after = settle(seat, status, call, turn);
             let answer = after.answer;
             let seat = after.seat;
             next.seats[worker] = seat;

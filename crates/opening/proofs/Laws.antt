@@ -1,4 +1,4 @@
--- What `open` answers, over plain values: the tests before the block is read, and a block that is prepared or refused. Assumes nothing.
+-- What `open` answers, over plain values: the tests before the block is read, and a block that is prepared or refused.
 use mathlib.Core.Path.{_≡_, refl, sym, ap, _∙_}
 use mathlib.Core.Bool.{Bool, true, false, _||_, not}
 use mathlib.Core.List.{List}
@@ -8,7 +8,7 @@ use lib.Dec.{eqb, leb, ltb}
 use lib.IntN.{ℤ, pos}
 use lib.ListN.{length}
 use Rattle.arith.specs.Choice.{if_then_else_}
-use Rattle.arith.specs.ChoiceLaws.{both}
+use Rattle.arith.proofs.ChoiceLaws.{both}
 use Rattle.wire.specs.Bytes.{repeated}
 use Rattle.block.specs.Limits.{maxWorkers}
 use Rattle.block.specs.Refusal.{verdictNumber, verdictOffset}
@@ -28,7 +28,7 @@ use Rattle.machine.specs.Opening as machine
 use Rattle.machine.specs.Opening.{headOf, refusedRun, openPrepared, openingOf}
 use Rattle.machine.specs.Run.{Sizes, fixedSizes, roomIn, largeEnough}
 use Rattle.opening.specs.declared.Opened.{Opened}
-use Rattle.opening.specs.Opened.{sizesFor, opening, testedFor, openedBy, noneOf, OpenedAs}
+use Rattle.opening.specs.Opened.{sizesFor, openingWith, testedFor, openedBy, openedNone, OpenedAs}
 
 -- ---- the tests before the block is read
 
@@ -94,25 +94,25 @@ large-tested false workers e = let z : _≡_ {A = ℕ} 0 1 = cc in absurd (omega
 prepared-large : (s : Sizes) (file : List ℕ) → largeEnough s ≡ true → preparedOf (roomIn s) file ≡ preparedIn s file
 unfolding largeEnough preparedOf
 prepared-large s file large =
-    rw (both (roomEnough (roomIn s)) (leb (fixedSizes .status) (s .status)) (both _ (leb (fixedSizes .olds) (s .olds)) large .0) .0)
+    rw (both (roomEnough (roomIn s)) (leb (fixedSizes .status) (s .status)) (both _ (leb (fixedSizes .saved) (s .saved)) large .0) .0)
 
 -- A head and five lists that are equal, part by part.
 same-run : (v : Verdict) (w c n f c′ n′ f′ : ℕ) (x x′ y y′ : List ℕ) (z z′ : List ℤ) (t t′ : List ℕ) (o o′ : List ℤ)
     → c ≡ c′ → n ≡ n′ → f ≡ f′ → x ≡ x′ → y ≡ y′ → z ≡ z′ → t ≡ t′ → o ≡ o′
-    → opening (record { verdict = v; head = headOf w c n f }) x y z t o ≡ opening (record { verdict = v; head = headOf w c′ n′ f′ }) x′ y′ z′ t′ o′
+    → openingWith (record { verdict = v; head = headOf w c n f }) x y z t o ≡ openingWith (record { verdict = v; head = headOf w c′ n′ f′ }) x′ y′ z′ t′ o′
 same-run v w c n f c′ n′ f′ x x′ y y′ z z′ t t′ o o′ e₁ e₂ e₃ e₄ e₅ e₆ e₇ e₈ = rw (e₁, e₂, e₃, e₄, e₅, e₆, e₇, e₈)
 
-module _ (s : Sizes) (workers : ℕ) (p : Prepared) (plan keys : List ℕ) (cells : List ℤ) (status : List ℕ) (olds : List ℤ)
+module _ (s : Sizes) (workers : ℕ) (p : Prepared) (plan keys : List ℕ) (cells : List ℤ) (status : List ℕ) (saved : List ℤ)
     (q : footprint.Prepared) (e : preparing p plan keys cells ≡ q) (zero : Zeroed (roomOf (s .plan) (s .keys) (s .cells)) q)
-    (f : status ≡ repeated (s .status) 0) (g : olds ≡ repeated (s .olds) (pos 0)) where
-  by-verdict : (v : Verdict) → p .verdict ≡ v → opening (openedBy p workers v) plan keys cells status olds ≡ openPrepared s workers q v
+    (f : status ≡ repeated (s .status) 0) (g : saved ≡ repeated (s .saved) (pos 0)) where
+  by-verdict : (v : Verdict) → p .verdict ≡ v → openingWith (openedBy p workers v) plan keys cells status saved ≡ openPrepared s workers q v
   unfolding openedBy openPrepared refusedRun unprepared
   by-verdict verdict.Accepted h =
-      same-run verdict.Accepted workers (p .calls) (p .cells) (p .first) (q .calls) (q .cells) (q .first) plan (q .plan) keys (q .keys) cells (q .values)
-      status (repeated (s .status) 0) olds (repeated (s .olds) (pos 0))
+      same-run verdict.Accepted workers (p .calls) (p .cells) (p .«first_call») (q .calls) (q .cells) (q .firstCall) plan (q .plan) keys (q .keys) cells (q .values)
+      status (repeated (s .status) 0) saved (repeated (s .saved) (pos 0))
       (ap (λ (x : footprint.Prepared). x .calls) e)
       (ap (λ (x : footprint.Prepared). x .cells) e)
-      (ap (λ (x : footprint.Prepared). x .first) e)
+      (ap (λ (x : footprint.Prepared). x .firstCall) e)
       (ap (λ (x : footprint.Prepared). x .plan) e)
       (ap (λ (x : footprint.Prepared). x .keys) e)
       (ap (λ (x : footprint.Prepared). x .values) e)
@@ -121,7 +121,7 @@ module _ (s : Sizes) (workers : ℕ) (p : Prepared) (plan keys : List ℕ) (cell
   by-verdict (verdict.Refused why) h =
       let none = e ∙ zero why (sym (ap (λ (x : footprint.Prepared). x .verdict) e) ∙ h) in
       same-run (verdict.Refused why) 0 0 0 0 0 0 0 plan (repeated (s .plan) 0) keys (repeated (s .keys) 0) cells (repeated (s .cells) (pos 0))
-      status (repeated (s .status) 0) olds (repeated (s .olds) (pos 0))
+      status (repeated (s .status) 0) saved (repeated (s .saved) (pos 0))
       refl
       refl
       refl
@@ -131,58 +131,58 @@ module _ (s : Sizes) (workers : ℕ) (p : Prepared) (plan keys : List ℕ) (cell
       f
       g
 
-  prepared-run : opening (openedBy p workers (p .verdict)) plan keys cells status olds ≡ openPrepared s workers q (q .verdict)
+  prepared-run : openingWith (openedBy p workers (p .verdict)) plan keys cells status saved ≡ openPrepared s workers q (q .verdict)
   prepared-run = by-verdict (p .verdict) refl ∙ ap (openPrepared s workers q) (ap (λ (x : footprint.Prepared). x .verdict) e)
 
 -- ---- the answer, in cleared buffers
 
-pub record Cleared (s : Sizes) (plan keys : List ℕ) (cells : List ℤ) (status : List ℕ) (olds : List ℤ) : Type 0 where
+pub record BuffersCleared (s : Sizes) (plan keys : List ℕ) (cells : List ℤ) (status : List ℕ) (saved : List ℤ) : Type 0 where
   pub plan-kept : length plan ≡ s .plan
   pub keys-kept : length keys ≡ s .keys
   pub cells-kept : length cells ≡ s .cells
   pub status-kept : length status ≡ s .status
-  pub olds-kept : length olds ≡ s .olds
+  pub saved-kept : length saved ≡ s .saved
   pub plan-zero : plan ≡ repeated (s .plan) 0
   pub keys-zero : keys ≡ repeated (s .keys) 0
   pub cells-zero : cells ≡ repeated (s .cells) (pos 0)
   pub status-zero : status ≡ repeated (s .status) 0
-  pub olds-zero : olds ≡ repeated (s .olds) (pos 0)
+  pub saved-zero : saved ≡ repeated (s .saved) (pos 0)
 
-module _ (n m k t o : ℕ) (file : List ℕ) (workers : ℕ) (plan keys : List ℕ) (cells : List ℤ) (status : List ℕ) (olds : List ℤ)
-    (z : Cleared (sizesFor n m k t o) plan keys cells status olds) (large : Bool)
-    (l : large ≡ largeEnough (sizesFor (length plan) (length keys) (length cells) (length status) (length olds)))
+module _ (n m k t o : ℕ) (file : List ℕ) (workers : ℕ) (plan keys : List ℕ) (cells : List ℤ) (status : List ℕ) (saved : List ℤ)
+    (z : BuffersCleared (sizesFor n m k t o) plan keys cells status saved) (large : Bool)
+    (l : large ≡ largeEnough (sizesFor (length plan) (length keys) (length cells) (length status) (length saved)))
     (v : Verdict) (tested : v ≡ testedFor large workers) where
   tested-as : v ≡ testedFor (largeEnough (sizesFor n m k t o)) workers
   tested-as =
       tested
       ∙ ap (λ (b : Bool). testedFor b workers)
-      (l ∙ ap largeEnough (same n m k t o (length plan) (length keys) (length cells) (length status) (length olds) (z .plan-kept) (z .keys-kept) (z .cells-kept) (z .status-kept) (z .olds-kept)))
+      (l ∙ ap largeEnough (same n m k t o (length plan) (length keys) (length cells) (length status) (length saved) (z .plan-kept) (z .keys-kept) (z .cells-kept) (z .status-kept) (z .saved-kept)))
     where
       same : (n m k t o n′ m′ k′ t′ o′ : ℕ) → n′ ≡ n → m′ ≡ m → k′ ≡ k → t′ ≡ t → o′ ≡ o → sizesFor n′ m′ k′ t′ o′ ≡ sizesFor n m k t o
       same n m k t o n′ m′ k′ t′ o′ a b c d e = rw (a, b, c, d, e)
 
   -- 20 and 13.
-  pub open-refused : (why : Refusal) (r : Opened) → v ≡ verdict.Refused why → r ≡ noneOf why
-      → opening r plan keys cells status olds ≡ openingOf (sizesFor n m k t o) file workers
+  pub open-refused : (why : Refusal) (r : Opened) → v ≡ verdict.Refused why → r ≡ openedNone why
+      → openingWith r plan keys cells status saved ≡ openingOf (sizesFor n m k t o) file workers
   unfolding refusedRun
   open-refused why r h made =
-      ap (λ (x : Opened). opening x plan keys cells status olds) made
-      ∙ same-run (verdict.Refused why) 0 0 0 0 0 0 0 plan (repeated n 0) keys (repeated m 0) cells (repeated k (pos 0)) status (repeated t 0) olds (repeated o (pos 0))
-      refl refl refl (z .plan-zero) (z .keys-zero) (z .cells-zero) (z .status-zero) (z .olds-zero)
+      ap (λ (x : Opened). openingWith x plan keys cells status saved) made
+      ∙ same-run (verdict.Refused why) 0 0 0 0 0 0 0 plan (repeated n 0) keys (repeated m 0) cells (repeated k (pos 0)) status (repeated t 0) saved (repeated o (pos 0))
+      refl refl refl (z .plan-zero) (z .keys-zero) (z .cells-zero) (z .status-zero) (z .saved-zero)
       ∙ sym (opening-refused (sizesFor n m k t o) file workers why (sym tested-as ∙ h))
 
   -- 1 to 12, and the accepted block.
   pub open-passed : (p : Prepared) (plan′ keys′ : List ℕ) (cells′ : List ℤ) (r : Opened) → v ≡ verdict.Accepted
       → preparing p plan′ keys′ cells′ ≡ preparedOf (roomOf (length plan) (length keys) (length cells)) file
       → r ≡ openedBy p workers (p .verdict)
-      → opening r plan′ keys′ cells′ status olds ≡ openingOf (sizesFor n m k t o) file workers
+      → openingWith r plan′ keys′ cells′ status saved ≡ openingOf (sizesFor n m k t o) file workers
   open-passed p plan′ keys′ cells′ r h e made =
-      ap (λ (x : Opened). opening x plan′ keys′ cells′ status olds) made
-      ∙ prepared-run (sizesFor n m k t o) workers p plan′ keys′ cells′ status olds (preparedIn (sizesFor n m k t o) file)
+      ap (λ (x : Opened). openingWith x plan′ keys′ cells′ status saved) made
+      ∙ prepared-run (sizesFor n m k t o) workers p plan′ keys′ cells′ status saved (preparedIn (sizesFor n m k t o) file)
       (e
       ∙ ap (λ (x : Room). preparedOf x file) (same n m k (length plan) (length keys) (length cells) (z .plan-kept) (z .keys-kept) (z .cells-kept))
       ∙ prepared-large (sizesFor n m k t o) file large-is)
-      (read-zero (roomOf n m k) file (readBlock file)) (z .status-zero) (z .olds-zero)
+      (read-zero (roomOf n m k) file (readBlock file)) (z .status-zero) (z .saved-zero)
       ∙ sym (opening-passed (sizesFor n m k t o) file workers passed)
     where
       passed : testedFor (largeEnough (sizesFor n m k t o)) workers ≡ verdict.Accepted
@@ -195,8 +195,8 @@ module _ (n m k t o : ℕ) (file : List ℕ) (workers : ℕ) (plan keys : List �
       same n m k n′ m′ k′ a b c = rw (a, b, c)
 
 -- Equal answers have equal numbers and offsets.
-pub opened-as : {r : Opened} {plan keys : List ℕ} {cells : List ℤ} {status : List ℕ} {olds : List ℤ} {o : machine.Opened}
-    → opening r plan keys cells status olds ≡ o → OpenedAs r plan keys cells status olds o
+pub opened-as : {r : Opened} {plan keys : List ℕ} {cells : List ℤ} {status : List ℕ} {saved : List ℤ} {o : machine.Opened}
+    → openingWith r plan keys cells status saved ≡ o → OpenedAs r plan keys cells status saved o
 opened-as e =
     record {
       same = e;

@@ -1,4 +1,4 @@
--- What `open` answers, put together with the buffers that it leaves. Assumes nothing.
+-- What `open` answers, put together with the buffers that it leaves.
 use mathlib.Core.Path.{_≡_}
 use mathlib.Core.Bool.{Bool, _||_, not}
 use mathlib.Core.List.{List}
@@ -18,26 +18,26 @@ use Rattle.machine.specs.Opening.{headOf}
 use Rattle.machine.specs.Run.{Sizes}
 use Rattle.opening.specs.declared.Opened.{Opened}
 
-abbrev pub sizesFor : (plan keys cells status olds : ℕ) → Sizes
-sizesFor plan keys cells status olds = record { plan = plan; keys = keys; cells = cells; status = status; olds = olds }
+abbrev pub sizesFor : (plan keys cells status saved : ℕ) → Sizes
+sizesFor plan keys cells status saved = record { plan = plan; keys = keys; cells = cells; status = status; saved = saved }
 
 -- An answer with the buffers.
-abbrev pub opening : Opened → List ℕ → List ℕ → List ℤ → List ℕ → List ℤ → machine.Opened
-opening r plan keys cells status olds =
+abbrev pub openingWith : Opened → List ℕ → List ℕ → List ℤ → List ℕ → List ℤ → machine.Opened
+openingWith r plan keys cells status saved =
     record {
       answer = r .verdict;
-      run = record { head = r .head; plan = plan; keys = keys; cells = cells; status = status; olds = olds };
+      run = record { head = r .head; plan = plan; keys = keys; cells = cells; status = status; saved = saved };
     }
 
 -- The answer of a refusal.
-abbrev pub noneOf : Refusal → Opened
-noneOf why = record { verdict = verdict.Refused why; head = headOf 0 0 0 0 }
+abbrev pub openedNone : Refusal → Opened
+openedNone why = record { verdict = verdict.Refused why; head = headOf 0 0 0 0 }
 
 -- The answer of a block that is prepared.
 unfoldable pub openedBy : Prepared → ℕ → Verdict → Opened
-openedBy p workers (verdict.Refused why) = noneOf why
+openedBy p workers (verdict.Refused why) = openedNone why
 openedBy p workers verdict.Accepted =
-    record { verdict = verdict.Accepted; head = headOf workers (p .calls) (p .cells) (p .first) }
+    record { verdict = verdict.Accepted; head = headOf workers (p .calls) (p .cells) (p .«first_call») }
 
 -- "20 (below; here with offset 0 and buffers zero), 13": what is tested before the block is read.
 unfoldable pub testedFor : (large : Bool) → (workers : ℕ) → Verdict
@@ -49,7 +49,7 @@ testedFor large workers =
     else verdict.Accepted
 
 -- The answer and the buffers are the definition's, and so are the verdict's number and offset.
-pub record OpenedAs (r : Opened) (plan keys : List ℕ) (cells : List ℤ) (status : List ℕ) (olds : List ℤ) (o : machine.Opened) : Type 0 where
-  pub same : opening r plan keys cells status olds ≡ o
+pub record OpenedAs (r : Opened) (plan keys : List ℕ) (cells : List ℤ) (status : List ℕ) (saved : List ℤ) (o : machine.Opened) : Type 0 where
+  pub same : openingWith r plan keys cells status saved ≡ o
   pub number : verdictNumber (r .verdict) ≡ verdictNumber (o .answer)
   pub offset : verdictOffset (r .verdict) ≡ verdictOffset (o .answer)

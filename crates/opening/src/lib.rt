@@ -11,7 +11,7 @@ ghost use lib.IntN.{pos};
 ghost use lib.ListN.{length};
 ghost use Rattle.wire.specs.Bytes.{repeated};
 ghost use Rattle.machine.specs.Opening.{headOf, openingOf};
-ghost use Rattle.opening.specs.Opened.{sizesFor, OpenedAs, testedFor, openedBy, noneOf};
+ghost use Rattle.opening.specs.Opened.{sizesFor, OpenedAs, testedFor, openedBy, openedNone};
 
 // What a block is opened to: its verdict, and the head of its run, all zero if it is refused.
 pub struct Opened {
@@ -20,8 +20,8 @@ pub struct Opened {
 }
 
 // A head whose workers hold no call.
-fn idle_head(workers: usize, calls: usize, cells: usize, first: usize) -> Head
-    ensures { λ r. ⌜ r ≡ headOf workers calls cells first ⌝ }
+fn idle_head(workers: usize, calls: usize, cells: usize, start: usize) -> Head
+    ensures { λ r. ⌜ r ≡ headOf workers calls cells start ⌝ }
 {
     let seat = Seat {
         call: 0,
@@ -33,14 +33,14 @@ fn idle_head(workers: usize, calls: usize, cells: usize, first: usize) -> Head
         workers,
         calls,
         cells,
-        first,
+        first_call: start,
         seats: [seat; MAX_WORKERS],
     }
 }
 
 // What is answered of a refused block.
 fn refused(why: Refusal) -> Opened
-    ensures { λ r. ⌜ r ≡ noneOf why ⌝ }
+    ensures { λ r. ⌜ r ≡ openedNone why ⌝ }
 {
     Opened {
         verdict: Verdict::Refused(why),
@@ -57,7 +57,7 @@ fn answered(p: Prepared, workers: usize) -> Opened
         Verdict::Refused(why) => refused(why),
         Verdict::Accepted => Opened {
             verdict: Verdict::Accepted,
-            head: idle_head(workers, p.calls, p.cells, p.first),
+            head: idle_head(workers, p.calls, p.cells, p.first_call),
         },
     }
 }
@@ -79,12 +79,12 @@ fn tested(large: bool, workers: usize) -> Verdict
 }
 
 // The status of the calls and the old values become zero.
-fn clear_states(status: &mut [u64], olds: &mut [i64])
+fn clear_states(status: &mut [u64], saved: &mut [i64])
     ensures { λ r. ⌜ now (status .exit) ≡ repeated (length (now (status .entry))) 0 ⌝ }
-    ensures { λ r. ⌜ now (olds .exit) ≡ repeated (length (now (olds .entry))) (pos 0) ⌝ }
+    ensures { λ r. ⌜ now (saved .exit) ≡ repeated (length (now (saved .entry))) (pos 0) ⌝ }
 {
     wire::clear_words(status);
-    wire::clear_values(olds);
+    wire::clear_values(saved);
 }
 
 // All five buffers become zero.
@@ -93,18 +93,18 @@ fn clear_all(
     keys: &mut [u64],
     cells: &mut [i64],
     status: &mut [u64],
-    olds: &mut [i64],
+    saved: &mut [i64],
 )
     ensures { λ r. ⌜ now (plan .exit) ≡ repeated (length (now (plan .entry))) 0 ⌝ }
     ensures { λ r. ⌜ now (keys .exit) ≡ repeated (length (now (keys .entry))) 0 ⌝ }
     ensures { λ r. ⌜ now (cells .exit) ≡ repeated (length (now (cells .entry))) (pos 0) ⌝ }
     ensures { λ r. ⌜ now (status .exit) ≡ repeated (length (now (status .entry))) 0 ⌝ }
-    ensures { λ r. ⌜ now (olds .exit) ≡ repeated (length (now (olds .entry))) (pos 0) ⌝ }
+    ensures { λ r. ⌜ now (saved .exit) ≡ repeated (length (now (saved .entry))) (pos 0) ⌝ }
 {
     wire::clear_words(plan);
     wire::clear_words(keys);
     wire::clear_values(cells);
-    clear_states(status, olds);
+    clear_states(status, saved);
 }
 
 // The run of a block for 1 to 8 workers, every call waiting: 20 if a buffer is too short, then 13, then 1 to 12. The head and the buffers
@@ -116,17 +116,20 @@ pub fn open(
     keys: &mut [u64],
     cells: &mut [i64],
     status: &mut [u64],
-    olds: &mut [i64],
+    saved: &mut [i64],
 ) -> Opened
-    ensures { λ r. ⌜ OpenedAs r (now (plan .exit)) (now (keys .exit)) (now (cells .exit)) (now (status .exit)) (now (olds .exit)) (openingOf (sizesFor (length (now (plan .entry))) (length (now (keys .entry))) (length (now (cells .entry))) (length (now (status .entry))) (length (now (olds .entry)))) (now (file .entry)) workers) ⌝ }
+    ensures { λ r. ⌜ OpenedAs r (now (plan .exit)) (now (keys .exit)) (now (cells .exit)) (now (status .exit)) (now (saved .exit))
+        (openingOf
+        (sizesFor (length (now (plan .entry))) (length (now (keys .entry))) (length (now (cells .entry))) (length (now (status .entry)))
+        (length (now (saved .entry)))) (now (file .entry)) workers) ⌝ }
 {
-    clear_all(plan, keys, cells, status, olds);
+    clear_all(plan, keys, cells, status, saved);
     let large = large_enough(
         plan.len(),
         keys.len(),
         cells.len(),
         status.len(),
-        olds.len(),
+        saved.len(),
     );
     match tested(large, workers) {
         Verdict::Refused(why) => refused(why),

@@ -1,4 +1,4 @@
--- A whole line played, its answer written, over plain variables. Assumes nothing.
+-- A whole line played, its answer written, over plain variables.
 use mathlib.Core.Path.{_≡_, refl, sym, ap, _∙_}
 use mathlib.Core.Bool.{false}
 use mathlib.Core.List.{List, [], _∷_}
@@ -21,7 +21,7 @@ use Rattle.console.specs.Register.{answerText, nextNumber, afterMove, playMove,
 use Rattle.console.specs.declared.Line.{Line}
 use Rattle.console.specs.declared.Line.the-variants.{Empty, Named, Spaced, First, Between, Second, Malformed}
 use Rattle.console.proofs.Line
-use Rattle.play.specs.Shown.{Shown, begun, shown, told}
+use Rattle.play.specs.Shown.{Shown, freshSession, shown, shownFrom}
 
 -- An accepted move has no text, every other answer the line of a refused move.
 pub answer-none : (out : List ℕ) (from line : ℕ) {n number : ℕ} → n ≡ number → n ≡ 0 → Written out out from from (answerText line number)
@@ -41,21 +41,21 @@ answer-some out after from end line {n} e f w = rw (sym e, ← some-text line n 
 module _ (block : List ℕ) (number : ℕ) (line : Line) (run : Run) (out after : List ℕ) (from end : ℕ) where
   -- A line in no such form.
   pub line-none : none ≡ lineMove line → {next : ℕ} → next ≡ nextNumber number → {left : Run} → left ≡ run → Written out after from end (refusedText number 0)
-      → told next Empty left after end ≡ shown out from (playLine block (begun number line run))
+      → shownFrom next Empty left after end ≡ shown out from (playLine block (freshSession number line run))
   unfolding playMove
   line-none e n h w =
-      (λ i. told (n i) Empty (h i) (w .same i) (w .end i))
-      ∙ ap (λ (m : Option Move). shown out from (playMove block (begun number line run) m)) e
+      (λ i. shownFrom (n i) Empty (h i) (w .same i) (w .end i))
+      ∙ ap (λ (m : Option Move). shown out from (playMove block (freshSession number line run) m)) e
 
   -- A line that names a move.
   pub line-some : (m : Move) → some m ≡ lineMove line → {next : ℕ} → next ≡ nextNumber number → {answer : Answer} {left : Run} → moved answer left ≡ moveOf block run m
       → Written out after from end (answerText number (answerNumber answer))
-      → told next Empty left after end ≡ shown out from (playLine block (begun number line run))
+      → shownFrom next Empty left after end ≡ shown out from (playLine block (freshSession number line run))
   unfolding playMove
   line-some m e n {answer} {left} made w =
-      (λ i. told (n i) Empty left (w .same i) (w .end i))
-      ∙ ap (λ (r : Moved). shown out from (afterMove (begun number line run) r)) made
-      ∙ ap (λ (o : Option Move). shown out from (playMove block (begun number line run) o)) e
+      (λ i. shownFrom (n i) Empty left (w .same i) (w .end i))
+      ∙ ap (λ (r : Moved). shown out from (afterMove (freshSession number line run) r)) made
+      ∙ ap (λ (o : Option Move). shown out from (playMove block (freshSession number line run) o)) e
 
 -- At the input's end a line that is not empty is played; the others stand in the order of the type.
 abbrev some-read : List ℕ
@@ -73,11 +73,11 @@ not-empty Malformed h = refl
 
 -- An empty rest is no line.
 pub end-empty : (block : List ℕ) (number : ℕ) (line : Line) (run : Run) (out : List ℕ) → line ≡ Empty
-    → told number line run out 0 ≡ shown out 0 (playEnd block (begun number line run))
+    → shownFrom number line run out 0 ≡ shown out 0 (playEnd block (freshSession number line run))
 unfolding playEnd isEmpty stored
 end-empty block number line run out e = rw e refl
 
 pub end-line : (block : List ℕ) (number : ℕ) (line : Line) (run : Run) (out : List ℕ) → OneOf some-read (tagOf Line.the-type line)
-    → {w : Shown} → w ≡ shown out 0 (playLine block (begun number line run)) → w ≡ shown out 0 (playEnd block (begun number line run))
+    → {w : Shown} → w ≡ shown out 0 (playLine block (freshSession number line run)) → w ≡ shown out 0 (playEnd block (freshSession number line run))
 unfolding playEnd
 end-line block number line run out h e = rw (not-empty line h) e

@@ -1,20 +1,21 @@
--- How long the text of a close can be: a line for each cell and each receipt. Assumes nothing.
-use mathlib.Core.Path.{_≡_, refl, sym, ap, _∙_}
+-- How long the text of a close can be: a line for each cell and each receipt.
+use mathlib.Core.Path.{_≡_, ap, _∙_}
 use mathlib.Core.Bool.{Bool, true, false, _||_, not}
-use mathlib.Core.List.{List, [], _∷_, _++_, append-assoc, append-nil}
-use Prim.Native.Nat.{ℕ, zero, suc, _+_, _*_, _^_, _≤_, _<_}
+use mathlib.Core.List.{List, [], _∷_, _++_, append-assoc}
+use Prim.Native.Nat.{ℕ, zero, suc, _+_, _*_, _≤_, _<_}
 use native.Mathlib.Omega.{arith}
-use lib.Dec.{eqb, leb, ltb}
+use lib.Dec.{eqb, ltb}
 use lib.IntN.{ℤ}
-use lib.ListN.{length, drop, take, length-append, length-replicate}
+use lib.ListN.{length, drop, length-append}
 use lib.Seq.{drop-append-seam, take-append-seam}
 use borrow.Author.Tests.{ltb-false}
+use Rattle.block.proofs.ContentsLaws.{head-length, head-kind, head-behind}
+use Rattle.text.proofs.TextSizes.{line-fits}
 use Rattle.arith.specs.Choice.{if_then_else_}
-use Rattle.arith.specs.ChoiceLaws.{if-all, neither}
+use Rattle.arith.proofs.ChoiceLaws.{if-all, neither}
 use Rattle.arith.specs.Exact.{signed, unsigned}
-use Rattle.wire.specs.Bytes.{number, readLe, bytesOf, stored, repeated}
-use Rattle.wire.specs.Laws.{number-bytesOf, stored-inside}
-use Rattle.wire.specs.Decimal.{decimal, parts}
+use Rattle.wire.specs.Bytes.{number, readLe, bytesOf, repeated}
+use Rattle.wire.proofs.BytesLaws.{stored-inside}
 use Rattle.block.specs.Limits.{maxCalls, maxKeys}
 use Rattle.block.specs.Record.{recordOf, headBytes, cellKind, receiptKind, endKind}
 use Rattle.machine.specs.Run.{Run, sizesOf, largeEnough, statusWord}
@@ -22,10 +23,7 @@ use Rattle.machine.specs.Step.{cellAt}
 use Rattle.machine.specs.Answer.{answerNumber}
 use Rattle.machine.specs.declared.Answer.{Answer}
 use Rattle.text.specs.Lines.{refusedText}
-use Rattle.text.proofs.Laws.{digits-length}
-use Rattle.sheet.specs.Sheet.{Closed, keyHigh, keyLow, keyBytes, cellRecords, receiptRecords, sheetBytes, statesAllowed, allFinished, balancesAllowed, receiptsAllowed, unwritten, filled, writtenIf, sheetOf}
-use Rattle.sheet.specs.declared.Closing.{Closing}
-use Rattle.sheet.specs.declared.Closing.the-variants.{Written, Refused}
+use Rattle.sheet.specs.Sheet.{Closed, keyHigh, keyLow, keyBytes, cellRecords, receiptRecords, sheetBytes, statesAllowed, allFinished, balancesAllowed, receiptsAllowed, unwritten, writtenIf, sheetOf}
 use Rattle.console.specs.Text.{cellLine, receiptLine, recordsText, sheetText}
 use Rattle.console.specs.Register.{closingText, closeRun, maxSheet}
 use Rattle.play.specs.Printed.{maxRecordText, maxCloseText}
@@ -33,21 +31,12 @@ use Rattle.play.proofs.TextLaws.{cell-short, receipt-short}
 
 -- ---- one record in front of others
 
-module _ (kind : ℕ) (body more : List ℕ) (short : length body < 65536) where
-  head-size : number 2 (recordOf kind body ++ more) ≡ length body
-  unfolding bytesOf
-  head-size = number-bytesOf 2 (length body) _ short
-
-  head-kind : kind < 65536 → readLe 2 (recordOf kind body ++ more) 2 ≡ kind
-  unfolding bytesOf
-  head-kind h = number-bytesOf 2 kind _ h
-
-  head-body : drop headBytes (recordOf kind body ++ more) ≡ body ++ more
-  unfolding bytesOf
-  head-body = refl
-
-  head-rest : drop (number 2 (recordOf kind body ++ more)) (drop headBytes (recordOf kind body ++ more)) ≡ more
-  head-rest = ap (λ (n : ℕ). drop n (drop headBytes (recordOf kind body ++ more))) head-size ∙ ap (drop (length body)) head-body ∙ drop-append-seam body more
+-- What is left behind it.
+head-rest : (kind : ℕ) (body more : List ℕ) → length body < 65536
+    → drop (number 2 (recordOf kind body ++ more)) (drop headBytes (recordOf kind body ++ more)) ≡ more
+head-rest kind body more short =
+    ap (λ (n : ℕ). drop n (drop headBytes (recordOf kind body ++ more))) (head-length kind body more short)
+    ∙ ap (drop (length body)) (head-behind kind body more) ∙ drop-append-seam body more
 
 -- A line is short, and the text of what is left is no longer than said.
 cell-front : (turns call : ℕ) (body more : List ℕ) (n : ℕ) → length body < 65536 → ((t : ℕ) → length (recordsText t call more) ≤ n)
@@ -57,7 +46,7 @@ cell-front zero call body more n short rest = omega arith
 cell-front (suc turns) call body more n short rest =
     let s : List ℕ = recordOf cellKind body ++ more in
     let b : List ℕ = drop headBytes s in
-    let e : eqb (readLe 2 s 2) cellKind ≡ true = ap (λ (k : ℕ). eqb k cellKind) (head-kind cellKind body more short (omega arith)) in
+    let e : eqb (readLe 2 s 2) cellKind ≡ true = ap (λ (k : ℕ). eqb k cellKind) (head-kind cellKind body more (omega arith)) in
     let line : length (cellLine b) ≤ maxRecordText = cell-short (number 2 b) (readLe 2 b 2) (readLe 4 b 4) (readLe 4 b 8) (signed 64 (readLe 8 b 12)) in
     let left : length (recordsText turns call (drop (number 2 s) b)) ≤ n = rw (head-rest cellKind body more short) (rest turns) in
     rw (e, recordsText) (omega (arith, length-append (cellLine b) (recordsText turns call (drop (number 2 s) b))))
@@ -69,7 +58,7 @@ receipt-front zero call body more n short rest = omega arith
 receipt-front (suc turns) call body more n short rest =
     let s : List ℕ = recordOf receiptKind body ++ more in
     let b : List ℕ = drop headBytes s in
-    let k : readLe 2 s 2 ≡ receiptKind = head-kind receiptKind body more short (omega arith) in
+    let k : readLe 2 s 2 ≡ receiptKind = head-kind receiptKind body more (omega arith) in
     let e : eqb (readLe 2 s 2) cellKind ≡ false = ap (λ (k : ℕ). eqb k cellKind) k in
     let f : eqb (readLe 2 s 2) receiptKind ≡ true = ap (λ (k : ℕ). eqb k receiptKind) k in
     let line : length (receiptLine call b) ≤ maxRecordText = receipt-short call (number 2 b) (readLe 2 b 2) in
@@ -141,11 +130,8 @@ sheet-short r calls cells =
 -- ---- the close
 
 refused-short : (line n : ℕ) → length (refusedText line n) ≤ maxCloseText
-unfolding parts
 refused-short line n =
-    let a : length (decimal line) ≤ 20 = digits-length 20 line in
-    let b : length (decimal n) ≤ 20 = digits-length 20 n in
-    simp length-append (omega arith)
+    let fits : length (refusedText line n) ≤ 44 = line-fits 114 (line ∷ n ∷ []) in omega arith
 
 abbrev Short : Closed → Type 0
 Short c = length (closingText c (c .answer)) ≤ maxCloseText

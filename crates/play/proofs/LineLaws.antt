@@ -1,4 +1,4 @@
--- The tests of a digit, over plain variables. Assumes nothing.
+-- The tests of a digit, over plain variables.
 use mathlib.Core.Path.{_≡_, refl, sym, _∙_}
 use mathlib.Core.Bool.{Bool, true, false, _&&_, not}
 use Prim.Native.Nat.{ℕ, _+_, _≤_, _<_}

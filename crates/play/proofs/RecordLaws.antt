@@ -1,4 +1,4 @@
--- The records of a sheet as lines, one after another, over plain variables. Assumes nothing.
+-- The records of a sheet as lines, one after another, over plain variables.
 use mathlib.Core.Path.{_≡_, refl, sym, ap, _∙_}
 use mathlib.Core.List.{List, [], _++_}
 use Prim.Native.Nat.{ℕ, suc, _+_, _-_, _*_, _≤_, _<_}
@@ -10,12 +10,12 @@ use lib.ListN.{length, getD, drop, length-append}
 use lib.Seq.{drop-drop}
 use Rattle.arith.specs.Exact.{signed}
 use Rattle.wire.specs.Bytes.{number, readLe, stored}
-use Rattle.wire.specs.Laws.{read-lt, stored-append}
+use Rattle.wire.proofs.BytesLaws.{read-lt, stored-append}
 use Rattle.block.specs.Record.{headBytes, cellKind, receiptKind}
 use Rattle.text.specs.Lines.{cellText, receiptText}
 use Rattle.text.specs.Written.{Written}
 use Rattle.console.specs.Text.{cellLine, receiptLine, recordsText, sheetText}
-use Rattle.play.specs.Printed.{linesLeft, maxRecordText, Within, Printed}
+use Rattle.play.specs.Printed.{linesLeft, maxRecordText, TurnsWithin, Printed}
 use Rattle.play.specs.declared.Reading.{Reading}
 use Rattle.play.proofs.TextLaws.{cell-short, receipt-short}
 
@@ -65,7 +65,7 @@ more-same {out} {after} {from} {end} {text} all rest e w =
 more-end : {out after : List ℕ} {from end : ℕ} {text : List ℕ} (all rest : List ℕ) → all ≡ text ++ rest → Written out after from end text → from + length all ≡ end + length rest
 more-end {text = text} all rest e w = omega (arith, ap length e, length-append text rest, w .end)
 
-module _ (sheet : List ℕ) (p : Reading) (out : List ℕ) (within : Within (length sheet) p) (some : 0 < p .left) {size kind : ℕ}
+module _ (sheet : List ℕ) (p : Reading) (out : List ℕ) (within : TurnsWithin (length sheet) p) (some : 0 < p .left) {size kind : ℕ}
     (is-size : size ≡ readLe 2 sheet (p .at)) (small : size < 65536) (is-kind : kind ≡ readLe 2 sheet (p .at + 2)) where
   here : List ℕ
   here = drop (p .at) sheet
@@ -84,7 +84,7 @@ module _ (sheet : List ℕ) (p : Reading) (out : List ℕ) (within : Within (len
       ap (λ (n : ℕ). drop n (drop headBytes here)) (sym is-size) ∙ ap (drop size) body-here ∙ drop-drop size (p .at + headBytes) sheet
 
   within-next : (call end : ℕ) → call ≤ p .call + 1 → end ≤ p .end + maxRecordText
-      → Within (length sheet) (record { at = p .at + headBytes + size; call = call; left = p .left - 1; end = end })
+      → TurnsWithin (length sheet) (record { at = p .at + headBytes + size; call = call; left = p .left - 1; end = end })
   within-next call end c e =
       let all : within .gone + p .left ≡ length sheet = within .all in
       let place : p .at ≤ 65539 * within .gone = within .place in
@@ -148,7 +148,7 @@ module _ (sheet : List ℕ) (p : Reading) (out : List ℕ) (within : Within (len
 pub record Printing (sheet start : List ℕ) (p : Reading) (out : List ℕ) : Type 0 where
   pub same : stored start 0 (sheetText sheet) ≡ stored out (p .end) (linesLeft sheet p)
   pub end : 0 + length (sheetText sheet) ≡ p .end + length (linesLeft sheet p)
-  pub within : Within (length sheet) p
+  pub within : TurnsWithin (length sheet) p
 
 pub printing-start : (sheet out : List ℕ) → Printing sheet out (record { at = 0; call = 0; left = length sheet; end = 0 }) out
 printing-start sheet out =

@@ -1,4 +1,4 @@
--- The walk over the bytes before a line feed, over plain variables. Assumes nothing.
+-- The walk over the bytes before a line feed, over plain variables.
 use mathlib.Core.Path.{_≡_, refl, _∙_}
 use mathlib.Core.Bool.{Bool, true, false}
 use mathlib.Core.List.{List, [], _∷_}
@@ -14,8 +14,8 @@ use Rattle.wire.specs.Decimal.{lineFeed}
 use Rattle.console.specs.Line.{readByte}
 use Rattle.console.specs.declared.Line.{Line}
 use Rattle.console.specs.declared.Line.the-variants.{Empty}
-use Rattle.play.specs.PlayLaws.{lineAfter, bytesBefore}
 use Rattle.play.specs.declared.Scanned.{Scanned}
+use Rattle.play.specs.Ahead.{lineAfter, bytesBefore}
 
 -- The next byte is a line feed, or it is read.
 feed-here : (l : Line) (x : ℕ) (xs : List ℕ) → x ≡ lineFeed → (lineAfter l (x ∷ xs) ≡ l) × (bytesBefore (x ∷ xs) ≡ 0)
@@ -45,8 +45,8 @@ module _ (chunk : List ℕ) (end : ℕ) (fits : end ≤ length chunk) where
 
   module _ (line : Line) (at : ℕ) where
     -- At a line feed the scan ends.
-    pub scan-hit : at < end → getD chunk at 0 ≡ lineFeed → record { line = line; at = at } ≡ scanned (take end chunk) line at
-    scan-hit l e =
+    pub line-scan-hit : at < end → getD chunk at 0 ≡ lineFeed → record { line = line; at = at } ≡ scanned (take end chunk) line at
+    line-scan-hit l e =
         let f : (lineAfter line (getD chunk at 0 ∷ drop (at + 1) (take end chunk)) ≡ line) × (bytesBefore (getD chunk at 0 ∷ drop (at + 1) (take end chunk)) ≡ 0) = feed-here line (getD chunk at 0) (drop (at + 1) (take end chunk)) e in
         rw (next at l, f .0, f .1, add-zero)
 
@@ -59,8 +59,8 @@ module _ (chunk : List ℕ) (end : ℕ) (fits : end ≤ length chunk) where
         rw (next at l, f .0, f .1, g, is)
 
     -- At the end it ends.
-    pub scan-end : end ≤ at → record { line = line; at = at } ≡ scanned (take end chunk) line at
-    scan-end l =
+    pub line-scan-end : end ≤ at → record { line = line; at = at } ≡ scanned (take end chunk) line at
+    line-scan-end l =
         let none : drop at (take end chunk) ≡ [] = drop-of-length-le (take end chunk) {i = at} (rw long l) in
         rw (none, feed-none line .0, feed-none line .1, add-zero)
 

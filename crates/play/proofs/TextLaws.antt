@@ -1,4 +1,4 @@
--- How long the lines of text are at most. Assumes nothing.
+-- How long the lines of text are at most.
 use mathlib.Core.Path.{_≡_, refl}
 use mathlib.Core.Bool.{Bool, true, false}
 use mathlib.Core.List.{List, [], _∷_}
@@ -8,7 +8,8 @@ use native.Mathlib.Omega.{arith}
 use lib.Dec.{eqb}
 use lib.IntN.{ℤ}
 use lib.ListN.{length, length-append}
-use Rattle.arith.specs.ChoiceLaws.{if-all}
+use Rattle.text.proofs.TextSizes.{line-fits}
+use Rattle.arith.proofs.ChoiceLaws.{if-all}
 use Rattle.wire.specs.Decimal.{lineFeed, decimal, signedDecimal, parts}
 use Rattle.schedule.specs.declared.Move.{Move}
 use Rattle.machine.specs.Answer.{answerNumber}
@@ -21,11 +22,7 @@ use Rattle.play.specs.Passed.{maxAnswer}
 use Rattle.play.specs.Printed.{maxRecordText}
 
 refused-short : (line n : ℕ) → length (refusedText line n) ≤ maxAnswer
-unfolding parts
-refused-short line n =
-    let a : length (decimal line) ≤ 20 = digits-length 20 line in
-    let b : length (decimal n) ≤ 20 = digits-length 20 n in
-    simp length-append (omega arith)
+refused-short line n = line-fits 114 (line ∷ n ∷ [])
 
 answer-short : (line n : ℕ) → length (answerText line n) ≤ maxAnswer
 unfolding answerText

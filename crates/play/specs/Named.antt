@@ -1,4 +1,4 @@
--- The move that a whole line names, in the type of its definition. Assumes nothing.
+-- The move that a whole line names, in the type of its definition.
 use mathlib.Core.Option.{Option, none, some}
 use Rattle.schedule.specs.declared.Move as schedule
 use Rattle.play.specs.declared.LineMove.{LineMove}

@@ -1,4 +1,4 @@
--- One record of a sheet as a line: what is left to write gives what the whole would have given. Assumes nothing.
+-- One record of a sheet as a line: what is left to write gives what the whole would have given.
 use mathlib.Core.Path.{_≡_}
 use mathlib.Core.List.{List}
 use Prim.Native.Nat.{ℕ, _+_, _*_, _≤_, _<_}
@@ -21,7 +21,7 @@ abbrev pub maxCloseText : ℕ
 maxCloseText = maxRecordText * (maxKeys + maxCalls)
 
 -- Every turn takes a record of at most 65,539 bytes, and one line.
-pub record Within (turns : ℕ) (p : Reading) : Type 0 where
+pub record TurnsWithin (turns : ℕ) (p : Reading) : Type 0 where
   pub gone : ℕ
   pub all : gone + p .left ≡ turns
   pub place : p .at ≤ 65539 * gone
@@ -32,4 +32,4 @@ pub record Printed (sheet : List ℕ) (p : Reading) (out : List ℕ) (q : Readin
   pub same : stored out (p .end) (linesLeft sheet p) ≡ stored after (q .end) (linesLeft sheet q)
   pub end : p .end + length (linesLeft sheet p) ≡ q .end + length (linesLeft sheet q)
   pub less : q .left < p .left
-  pub within : Within (length sheet) q
+  pub within : TurnsWithin (length sheet) q

@@ -1,4 +1,4 @@
--- A session whose output stands as text in a lent buffer: what the code has of it, and what the definition leaves. Assumes nothing.
+-- A session whose output stands as text in a lent buffer: what the code has of it, and what the definition leaves.
 use mathlib.Core.List.{List, []}
 use Prim.Native.Nat.{ℕ, _+_}
 use lib.ListN.{length}
@@ -8,8 +8,8 @@ use Rattle.console.specs.Register.{Session}
 use Rattle.console.specs.declared.Line.{Line}
 
 -- A session that has written nothing yet.
-abbrev pub begun : ℕ → Line → Run → Session
-begun number line run = record { number = number; line = line; run = run; output = [] }
+abbrev pub freshSession : ℕ → Line → Run → Session
+freshSession number line run = record { number = number; line = line; run = run; output = [] }
 
 -- The number of the line, what is read of it, the run, the buffer, and the position behind the text.
 pub record Shown : Type 0 where
@@ -31,5 +31,5 @@ shown buffer from s =
     }
 
 -- The same from parts.
-abbrev pub told : ℕ → Line → Run → List ℕ → ℕ → Shown
-told number line run buffer end = record { number = number; line = line; run = run; buffer = buffer; end = end }
+abbrev pub shownFrom : ℕ → Line → Run → List ℕ → ℕ → Shown
+shownFrom number line run buffer end = record { number = number; line = line; run = run; buffer = buffer; end = end }

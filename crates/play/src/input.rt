@@ -5,14 +5,15 @@ use crate::Progress;
 use crate::Scanned;
 use crate::Session;
 use crate::Told;
+use crate::apply::apply_move;
 use crate::line::line_move;
 use crate::line::read_byte;
-use crate::make::make;
 use console::Line;
 use machine::Answer;
 use machine::Head;
 use machine::numbers::answer_number;
 use text::refused_line;
+use wire::decimal::LINE_FEED;
 ghost use mathlib.Core.Path.{_≡_};
 ghost use Prim.Native.Nat.{_+_, _*_, _<_, _≤_, min};
 ghost use lib.ListN.{length, take, drop};
@@ -22,11 +23,9 @@ ghost use Rattle.text.specs.Lines.{refusedText};
 ghost use Rattle.text.specs.Written.{Written};
 ghost use Rattle.console.specs.Register.{answerText, nextNumber, playLine, playBytes, playEnd};
 ghost use Rattle.console.specs.declared.Line.the-variants.{Empty};
-ghost use Rattle.play.specs.PlayLaws.{lineAfter, bytesBefore};
-ghost use Rattle.play.specs.Shown.{begun, shown, told};
+ghost use Rattle.play.specs.Shown.{freshSession, shown, shownFrom};
 ghost use Rattle.play.specs.Passed.{Passed, maxAnswer};
-
-const LINE_FEED: u8 = 10;
+ghost use Rattle.play.specs.Ahead.{lineAfter, bytesBefore};
 
 // An answer is a letter, two numbers of at most 20 digits behind a space each, and a line feed.
 pub const MAX_ANSWER: usize = 44;
@@ -38,7 +37,12 @@ const MAX_LINES: u64 = 4294967296;
 fn scan(line: Line, chunk: &[u8], from: usize, end: usize) -> Scanned
     requires { ⌜ from ≤ end ⌝ }
     requires { ⌜ end ≤ length (now chunk) ⌝ }
-    ensures { λ r. ⌜ r ≡ record { line = lineAfter line (drop from (take end (now (chunk .entry)))); at = from + bytesBefore (drop from (take end (now (chunk .entry)))) } ⌝ }
+    ensures { λ r. ⌜ r
+        ≡ record {
+          line = lineAfter line (drop from (take end (now (chunk .entry))));
+          at = from + bytesBefore
+              (drop from (take end (now (chunk .entry))));
+        } ⌝ }
 {
     let mut so_far = line;
     let mut at = from;
@@ -96,16 +100,22 @@ fn play_line(
     keys: &[u64],
     cells: &mut [i64],
     status: &mut [u64],
-    olds: &mut [i64],
+    saved: &mut [i64],
     out: &mut [u8],
     from: u32,
 ) -> Told
-    ensures { λ r. ⌜ told (r .number) Empty (lent (r .head) (now (plan .entry)) (now (keys .entry)) (now (cells .exit)) (now (status .exit)) (now (olds .exit))) (now (out .exit)) (r .end) ≡ shown (now (out .entry)) from (playLine (now (block .entry)) (begun number line (lent head (now (plan .entry)) (now (keys .entry)) (now (cells .entry)) (now (status .entry)) (now (olds .entry))))) ⌝ }
+    ensures { λ r. ⌜ shownFrom (r .number) Empty
+        (lent (r .head) (now (plan .entry)) (now (keys .entry)) (now (cells .exit)) (now (status .exit)) (now (saved .exit)))
+        (now (out .exit)) (r .end)
+        ≡ shown (now (out .entry)) from
+        (playLine (now (block .entry))
+        (freshSession number line
+        (lent head (now (plan .entry)) (now (keys .entry)) (now (cells .entry)) (now (status .entry)) (now (saved .entry))))) ⌝ }
 {
     match line_move(line) {
         LineMove::NoMove => play_malformed(number, head, out, from),
         LineMove::Move(m) => {
-            let reply = make(head, block, plan, keys, cells, status, olds, m);
+            let reply = apply_move(head, block, plan, keys, cells, status, saved, m);
             let after = reply.head;
             let answer = reply.answer;
             let end = answer_line(out, from, number, answer);
@@ -126,7 +136,7 @@ fn play_next(
     keys: &[u64],
     cells: &mut [i64],
     status: &mut [u64],
-    olds: &mut [i64],
+    saved: &mut [i64],
     chunk: &[u8],
     end: usize,
     out: &mut [u8],
@@ -135,7 +145,11 @@ fn play_next(
     requires { ⌜ end < 65536 ⌝ }
     requires { ⌜ end ≤ length (now chunk) ⌝ }
     requires { ⌜ p .end ≤ maxAnswer * p .at ⌝ }
-    ensures { λ r. ⌜ Passed (now (block .entry)) (take end (now (chunk .entry))) p (lent (p .head) (now (plan .entry)) (now (keys .entry)) (now (cells .entry)) (now (status .entry)) (now (olds .entry))) (now (out .entry)) r (lent (r .head) (now (plan .entry)) (now (keys .entry)) (now (cells .exit)) (now (status .exit)) (now (olds .exit))) (now (out .exit)) ⌝ }
+    ensures { λ r. ⌜ Passed (now (block .entry)) (take end (now (chunk .entry))) p
+        (lent (p .head) (now (plan .entry)) (now (keys .entry)) (now (cells .entry)) (now (status .entry)) (now (saved .entry)))
+        (now (out .entry)) r
+        (lent (r .head) (now (plan .entry)) (now (keys .entry)) (now (cells .exit)) (now (status .exit)) (now (saved .exit)))
+        (now (out .exit)) ⌝ }
 {
     let number = p.number;
     let before = p.line;
@@ -163,7 +177,7 @@ fn play_next(
         keys,
         cells,
         status,
-        olds,
+        saved,
         out,
         written as u32,
     );
@@ -195,12 +209,19 @@ pub fn play_chunk(
     keys: &[u64],
     cells: &mut [i64],
     status: &mut [u64],
-    olds: &mut [i64],
+    saved: &mut [i64],
     chunk: &[u8],
     n: u16,
     out: &mut [u8],
 ) -> Played
-    ensures { λ r. ⌜ told (r .session .number) (r .session .line) (lent (r .session .head) (now (plan .entry)) (now (keys .entry)) (now (cells .exit)) (now (status .exit)) (now (olds .exit))) (now (out .exit)) (r .length) ≡ shown (now (out .entry)) 0 (playBytes (now (block .entry)) (begun (s .number) (s .line) (lent (s .head) (now (plan .entry)) (now (keys .entry)) (now (cells .entry)) (now (status .entry)) (now (olds .entry)))) (take n (now (chunk .entry)))) ⌝ }
+    ensures { λ r. ⌜ shownFrom (r .session .number) (r .session .line)
+        (lent (r .session .head) (now (plan .entry)) (now (keys .entry)) (now (cells .exit)) (now (status .exit)) (now (saved .exit)))
+        (now (out .exit)) (r .length)
+        ≡ shown (now (out .entry)) 0
+        (playBytes (now (block .entry))
+        (freshSession (s .number) (s .line)
+        (lent (s .head) (now (plan .entry)) (now (keys .entry)) (now (cells .entry)) (now (status .entry)) (now (saved .entry))))
+        (take n (now (chunk .entry)))) ⌝ }
 {
     let end = at_most(n, chunk.len());
     let number = s.number;
@@ -214,7 +235,7 @@ pub fn play_chunk(
         end: 0,
     };
     while p.at < end {
-        p = play_next(p, block, plan, keys, cells, status, olds, chunk, end, out);
+        p = play_next(p, block, plan, keys, cells, status, saved, chunk, end, out);
     }
     let number = p.number;
     let line = p.line;
@@ -233,10 +254,16 @@ pub fn play_end(
     keys: &[u64],
     cells: &mut [i64],
     status: &mut [u64],
-    olds: &mut [i64],
+    saved: &mut [i64],
     out: &mut [u8],
 ) -> Played
-    ensures { λ r. ⌜ told (r .session .number) (r .session .line) (lent (r .session .head) (now (plan .entry)) (now (keys .entry)) (now (cells .exit)) (now (status .exit)) (now (olds .exit))) (now (out .exit)) (r .length) ≡ shown (now (out .entry)) 0 (playEnd (now (block .entry)) (begun (s .number) (s .line) (lent (s .head) (now (plan .entry)) (now (keys .entry)) (now (cells .entry)) (now (status .entry)) (now (olds .entry))))) ⌝ }
+    ensures { λ r. ⌜ shownFrom (r .session .number) (r .session .line)
+        (lent (r .session .head) (now (plan .entry)) (now (keys .entry)) (now (cells .exit)) (now (status .exit)) (now (saved .exit)))
+        (now (out .exit)) (r .length)
+        ≡ shown (now (out .entry)) 0
+        (playEnd (now (block .entry))
+        (freshSession (s .number) (s .line)
+        (lent (s .head) (now (plan .entry)) (now (keys .entry)) (now (cells .entry)) (now (status .entry)) (now (saved .entry))))) ⌝ }
 {
     let number = s.number;
     let line = s.line;
@@ -256,7 +283,7 @@ pub fn play_end(
         keys,
         cells,
         status,
-        olds,
+        saved,
         out,
         0,
     );

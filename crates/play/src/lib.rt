@@ -1,7 +1,7 @@
 // REGISTER's input as code: move lines read byte by byte, each whole line played on a lent run, the answers and the sheet as text.
+pub mod apply;
 pub mod input;
 pub mod line;
-pub mod make;
 pub mod records;
 
 use console::Line;

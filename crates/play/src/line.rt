@@ -3,6 +3,8 @@ use crate::LineMove;
 use console::Letter;
 use console::Line;
 use schedule::Move;
+use wire::decimal::SPACE;
+use wire::decimal::ZERO_DIGIT;
 ghost use mathlib.Core.Path.{_≡_};
 ghost use mathlib.Core.Bool.{true};
 ghost use Prim.Native.Nat.{_-_};
@@ -11,12 +13,8 @@ ghost use Rattle.console.specs.Line.{isDigit, takesDigit, readLetter, readGap, 
 ghost use Rattle.console.specs.declared.Line.the-variants.{Named, Spaced, First, Between, Second, Malformed};
 ghost use Rattle.play.specs.Named.{asMove};
 
-// Characters.
-const SPACE: u8 = 32;
-
-const ZERO: u8 = 48;
-
-const BEHIND_NINE: u8 = 58;
+// The character behind the last digit.
+const BEHIND_NINE: u8 = ZERO_DIGIT + 10;
 
 // A number has at most five digits, and those read before a further one make less than 100,000.
 const MAX_DIGITS: usize = 5;
@@ -27,7 +25,7 @@ const MAX_NUMBER: usize = 100000;
 fn is_digit(x: u8) -> bool
     ensures { λ r. ⌜ r ≡ isDigit x ⌝ }
 {
-    if x < ZERO {
+    if x < ZERO_DIGIT {
         return false;
     }
     x < BEHIND_NINE
@@ -51,7 +49,7 @@ fn digit(x: u8) -> usize
     requires { ⌜ isDigit x ≡ true ⌝ }
     ensures { λ r. ⌜ r ≡ x - zeroDigit ⌝ }
 {
-    (x - ZERO) as usize
+    (x - ZERO_DIGIT) as usize
 }
 
 // The first byte of a line.

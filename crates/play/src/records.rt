@@ -10,9 +10,9 @@ use text::cell_line;
 use text::receipt_line;
 ghost use Prim.Native.Nat.{_^_, _<_};
 ghost use lib.ListN.{length, take, drop};
-ghost use Rattle.text.specs.Written.{Written};
 ghost use Rattle.console.specs.Text.{cellLine, receiptLine, sheetText};
-ghost use Rattle.play.specs.Printed.{Within, Printed};
+ghost use Rattle.play.specs.Printed.{TurnsWithin, Printed};
+ghost use Rattle.text.specs.Written.{Written};
 
 // A record's line is a letter, five numbers of at most 21 characters behind a space each, and a line feed.
 const MAX_RECORD_TEXT: usize = 108;
@@ -47,7 +47,7 @@ fn put_receipt(sheet: &[u8], body: usize, call: u64, out: &mut [u8], from: u32) 
 fn next_record(p: Reading, sheet: &[u8], out: &mut [u8]) -> Reading
     requires { ⌜ 0 < p .left ⌝ }
     requires { ⌜ length (now sheet) < 65536 ⌝ }
-    requires { ⌜ Within (length (now sheet)) p ⌝ }
+    requires { ⌜ TurnsWithin (length (now sheet)) p ⌝ }
     ensures { λ r. ⌜ Printed (now (sheet .entry)) p (now (out .entry)) r (now (out .exit)) ⌝ }
 {
     let at = p.at;

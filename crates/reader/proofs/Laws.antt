@@ -1,4 +1,4 @@
--- What the proofs of this crate cite: a code looked through, and keys as two words. Assumes nothing.
+-- What the proofs of this crate cite: a code looked through, and keys as two words.
 use mathlib.Core.Path.{_≡_, refl, sym, _∙_, ap}
 use mathlib.Core.Bool.{Bool, true, false}
 use mathlib.Core.List.{List}

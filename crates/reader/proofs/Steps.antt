@@ -1,5 +1,5 @@
 -- What a record makes of the reader's numbers: each way through a record's function is the definition's, and leaves numbers that
--- stand for the definition's block. Assumes nothing.
+-- stand for the definition's block.
 use mathlib.Core.Path.{_≡_, refl, sym, _∙_, ap}
 use mathlib.Core.Bool.{Bool, true, false, true≢false}
 use mathlib.Core.List.{List, [], _∷_, _++_, map, map-append}
@@ -14,14 +14,14 @@ use borrow.Author.Tests.{lt-ltb, le-ltb, le-leb, lt-leb, eq-eqb, ltb-true, ltb-f
 use Rattle.arith.specs.Choice.{if_then_else_}
 use Rattle.arith.specs.Balance.{total}
 use Rattle.arith.specs.Exact.{signed}
-use Rattle.arith.specs.Laws.{signed-low, signed-high}
+use Rattle.arith.proofs.IntegerLaws.{signed-low, signed-high}
 use Rattle.wire.specs.Bytes.{number, readLe}
 use Rattle.block.specs.Key.{addressOf, keyAllowed, fieldIn, isBalance}
-use Rattle.block.specs.KeyLaws.{field-of}
+use Rattle.block.proofs.KeyLaws.{field-of}
 use Rattle.block.specs.Instruction.{firstInvalid}
 use Rattle.block.specs.Record.{Function, Cell, Block, functionId, cellOf, cellAllowed, callOf}
 use Rattle.block.specs.Reader.{rises, balances, readFunction, readCell, withCall, readCall}
-use Rattle.reader.specs.Standing.{floorOf, valueAllowed, Holds, Turned, afterFunction, afterCell, afterCall}
+use Rattle.reader.specs.Standing.{floorOf, valueAllowed, NumbersOfBlock, TurnFollows, afterFunction, afterCell, afterCall}
 use Rattle.block.specs.declared.Call.{Call}
 use Rattle.block.specs.declared.CallBody.the-variants.{InRange, OutOfRange}
 use Rattle.block.specs.declared.Refusal.the-variants.{BeyondLimit, Field, Code, NotRising, Balances}
@@ -55,8 +55,8 @@ snoc-length l x n e = omega (arith, length-append l (x ∷ []), e)
 
 -- ---- a function
 
-module _ (p : Progress) (b : Block) (h : Holds p b) (len : ℕ) (body : List ℕ) where
-  pub function-limit : 64 ≤ p .functions → Turned p b (End (Refused (BeyondLimit (p .at)))) (readFunction (p .at) len body b)
+module _ (p : Progress) (b : Block) (h : NumbersOfBlock p b) (len : ℕ) (body : List ℕ) where
+  pub function-limit : 64 ≤ p .functions → TurnFollows p b (End (Refused (BeyondLimit (p .at)))) (readFunction (p .at) len body b)
   unfolding readFunction
   function-limit full = simp (le-leb 64 (length (b .functions)) (rw (h .functions) at full)) refl
 
@@ -64,7 +64,7 @@ module _ (p : Progress) (b : Block) (h : Holds p b) (len : ℕ) (body : List ℕ
     free : leb 64 (length (b .functions)) ≡ false
     free = lt-leb 64 (length (b .functions)) (rw (h .functions) at room)
 
-    pub function-field : contract < 32768 → Turned p b (End (Refused (Field (p .at)))) (readFunction (p .at) len body b)
+    pub function-field : contract < 32768 → TurnFollows p b (End (Refused (Field (p .at)))) (readFunction (p .at) len body b)
     unfolding readFunction
     function-field low = simp (free, lt-ltb (number 2 body) 32768 (rw ec at low)) refl
 
@@ -72,15 +72,15 @@ module _ (p : Progress) (b : Block) (h : Holds p b) (len : ℕ) (body : List ℕ
       is-contract : ltb (number 2 body) 32768 ≡ false
       is-contract = le-ltb (number 2 body) 32768 (rw ec at high)
 
-      pub function-code : i < (len - 4) / 8 → Turned p b (End (Refused (Code (p .at + 4 + 4 + 8 * i)))) (readFunction (p .at) len body b)
+      pub function-code-refused : i < (len - 4) / 8 → TurnFollows p b (End (Refused (Code (p .at + 4 + 4 + 8 * i)))) (readFunction (p .at) len body b)
       unfolding readFunction
-      function-code bad = simp (free, is-contract, ← ei, lt-ltb i ((len - 4) / 8) bad) refl
+      function-code-refused bad = simp (free, is-contract, ← ei, lt-ltb i ((len - 4) / 8) bad) refl
 
       module _ (good : (len - 4) / 8 ≤ i) {id : ℕ} (ed : id ≡ contract * 65536 + readLe 2 body 2) where
         rising : rises (map functionId (b .functions)) (number 2 body * 65536 + readLe 2 body 2) ≡ leb (p .least) id
         rising = rises-floor (map functionId (b .functions)) (number 2 body * 65536 + readLe 2 body 2) ∙ simp (← h .ids, ed, ec)
 
-        pub function-rising : id < p .least → Turned p b (End (Refused (NotRising (p .at)))) (readFunction (p .at) len body b)
+        pub function-rising : id < p .least → TurnFollows p b (End (Refused (NotRising (p .at)))) (readFunction (p .at) len body b)
         unfolding readFunction
         function-rising below = simp (free, is-contract, ← ei, le-ltb i ((len - 4) / 8) good, rising, lt-leb (p .least) id below) refl
 
@@ -91,7 +91,7 @@ module _ (p : Progress) (b : Block) (h : Holds p b) (len : ℕ) (body : List ℕ
         unfolding f
         id-is = simp (ed, ec)
 
-        pub function-more : p .least ≤ id → Turned p b (AddFunction (afterFunction p len id) id (p .at + 4 + 4) ((len - 4) / 8)) (readFunction (p .at) len body b)
+        pub function-more : p .least ≤ id → TurnFollows p b (AddFunction (afterFunction p len id) id (p .at + 4 + 4) ((len - 4) / 8)) (readFunction (p .at) len body b)
         unfolding readFunction f
         function-more above =
             simp (free, is-contract, ← ei, le-ltb i ((len - 4) / 8) good, rising, le-leb (p .least) id above) (
@@ -105,7 +105,7 @@ module _ (p : Progress) (b : Block) (h : Holds p b) (len : ℕ) (body : List ℕ
                       cells = h .cells;
                       calls = h .calls;
                       opening = refl;
-                      first = refl;
+                      firstCall = refl;
                       ids = rw (map-append functionId (b .functions) (f ∷ []), floor-snoc (map functionId (b .functions)) (functionId f)) (ap (λ (n : ℕ). n + 1) (sym id-is));
                       keys = h .keys;
                       sum = h .sum;
@@ -159,8 +159,8 @@ balance-bits field bits e z = above-zero bits (simp (eq-eqb field 0 z) at e)
 
 -- ---- an opening cell
 
-module _ (p : Progress) (b : Block) (h : Holds p b) (len : ℕ) (body : List ℕ) where
-  pub cell-limit : 1024 ≤ p .cells → Turned p b (End (Refused (BeyondLimit (p .at)))) (readCell (p .at) len body b)
+module _ (p : Progress) (b : Block) (h : NumbersOfBlock p b) (len : ℕ) (body : List ℕ) where
+  pub cell-limit : 1024 ≤ p .cells → TurnFollows p b (End (Refused (BeyondLimit (p .at)))) (readCell (p .at) len body b)
   unfolding readCell
   cell-limit full = simp (le-leb 1024 (length (b .cells)) (rw (h .cells) at full)) refl
 
@@ -169,15 +169,15 @@ module _ (p : Progress) (b : Block) (h : Holds p b) (len : ℕ) (body : List ℕ
     has-room : leb 1024 (length (b .cells)) ≡ false
     has-room = lt-leb 1024 (length (b .cells)) (rw (h .cells) at room)
 
-    pub cell-key : keyAllowed (addressOf address) field x y ≡ false → Turned p b (End (Refused (Field (p .at)))) (readCell (p .at) len body b)
+    pub cell-key-refused : keyAllowed (addressOf address) field x y ≡ false → TurnFollows p b (End (Refused (Field (p .at)))) (readCell (p .at) len body b)
     unfolding readCell cellAllowed
-    cell-key bad = simp (has-room, rw (e₁, e₂, e₃, e₄) at bad) refl
+    cell-key-refused bad = simp (has-room, rw (e₁, e₂, e₃, e₄) at bad) refl
 
     module _ (good : keyAllowed (addressOf address) field x y ≡ true) where
       key-good : keyAllowed (addressOf (number 2 body)) (readLe 2 body 2) (readLe 4 body 4) (readLe 4 body 8) ≡ true
       key-good = rw (e₁, e₂, e₃, e₄) at good
 
-      pub cell-value : valueAllowed field bits ≡ false → Turned p b (End (Refused (Field (p .at)))) (readCell (p .at) len body b)
+      pub cell-value : valueAllowed field bits ≡ false → TurnFollows p b (End (Refused (Field (p .at)))) (readCell (p .at) len body b)
       unfolding readCell cellAllowed
       cell-value bad = simp (has-room, key-good, rw (e₂, e₅) at bad) refl
 
@@ -192,7 +192,7 @@ module _ (p : Progress) (b : Block) (h : Holds p b) (len : ℕ) (body : List ℕ
         cell-rises : rises (map (λ c. c .key) (b .cells)) (cellOf body .key) ≡ leb (p .high * 2 ^ 32 + p .low) (high * 2 ^ 32 + y)
         cell-rises = rises-floor (map (λ c. c .key) (b .cells)) (cellOf body .key) ∙ rw (h .keys, the-key)
 
-        pub cell-rising : leb (p .high * 2 ^ 32 + p .low) (high * 2 ^ 32 + y) ≡ false → Turned p b (End (Refused (NotRising (p .at)))) (readCell (p .at) len body b)
+        pub cell-rising : leb (p .high * 2 ^ 32 + p .low) (high * 2 ^ 32 + y) ≡ false → TurnFollows p b (End (Refused (NotRising (p .at)))) (readCell (p .at) len body b)
         unfolding readCell
         cell-rising below = simp (has-room, is-allowed, cell-rises, below) refl
 
@@ -209,11 +209,11 @@ module _ (p : Progress) (b : Block) (h : Holds p b) (len : ℕ) (body : List ℕ
               go true e = rw (← e₅, signed-low 64 bits (balance-bits field bits right (eqb-true field 0 e))) refl
               go false e = sym (+ℤ-idr (pos (p .sum)))
 
-          pub cell-sum : 2 ^ 63 - 1 < sum → Turned p b (End (Refused (Balances (p .at)))) (readCell (p .at) len body b)
+          pub cell-sum : 2 ^ 63 - 1 < sum → TurnFollows p b (End (Refused (Balances (p .at)))) (readCell (p .at) len body b)
           unfolding readCell
           cell-sum over = simp (has-room, is-allowed, cell-rises, above, ← new-sum, lt-leb sum (2 ^ 63 - 1) over) refl
 
-          pub cell-more : sum ≤ 2 ^ 63 - 1 → Turned p b (More (afterCell p len high y sum)) (readCell (p .at) len body b)
+          pub cell-more : sum ≤ 2 ^ 63 - 1 → TurnFollows p b (More (afterCell p len high y sum)) (readCell (p .at) len body b)
           unfolding readCell
           cell-more under =
               simp (has-room, is-allowed, cell-rises, above, ← new-sum, le-leb sum (2 ^ 63 - 1) under) (
@@ -227,7 +227,7 @@ module _ (p : Progress) (b : Block) (h : Holds p b) (len : ℕ) (body : List ℕ
                         cells = snoc-length (b .cells) (cellOf body) (p .cells) (h .cells);
                         calls = h .calls;
                         opening = h .opening;
-                        first = refl;
+                        firstCall = refl;
                         ids = h .ids;
                         keys = rw (map-append (λ c. c .key) (b .cells) (cellOf body ∷ []), floor-snoc (map (λ c. c .key) (b .cells)) (cellOf body .key), the-key) (omega arith);
                         sum = new-sum;
@@ -239,8 +239,8 @@ module _ (p : Progress) (b : Block) (h : Holds p b) (len : ℕ) (body : List ℕ
 
 -- ---- a call
 
-module _ (p : Progress) (b : Block) (h : Holds p b) (len : ℕ) (body : List ℕ) where
-  pub call-limit : 256 ≤ p .calls → Turned p b (End (Refused (BeyondLimit (p .at)))) (readCall (p .at) len body b)
+module _ (p : Progress) (b : Block) (h : NumbersOfBlock p b) (len : ℕ) (body : List ℕ) where
+  pub call-limit : 256 ≤ p .calls → TurnFollows p b (End (Refused (BeyondLimit (p .at)))) (readCall (p .at) len body b)
   unfolding readCall
   call-limit full = simp (le-leb 256 (length (b .calls)) (rw (h .calls) at full)) refl
 
@@ -248,11 +248,11 @@ module _ (p : Progress) (b : Block) (h : Holds p b) (len : ℕ) (body : List ℕ
     call-room : leb 256 (length (b .calls)) ≡ false
     call-room = lt-leb 256 (length (b .calls)) (rw (h .calls) at room)
 
-    pub call-field : callOf body ≡ OutOfRange → Turned p b (End (Refused (Field (p .at)))) (readCall (p .at) len body b)
+    pub call-field : callOf body ≡ OutOfRange → TurnFollows p b (End (Refused (Field (p .at)))) (readCall (p .at) len body b)
     unfolding readCall withCall
     call-field bad = simp (call-room, bad) refl
 
-    pub call-more : (c : Call) → callOf body ≡ InRange c → Turned p b (More (afterCall p len)) (readCall (p .at) len body b)
+    pub call-more : (c : Call) → callOf body ≡ InRange c → TurnFollows p b (More (afterCall p len)) (readCall (p .at) len body b)
     unfolding readCall withCall
     call-more c good =
         simp (call-room, good) (
@@ -266,7 +266,7 @@ module _ (p : Progress) (b : Block) (h : Holds p b) (len : ℕ) (body : List ℕ
                   cells = h .cells;
                   calls = snoc-length (b .calls) c (p .calls) (h .calls);
                   opening = h .opening;
-                  first = h .first;
+                  firstCall = h .firstCall;
                   ids = h .ids;
                   keys = h .keys;
                   sum = h .sum;

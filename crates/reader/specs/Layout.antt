@@ -1,4 +1,4 @@
--- What the reader leaves of a file, in numbers. Assumes nothing.
+-- What the reader leaves of a file, in numbers.
 use mathlib.Core.List.{List, map}
 use Prim.Native.Nat.{ℕ}
 use lib.ListN.{length}
@@ -22,7 +22,7 @@ layoutOf (refused why) =
       cells = 0;
       calls = 0;
       opening = 0;
-      first = 0;
+      «first_call» = 0;
       ids = repeated maxFunctions 0;
       starts = repeated maxFunctions 0;
       sizes = repeated maxFunctions 0;
@@ -34,7 +34,7 @@ layoutOf (accepted b) =
       cells = length (b .cells);
       calls = length (b .calls);
       opening = b .opening;
-      first = b .first;
+      «first_call» = b .firstCall;
       ids = table functionId (b .functions);
       starts = table (λ f. f .start) (b .functions);
       sizes = table (λ f. f .size) (b .functions);

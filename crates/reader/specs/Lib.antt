@@ -1,2 +1,3 @@
+-- Layout is the contract of `read_block`; Standing says how the reader's numbers stand for the block read so far.
 pub mod Layout
 pub mod Standing

@@ -1,4 +1,4 @@
--- How the reader's numbers stand for the block read so far, and its turns for those of the definition. Assumes nothing.
+-- How the reader's numbers stand for the block read so far, and its turns for those of the definition.
 use mathlib.Core.Path.{_≡_}
 use mathlib.Core.Bool.{Bool, not}
 use mathlib.Core.List.{List, [], _∷_, _++_, map}
@@ -36,20 +36,20 @@ pub record Steady (p : Progress) : Type 0 where
   pub sum : p .sum < 2 ^ 63
 
 -- The reader's numbers are those of a block.
-pub record Holds (p : Progress) (b : Block) : Type 0 where
+pub record NumbersOfBlock (p : Progress) (b : Block) : Type 0 where
   pub functions : p .functions ≡ length (b .functions)
   pub cells : p .cells ≡ length (b .cells)
   pub calls : p .calls ≡ length (b .calls)
   pub opening : p .opening ≡ b .opening
-  pub first : p .first ≡ b .first
+  pub firstCall : p .«first_call» ≡ b .firstCall
   pub ids : p .least ≡ floorOf (map functionId (b .functions))
   pub keys : p .high * 2 ^ 32 + p .low ≡ floorOf (map (λ c. c .key) (b .cells))
   pub sum : pos (p .sum) ≡ total (balances (b .cells))
   pub steady : Steady p
 
 -- The numbers before the first record, and behind one more function, opening cell or call.
-abbrev pub started : Progress
-started = record { kind = 0; at = 0; functions = 0; cells = 0; calls = 0; opening = 0; first = 0; least = 0; high = 0; low = 0; sum = 0 }
+abbrev pub progressStart : Progress
+progressStart = record { kind = 0; at = 0; functions = 0; cells = 0; calls = 0; opening = 0; «first_call» = 0; least = 0; high = 0; low = 0; sum = 0 }
 
 abbrev pub afterFunction : Progress → (len id : ℕ) → Progress
 afterFunction p len id =
@@ -60,7 +60,7 @@ afterFunction p len id =
       cells = p .cells;
       calls = p .calls;
       opening = p .at + headBytes + len;
-      first = p .at + headBytes + len;
+      «first_call» = p .at + headBytes + len;
       least = id + 1;
       high = p .high;
       low = p .low;
@@ -76,7 +76,7 @@ afterCell p len high low sum =
       cells = p .cells + 1;
       calls = p .calls;
       opening = p .opening;
-      first = p .at + headBytes + len;
+      «first_call» = p .at + headBytes + len;
       least = p .least;
       high = high;
       low = low + 1;
@@ -92,7 +92,7 @@ afterCall p len =
       cells = p .cells;
       calls = p .calls + 1;
       opening = p .opening;
-      first = p .first;
+      «first_call» = p .«first_call»;
       least = p .least;
       high = p .high;
       low = p .low;
@@ -100,11 +100,11 @@ afterCall p len =
     }
 
 -- Behind one more record.
-pub record Moved (p q : Progress) (k n : ℕ) (b : Block) : Type 0 where
+pub record MovedOn (p q : Progress) (k n : ℕ) (b : Block) : Type 0 where
   pub kind : q .kind ≡ k
   pub at : q .at ≡ n
   pub later : p .at < q .at
-  pub holds : Holds q b
+  pub holds : NumbersOfBlock q b
 
 -- One more function, by the numbers that the tables keep of it.
 pub record Added (b b′ : Block) (id start size : ℕ) : Type 0 where
@@ -118,25 +118,25 @@ Answers b v (accepted b′) = (v ≡ Accepted) × (b′ ≡ b)
 Answers b v (refused why) = v ≡ Refused why
 
 -- A turn of the reader that stood for b, against the definition's.
-abbrev pub Turned : Progress → Block → Turn → Reading → Type 0
-Turned p b (More q) (due kind at rest b′) = Moved p q kind at b′ × (b′ .functions ≡ b .functions)
-Turned p b (More q) (ended r) = ⊥
-Turned p b (AddFunction q id start size) (due kind at rest b′) = Moved p q kind at b′ × Added b b′ id start size
-Turned p b (AddFunction q id start size) (ended r) = ⊥
-Turned p b (End v) (due kind at rest b′) = ⊥
-Turned p b (End v) (ended r) = Answers b v r
+abbrev pub TurnFollows : Progress → Block → Turn → Reading → Type 0
+TurnFollows p b (More q) (due kind at rest b′) = MovedOn p q kind at b′ × (b′ .functions ≡ b .functions)
+TurnFollows p b (More q) (ended r) = ⊥
+TurnFollows p b (AddFunction q id start size) (due kind at rest b′) = MovedOn p q kind at b′ × Added b b′ id start size
+TurnFollows p b (AddFunction q id start size) (ended r) = ⊥
+TurnFollows p b (End v) (due kind at rest b′) = ⊥
+TurnFollows p b (End v) (ended r) = Answers b v r
 
 -- What the reader leaves with a verdict, from its numbers and tables.
-abbrev pub left : Verdict → Progress → (ids starts sizes : List ℕ) → Layout
-left (Refused why) p ids starts sizes = layoutOf (refused why)
-left Accepted p ids starts sizes =
+abbrev pub layoutLeft : Verdict → Progress → (ids starts sizes : List ℕ) → Layout
+layoutLeft (Refused why) p ids starts sizes = layoutOf (refused why)
+layoutLeft Accepted p ids starts sizes =
     record {
       verdict = Accepted;
       functions = p .functions;
       cells = p .cells;
       calls = p .calls;
       opening = p .opening;
-      first = p .first;
+      «first_call» = p .«first_call»;
       ids = ids;
       starts = starts;
       sizes = sizes;

@@ -3,5 +3,5 @@
 
 fn main() {
     let mut transcript = [0u8; 0];
-    running::register(&mut transcript);
+    register_run::register(&mut transcript);
 }

@@ -1,21 +1,20 @@
 -- Calls over a state that is read by cell: their read and write sets, steps, serial runs, and the laws asked of them.
--- Assumes nothing.
 use Prim.Native.Nat.{ℕ, zero, suc, _<_}
 use mathlib.Core.Path.{_≡_}
 use mathlib.Core.Bool.{Bool, true, false, cond, _||_}
 
 -- How far a begun call is: it goes on from a local state, or it has ended with a receipt.
-pub data Course (Local Receipt : Type 0) : Type 0 where
-  more : Local → Course Local Receipt
-  done : Receipt → Course Local Receipt
+pub data CallCourse (Local Receipt : Type 0) : Type 0 where
+  more : Local → CallCourse Local Receipt
+  done : Receipt → CallCourse Local Receipt
 
 -- What one step leaves: the state, and how far the call is.
 pub record Point (State Local Receipt : Type 0) : Type 0 where
   pub state : State
-  pub course : Course Local Receipt
+  pub course : CallCourse Local Receipt
 
 -- The call has ended.
-abbrev pub isDone : {L R : Type 0} → Course L R → Bool
+abbrev pub isDone : {L R : Type 0} → CallCourse L R → Bool
 isDone (more l) = false
 isDone (done r) = true
 
@@ -62,21 +61,21 @@ module _ (Y : Calls) where
     pub right : (x : ℕ) → Y .wr j x ≡ true → touches i x ≡ false
 
   -- A point of these calls' runs.
-  abbrev pub Here : Type 0
-  Here = Point (Y .State) (Y .Local) (Y .Receipt)
+  abbrev pub RunPoint : Type 0
+  RunPoint = Point (Y .State) (Y .Local) (Y .Receipt)
 
   -- One step of a call that goes on; a call that has ended stays.
-  abbrev pub advance : ℕ → Y .Saved → Course (Y .Local) (Y .Receipt) → Y .State → Here
+  abbrev pub advance : ℕ → Y .Saved → CallCourse (Y .Local) (Y .Receipt) → Y .State → RunPoint
   advance c o (more l) s = Y .step c o l s
   advance c o (done r) s = record { state = s; course = done r }
 
   -- The call `c`, begun in the state `s` and stepped `k` times with nothing in between.
-  unfoldable pub trace : (c : ℕ) (s : Y .State) (k : ℕ) → Here
+  unfoldable pub trace : (c : ℕ) (s : Y .State) (k : ℕ) → RunPoint
   trace c s zero = record { state = s; course = more (Y .start c) }
   trace c s (suc k) = advance c (Y .save c s) (trace c s k .course) (trace c s k .state)
 
   -- The steps that are left to the end, at most `f`.
-  unfoldable pub stepsFrom : (f c : ℕ) → Y .Saved → Here → ℕ
+  unfoldable pub stepsFrom : (f c : ℕ) → Y .Saved → RunPoint → ℕ
   stepsFrom zero c o p = zero
   stepsFrom (suc f) c o p =
       elim (isDone (p .course)) [
@@ -89,7 +88,7 @@ module _ (Y : Calls) where
   stepsOf c s = stepsFrom (Y .bound c) c (Y .save c s) (trace c s zero)
 
   -- The call begun in the state `s` "and stepped to its end": what it leaves, and its receipt.
-  unfoldable pub whole : (c : ℕ) → Y .State → Here
+  unfoldable pub whole : (c : ℕ) → Y .State → RunPoint
   whole c s = trace c s (stepsOf c s)
 
   -- "the serial run of this same block in which only they are begun": the chosen calls below `m`, in block order.
@@ -102,8 +101,8 @@ module _ (Y : Calls) where
   serial s m = alone (λ i. true) s m
 
   -- "the number of steps that the serial run takes for that call"
-  abbrev pub serialSteps : Y .State → ℕ → ℕ
-  serialSteps s c = stepsOf c (serial s c)
+  abbrev pub stepsInSerial : Y .State → ℕ → ℕ
+  stepsInSerial s c = stepsOf c (serial s c)
 
   -- What is asked of one call, of good states only. `s₁` is the state of its begin, `s` and `s′` are states of a step.
   pub record Lawful (c : ℕ) : Type 0 where

@@ -1,15 +1,8 @@
--- To read: Tally, Calls and Machine are the definitions; Confluence is the theorem, Exchange the laws of the order,
--- Calculator and Example an instance. The others are the proof, in the order in which they build on each other.
+-- To read: Tally and Taken are what demand 3 compares with; Calls says what is asked of calls, Machine how workers run them; Confluent is the
+-- statement of the theorem, for any such calls; Calculator is an instance to compute with.
 pub mod Tally
+pub mod Taken
 pub mod Calls
 pub mod Machine
-pub mod Confluence
-pub mod Exchange
+pub mod Confluent
 pub mod Calculator
-pub mod Example
-pub mod Runs
-pub mod Expected
-pub mod Refusals
-pub mod Valid
-pub mod Taken
-pub mod Simulation

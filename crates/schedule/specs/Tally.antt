@@ -1,6 +1,5 @@
 -- The tally: what each move is answered, which calls wait, run or are finished, and which call each worker holds,
 -- computed from the numbers of a block and the list of moves alone.
--- Assumes nothing.
 use Prim.Native.Nat.{ℕ, zero, suc}
 use mathlib.Core.Bool.{Bool, true, false, cond, not, _&&_, _||_}
 use mathlib.Core.List.{List, [], _∷_}
@@ -38,33 +37,33 @@ isFinished finished = true
 
 abbrev pub isIdle : Seat → Bool
 isIdle idle = true
-isIdle (holds c) = false
+isIdle (holds call) = false
 
 -- The function `f` with the value `v` at `i`.
 unfoldable pub put {ℓ} : {A : Type ℓ} → (ℕ → A) → ℕ → A → ℕ → A
 put f i v j = elim (eqb j i) [ true ↦ v | false ↦ f j ]
 
--- Some call below `m` is an earlier conflicting call of `c` and is not done.
-unfoldable pub blocked : (before : ℕ → ℕ → Bool) (done : ℕ → Bool) (c m : ℕ) → Bool
-blocked before done c zero = false
-blocked before done c (suc m) = (before m c && not (done m)) || blocked before done c m
+-- Some call below `m` is an earlier conflicting call of `call` and is not done.
+unfoldable pub blocked : (before : ℕ → ℕ → Bool) (done : ℕ → Bool) (call m : ℕ) → Bool
+blocked before done call zero = false
+blocked before done call (suc m) = (before m call && not (done m)) || blocked before done call m
 
 -- "21 no such worker; 22 no such call; 23 worker holds a call; 24 call not waiting; 25 an earlier conflicting call
 -- unfinished; 26 worker holds none"; "The lowest number answers": the number that answers a move, 0 for an accepted one.
 -- `waits` and `done` say of each call whether it is waiting and whether it is finished.
 unfoldable pub refusal : (workers n : ℕ) (before : ℕ → ℕ → Bool) (waits done : ℕ → Bool) (seat : ℕ → Seat) → Move → ℕ
-refusal workers n before waits done seat (Begin w c) =
-    cond (leb workers w) 21
-    (cond (leb n c) 22
-    (cond (not (isIdle (seat w))) 23
-    (cond (not (waits c)) 24
-    (cond (blocked before done c c) 25 0))))
-refusal workers n before waits done seat (Step w) = cond (leb workers w) 21 (cond (isIdle (seat w)) 26 0)
-refusal workers n before waits done seat (Cancel w) = cond (leb workers w) 21 (cond (isIdle (seat w)) 26 0)
+refusal workers n before waits done seat (Begin worker call) =
+    cond (leb workers worker) 21
+    (cond (leb n call) 22
+    (cond (not (isIdle (seat worker))) 23
+    (cond (not (waits call)) 24
+    (cond (blocked before done call call) 25 0))))
+refusal workers n before waits done seat (Step worker) = cond (leb workers worker) 21 (cond (isIdle (seat worker)) 26 0)
+refusal workers n before waits done seat (Cancel worker) = cond (leb workers worker) 21 (cond (isIdle (seat worker)) 26 0)
 
 -- "At the opening every call waits and no worker holds one."
 abbrev pub start : Tally
-start = record { phase = λ c. waiting; seat = λ w. idle }
+start = record { phase = λ call. waiting; seat = λ worker. idle }
 
 -- "BEGIN(worker, call) tests 21 to 25 on the tally; if none applies, the call runs on that worker with 0 steps. STEP(worker)
 -- tests 21 and 26, then adds one step to the worker's call", "CANCEL(worker) tests 21 and 26".
@@ -84,29 +83,29 @@ next s finished = finished
 
 -- "A finished or cancelled call frees its worker": what the worker of a call in that phase holds.
 abbrev pub held : ℕ → Phase → Seat
-held c waiting = idle
-held c (running k) = holds c
-held c finished = idle
+held call waiting = idle
+held call (running k) = holds call
+held call finished = idle
 
--- The call `c` of the worker `w` comes into a phase.
+-- The call of the worker comes into a phase.
 unfoldable pub place : Tally → ℕ → ℕ → Phase → Tally
-place t w c p = record { phase = put (t .phase) c p; seat = put (t .seat) w (held c p) }
+place t worker call p = record { phase = put (t .phase) call p; seat = put (t .seat) worker (held call p) }
 
 -- The step and the cancel of a worker by what it holds; one that holds no call is refused before this.
 unfoldable pub step : (steps : ℕ → ℕ) → Tally → ℕ → Seat → Tally
-step steps t w idle = t
-step steps t w (holds c) = place t w c (next (steps c) (t .phase c))
+step steps t worker idle = t
+step steps t worker (holds call) = place t worker call (next (steps call) (t .phase call))
 
 unfoldable pub cancel : Tally → ℕ → Seat → Tally
-cancel t w idle = t
-cancel t w (holds c) = place t w c waiting
+cancel t worker idle = t
+cancel t worker (holds call) = place t worker call waiting
 
 -- An accepted begin: "the call runs on that worker with 0 steps"; a step; a cancel: "then the call waits and the worker
 -- is free".
 unfoldable pub accept : (steps : ℕ → ℕ) → Tally → Move → Tally
-accept steps t (Begin w c) = place t w c (running 0)
-accept steps t (Step w) = step steps t w (t .seat w)
-accept steps t (Cancel w) = cancel t w (t .seat w)
+accept steps t (Begin worker call) = place t worker call (running 0)
+accept steps t (Step worker) = step steps t worker (t .seat worker)
+accept steps t (Cancel worker) = cancel t worker (t .seat worker)
 
 -- What a move leaves by the number that answers it: "a refused move changes nothing".
 abbrev pub unless {ℓ} : {A : Type ℓ} → ℕ → A → A → A
@@ -136,12 +135,18 @@ answers workers n before steps ms = answersFrom workers n before steps start ms
 
 -- "Running, finished, accepted, last begin and the steps since are read here": whether a call of that phase has begun, and the
 -- steps that it has made since; a finished call has made as many as the serial run.
-abbrev pub begun : Phase → Bool
-begun waiting = false
-begun (running k) = true
-begun finished = true
+abbrev pub hasBegun : Phase → Bool
+hasBegun waiting = false
+hasBegun (running k) = true
+hasBegun finished = true
 
-abbrev pub count : (steps : ℕ → ℕ) → ℕ → Phase → ℕ
-count steps c waiting = 0
-count steps c (running k) = k
-count steps c finished = steps c
+abbrev pub stepsOfPhase : (steps : ℕ → ℕ) → ℕ → Phase → ℕ
+stepsOfPhase steps call waiting = 0
+stepsOfPhase steps call (running k) = k
+stepsOfPhase steps call finished = steps call
+
+-- A begin or a step.
+abbrev pub Forward : Move → Type 0
+Forward (Begin worker call) = Unit {0}
+Forward (Step worker) = Unit {0}
+Forward (Cancel worker) = ⊥

@@ -34,16 +34,18 @@ fn step_to_end(
     keys: &[u64],
     cells: &mut [i64],
     status: &mut [u64],
-    olds: &[i64],
+    saved: &[i64],
 ) -> Head
-    ensures { λ r. ⌜ lent r (now (plan .entry)) (now (keys .entry)) (now (cells .exit)) (now (status .exit)) (now (olds .entry)) ≡ stepToEnd maxSteps (now (block .entry)) (lent head (now (plan .entry)) (now (keys .entry)) (now (cells .entry)) (now (status .entry)) (now (olds .entry))) ⌝ }
+    ensures { λ r. ⌜ lent r (now (plan .entry)) (now (keys .entry)) (now (cells .exit)) (now (status .exit)) (now (saved .entry))
+        ≡ stepToEnd maxSteps (now (block .entry))
+        (lent head (now (plan .entry)) (now (keys .entry)) (now (cells .entry)) (now (status .entry)) (now (saved .entry))) ⌝ }
 {
     let mut left = MAX_STEPS;
     while 0 < left {
         if is_idle(head) {
             return head;
         }
-        let reply = step(head, block, plan, keys, cells, status, olds, WORKER);
+        let reply = step(head, block, plan, keys, cells, status, saved, WORKER);
         head = reply.head;
         left -= 1;
     }
@@ -58,13 +60,15 @@ fn run_call(
     keys: &[u64],
     cells: &mut [i64],
     status: &mut [u64],
-    olds: &mut [i64],
+    saved: &mut [i64],
     call: usize,
 ) -> Head
-    ensures { λ r. ⌜ lent r (now (plan .entry)) (now (keys .entry)) (now (cells .exit)) (now (status .exit)) (now (olds .exit)) ≡ runCall (now (block .entry)) (lent head (now (plan .entry)) (now (keys .entry)) (now (cells .entry)) (now (status .entry)) (now (olds .entry))) call ⌝ }
+    ensures { λ r. ⌜ lent r (now (plan .entry)) (now (keys .entry)) (now (cells .exit)) (now (status .exit)) (now (saved .exit))
+        ≡ runCall (now (block .entry))
+        (lent head (now (plan .entry)) (now (keys .entry)) (now (cells .entry)) (now (status .entry)) (now (saved .entry))) call ⌝ }
 {
-    let reply = begin(head, plan, keys, cells, status, olds, WORKER, call);
-    step_to_end(reply.head, block, plan, keys, cells, status, olds)
+    let reply = begin(head, plan, keys, cells, status, saved, WORKER, call);
+    step_to_end(reply.head, block, plan, keys, cells, status, saved)
 }
 
 // The number of the calls that are run, also where a damaged head has more than a block can.
@@ -83,14 +87,16 @@ pub fn serial_run(
     keys: &[u64],
     cells: &mut [i64],
     status: &mut [u64],
-    olds: &mut [i64],
+    saved: &mut [i64],
 ) -> Head
-    ensures { λ r. ⌜ lent r (now (plan .entry)) (now (keys .entry)) (now (cells .exit)) (now (status .exit)) (now (olds .exit)) ≡ serialRun (now (block .entry)) (lent head (now (plan .entry)) (now (keys .entry)) (now (cells .entry)) (now (status .entry)) (now (olds .entry))) ⌝ }
+    ensures { λ r. ⌜ lent r (now (plan .entry)) (now (keys .entry)) (now (cells .exit)) (now (status .exit)) (now (saved .exit))
+        ≡ serialRun (now (block .entry))
+        (lent head (now (plan .entry)) (now (keys .entry)) (now (cells .entry)) (now (status .entry)) (now (saved .entry))) ⌝ }
 {
     let calls = call_count(head);
     let mut call = 0;
     while call < calls {
-        head = run_call(head, block, plan, keys, cells, status, olds, call);
+        head = run_call(head, block, plan, keys, cells, status, saved, call);
         call += 1;
     }
     head

@@ -1,4 +1,4 @@
--- Names every definition of this crate that computes, so that a worked example opens them all by one name. Assumes nothing.
+-- Names every definition of this crate that computes, so that a worked example opens them all by one name.
 use Rattle.sheet.specs.Sheet.{closingNumber, closingLength, cellRecords, receiptRecords, sheetBytes, statesAllowed, allFinished, receiptsAllowed, balancesAllowed, writtenIf, sheetOf}
 use Rattle.machine.specs.Computing as machine
 

@@ -1,14 +1,14 @@
--- The sheet's answers 20, 27 and 28, and its bytes, computed on block P's run. Assumes nothing.
+-- The sheet's answers 20, 27 and 28, and its bytes, computed on block P's run.
 use mathlib.Core.Path.{_≡_, refl}
 use mathlib.Core.List.{List, [], _∷_, _++_, map}
 use Prim.Native.Nat.{ℕ}
 use lib.IntN.{pos, negsuc}
 use Rattle.wire.specs.Bytes.{repeated}
 use Rattle.block.specs.Record.{recordOf}
-use Rattle.block.specs.Assemble.{joined, cell, end}
+use Rattle.block.specs.Assemble.{joinedParts, cell, end}
 use Rattle.block.specs.Worked.{P}
 use Rattle.machine.specs.Run.{Run}
-use Rattle.machine.specs.Opening.{opened}
+use Rattle.machine.specs.Opening.{openedForEight}
 use Rattle.machine.specs.Serial.{serialRun}
 use Rattle.machine.specs.Damage.{tooShort, valueAt, statusAt, callsAs, cellsAs, workersAs}
 use Rattle.sheet.specs.Sheet.{closingNumber, sheetOf, sheetBytes, nextFile}
@@ -16,11 +16,11 @@ use Rattle.sheet.specs.Computing.{computing}
 
 -- Block P with all its calls finished, and its sheet: three cells, three receipts and the end, of 100 bytes.
 unfoldable pub closed : Run
-closed = serialRun P (opened P)
+closed = serialRun P (openedForEight P)
 
 unfoldable pub sheetP : List ℕ
 sheetP =
-    joined
+    joinedParts
     (cell 7 0 0 0 (pos 1)
     ∷ cell 32768 0 0 0 (pos 1)
     ∷ cell 32768 1 0 0 (pos 1)
@@ -37,20 +37,20 @@ shortClosings rs = map (λ r. closingNumber (sheetOf r (repeated 99 0) .answer))
 pub record Sheet-P : Type 0 where
   pub bytes : sheetBytes closed ≡ sheetP
   -- The next day opens from its cells, in which account 5 has none left.
-  pub next-day : sheetBytes (opened (nextFile closed [] [])) ≡ nextFile closed [] []
+  pub next-day : sheetBytes (openedForEight (nextFile closed [] [])) ≡ nextFile closed [] []
   -- 28 with one byte too few, where the output is unchanged; a sheet of exactly the output's length fits; bytes behind it are unchanged.
   pub too-long : closingNumber (sheetOf closed (repeated 99 7) .answer) ≡ 28
   pub unchanged : sheetOf closed (repeated 99 7) .output ≡ repeated 99 7
   pub exact : sheetOf closed (repeated 100 7) .output ≡ sheetP
   pub behind : sheetOf closed (repeated 102 7) .output ≡ sheetP ++ (7 ∷ 7 ∷ [])
   -- 27 with a call unfinished; 27 comes before 28.
-  pub unfinished : closings (opened P ∷ statusAt 8 1 closed ∷ closed ∷ []) ≡ 27 ∷ 27 ∷ 0 ∷ []
-  pub order : closingNumber (sheetOf (opened P) [] .answer) ≡ 27
+  pub unfinished : closings (openedForEight P ∷ statusAt 8 1 closed ∷ closed ∷ []) ≡ 27 ∷ 27 ∷ 0 ∷ []
+  pub order : closingNumber (sheetOf (openedForEight P) [] .answer) ≡ 27
   -- 20: the sizes, the number of calls, the states (before 27), the number of cells, a balance below zero, the receipts; the number of
   -- workers is not looked at.
   pub sizes : closings (tooShort closed) ≡ 20 ∷ 20 ∷ 20 ∷ 20 ∷ 20 ∷ []
   pub numbers : closings (callsAs 257 closed ∷ cellsAs 1025 closed ∷ workersAs 0 closed ∷ []) ≡ 20 ∷ 20 ∷ 0 ∷ []
-  pub states : closings (statusAt 0 3 closed ∷ statusAt 0 3 (opened P) ∷ []) ≡ 20 ∷ 20 ∷ []
+  pub states : closings (statusAt 0 3 closed ∷ statusAt 0 3 (openedForEight P) ∷ []) ≡ 20 ∷ 20 ∷ []
   pub balances : closings (valueAt 1 (negsuc 0) closed ∷ valueAt 3 (negsuc 0) closed ∷ []) ≡ 20 ∷ 0 ∷ []
   pub receipts : closings (statusAt 1 6 closed ∷ statusAt 2 65 closed ∷ statusAt 2 64 closed ∷ []) ≡ 20 ∷ 20 ∷ 0 ∷ []
   -- With an output too short, what 28 uses is still 20, and what only the writing uses is not looked at: the number of cells and a balance
@@ -60,7 +60,7 @@ pub record Sheet-P : Type 0 where
   pub both : shortClosings (valueAt 1 (negsuc 0) (statusAt 1 6 closed) ∷ []) ≡ 20 ∷ []
 
 pub sheet-of-p : Sheet-P
-unfolding computing joined P closed sheetP tooShort
+unfolding computing joinedParts P closed sheetP tooShort
 sheet-of-p =
     record {
       bytes = refl;

@@ -1,4 +1,4 @@
--- "Closing sheet": its bytes, and the refusals 20, 27 and 28. Assumes nothing.
+-- "Closing sheet": its bytes, and the refusals 20, 27 and 28.
 use mathlib.Core.Bool.{Bool, true, _&&_, _||_, not}
 use mathlib.Core.List.{List, [], _++_}
 use Prim.Native.Nat.{ℕ, zero, suc, _+_, _*_, _/_, _%_, _^_}
@@ -14,8 +14,8 @@ use Rattle.block.specs.Record.{recordOf, cellKind, receiptKind, endKind}
 use Rattle.block.specs.Encoding.{Routine, functionRecord, callRecord, records}
 use Rattle.block.specs.declared.Call.{Call}
 use Rattle.machine.specs.Answer.{answerNumber}
-use Rattle.machine.specs.Run.{Run, sizesOf, largeEnough, statusWord, stateOf, isState, finished}
-use Rattle.machine.specs.Action.{notPaid}
+use Rattle.machine.specs.Run.{Run, sizesOf, largeEnough, statusWord, stateOf, isState, finished, outcomeWord, countWord}
+use Rattle.block.specs.Outcomes.{notPaid}
 use Rattle.machine.specs.Step.{cellAt}
 use Rattle.machine.specs.declared.Answer.{Answer}
 use Rattle.machine.specs.declared.Answer.the-variants.{Damaged, CallUnfinished, SheetTooLong}
@@ -53,10 +53,10 @@ cellRecords keys cells (suc left) n =
 
 -- "kind 5 receipts in block order (outcome 2, count 2)"
 unfoldable pub receiptRecords : List ℕ → ℕ → ℕ → List ℕ
-receiptRecords status zero c = []
-receiptRecords status (suc left) c =
-    recordOf receiptKind (bytesOf 2 (statusWord status c 1) ++ bytesOf 2 (statusWord status c 2))
-    ++ receiptRecords status left (c + 1)
+receiptRecords status zero call = []
+receiptRecords status (suc left) call =
+    recordOf receiptKind (bytesOf 2 (statusWord status call outcomeWord) ++ bytesOf 2 (statusWord status call countWord))
+    ++ receiptRecords status left (call + 1)
 
 -- "Kind 2 records .., kind 5 receipts .., kind 4."
 unfoldable pub sheetBytes : Run → List ℕ
@@ -81,7 +81,7 @@ allFinished status (suc n) = eqb (stateOf status n) finished && allFinished stat
 unfoldable pub receiptsAllowed : List ℕ → ℕ → Bool
 receiptsAllowed status zero = true
 receiptsAllowed status (suc n) =
-    leb (statusWord status n 1) notPaid && leb (statusWord status n 2) maxCode && receiptsAllowed status n
+    leb (statusWord status n outcomeWord) notPaid && leb (statusWord status n countWord) maxCode && receiptsAllowed status n
 
 -- The field of a cell's key; 0 is that of a balance.
 abbrev pub fieldOf : List ℕ → ℕ → ℕ

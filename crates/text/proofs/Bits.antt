@@ -1,4 +1,4 @@
--- The text of the set bits of a row, from a call on: what a turn of the loop over the calls takes away. Assumes nothing.
+-- The text of the set bits of a row, from a call on: what a turn of the loop over the calls takes away.
 use mathlib.Core.Path.{_≡_, refl, sym, ap, _∙_}
 use mathlib.Core.Bool.{Bool, true, false}
 use mathlib.Core.List.{List, [], _∷_, _++_, map}
@@ -8,7 +8,7 @@ use native.Mathlib.Omega.{arith}
 use lib.ListN.{length, length-append}
 use Rattle.arith.specs.Choice.{if_then_else_}
 use Rattle.wire.specs.Bytes.{stored}
-use Rattle.wire.specs.Laws.{stored-append, stored-length}
+use Rattle.wire.proofs.BytesLaws.{stored-append, stored-length}
 use Rattle.wire.specs.Rows.{inRow}
 use Rattle.wire.specs.Decimal.{decimal, space}
 use Rattle.text.specs.Lines.{passing}
@@ -25,8 +25,8 @@ passing-turn p k h = let e : 256 - k ≡ suc (256 - (k + 1)) = omega arith in rw
 abbrev from : List ℕ → ℕ → List ℕ
 from row k = passing (inRow row) (256 - k) k
 
-abbrev pub left : List ℕ → ℕ → List ℕ
-left row k = spaced (map decimal (from row k))
+abbrev pub bitsLeft : List ℕ → ℕ → List ℕ
+bitsLeft row k = spaced (map decimal (from row k))
 
 module _ (row : List ℕ) where
   from-none : (k : ℕ) → 256 ≤ k → from row k ≡ []
@@ -40,36 +40,36 @@ module _ (row : List ℕ) where
   from-clear k h e = passing-turn (inRow row) k h ∙ rw e
 
   -- A loop over the calls, of which k is the next: what is written and what is left make up the whole.
-  pub record Going (s t : List ℕ) (at end k : ℕ) : Type 0 where
-    pub whole : stored s at (left row 0) ≡ stored t end (left row k)
-    pub last : at + length (left row 0) ≡ end + length (left row k)
+  pub record WritingBits (s t : List ℕ) (at end k : ℕ) : Type 0 where
+    pub whole : stored s at (bitsLeft row 0) ≡ stored t end (bitsLeft row k)
+    pub last : at + length (bitsLeft row 0) ≡ end + length (bitsLeft row k)
     pub short : end ≤ at + 21 * k
     pub same : length t ≡ length s
 
-  pub going-start : (s : List ℕ) (at : ℕ) → Going s s at at 0
-  going-start s at = record { whole = refl; last = refl; short = omega arith; same = refl }
+  pub bits-start : (s : List ℕ) (at : ℕ) → WritingBits s s at at 0
+  bits-start s at = record { whole = refl; last = refl; short = omega arith; same = refl }
 
-  module _ (s t : List ℕ) (at end k : ℕ) (g : Going s t at end k) where
+  module _ (s t : List ℕ) (at end k : ℕ) (g : WritingBits s t at end k) where
     -- A call that is set is written; another is passed over.
     pub going-set : (u : List ℕ) (next : ℕ) → k < 256 → inRow row k ≡ true
-        → (u ≡ stored t end (space ∷ decimal k)) × (next ≡ end + length (space ∷ decimal k)) → Going s u at next (k + 1)
+        → (u ≡ stored t end (space ∷ decimal k)) × (next ≡ end + length (space ∷ decimal k)) → WritingBits s u at next (k + 1)
     unfolding spaced
     going-set u next h e w =
-        let text : left row k ≡ (space ∷ decimal k) ++ left row (k + 1) = ap (λ (l : List ℕ). spaced (map decimal l)) (from-set k h e) in
+        let text : bitsLeft row k ≡ (space ∷ decimal k) ++ bitsLeft row (k + 1) = ap (λ (l : List ℕ). spaced (map decimal l)) (from-set k h e) in
         record {
           whole =
-              g .whole ∙ ap (λ (l : List ℕ). stored t end l) text ∙ stored-append (space ∷ decimal k) (left row (k + 1)) t end
+              g .whole ∙ ap (λ (l : List ℕ). stored t end l) text ∙ stored-append (space ∷ decimal k) (bitsLeft row (k + 1)) t end
               ∙ rw (w .0, w .1);
           last =
-              g .last ∙ ap (λ (l : List ℕ). end + length l) text ∙ ap (λ (n : ℕ). end + n) (length-append (space ∷ decimal k) (left row (k + 1)))
+              g .last ∙ ap (λ (l : List ℕ). end + length l) text ∙ ap (λ (n : ℕ). end + n) (length-append (space ∷ decimal k) (bitsLeft row (k + 1)))
               ∙ rw (w .1) (omega arith);
           short = omega (arith, g .short, w .1, digits-length 20 k);
           same = rw (w .0) (stored-length (space ∷ decimal k) t end) ∙ g .same;
         }
 
-    pub going-clear : k < 256 → inRow row k ≡ false → Going s t at end (k + 1)
+    pub going-clear : k < 256 → inRow row k ≡ false → WritingBits s t at end (k + 1)
     going-clear h e =
-        let text : left row k ≡ left row (k + 1) = ap (λ (l : List ℕ). spaced (map decimal l)) (from-clear k h e) in
+        let text : bitsLeft row k ≡ bitsLeft row (k + 1) = ap (λ (l : List ℕ). spaced (map decimal l)) (from-clear k h e) in
         record {
           whole = g .whole ∙ ap (λ (l : List ℕ). stored t end l) text;
           last = g .last ∙ ap (λ (l : List ℕ). end + length l) text;
@@ -77,10 +77,10 @@ module _ (row : List ℕ) where
           same = g .same;
         }
 
-    pub going-end : 256 ≤ k → (t ≡ stored s at (left row 0)) × (end ≡ at + length (left row 0))
+    pub bits-end : 256 ≤ k → (t ≡ stored s at (bitsLeft row 0)) × (end ≡ at + length (bitsLeft row 0))
     unfolding spaced stored
-    going-end h =
-        let text : left row k ≡ [] = ap (λ (l : List ℕ). spaced (map decimal l)) (from-none k h) in
+    bits-end h =
+        let text : bitsLeft row k ≡ [] = ap (λ (l : List ℕ). spaced (map decimal l)) (from-none k h) in
         (sym (g .whole ∙ ap (λ (l : List ℕ). stored t end l) text), sym (g .last ∙ ap (λ (l : List ℕ). end + length l) text ∙ add-zero end))
 
 -- How long the text of all bits can be.

@@ -1,4 +1,4 @@
--- What the proofs of this crate cite: the digits of a number, stored one by one. Assumes nothing.
+-- What the proofs of this crate cite: the digits of a number, stored one by one.
 use mathlib.Core.Path.{_≡_, refl, sym, ap, _∙_}
 use mathlib.Core.Bool.{Bool, true, false, true≢false}
 use mathlib.Core.List.{List, [], _∷_, _++_, map}
@@ -10,7 +10,7 @@ use lib.IntN.{ℤ, pos, negsuc, natAbs}
 use lib.Signed.{ltZ}
 use lib.ListN.{length, set, length-append}
 use Rattle.wire.specs.Bytes.{stored}
-use Rattle.wire.specs.Laws.{stored-append}
+use Rattle.wire.proofs.BytesLaws.{stored-append}
 use Rattle.wire.specs.Decimal.{digitsOf, decimal, signedDecimal, minus, space, zeroDigit}
 use Rattle.text.specs.Written.{spaced}
 
@@ -90,10 +90,10 @@ unfolding signedDecimal
 below-zero (pos n) h = absurd (omega (arith, ltb-true n 0 h))
 below-zero (negsuc n) h = refl
 
-pub from-zero : (z : ℤ) → ltZ z (pos 0) ≡ false → signedDecimal z ≡ decimal (natAbs z)
+pub text-from-zero : (z : ℤ) → ltZ z (pos 0) ≡ false → signedDecimal z ≡ decimal (natAbs z)
 unfolding signedDecimal
-from-zero (pos n) h = refl
-from-zero (negsuc n) h = absurd (true≢false h)
+text-from-zero (pos n) h = refl
+text-from-zero (negsuc n) h = absurd (true≢false h)
 
 -- A part for a value: x is the value as the code reads it.
 module _ (s : List ℕ) (at m : ℕ) (x z : ℤ) (e : x ≡ z) (size : m ≡ natAbs x) where
@@ -108,4 +108,4 @@ module _ (s : List ℕ) (at m : ℕ) (x z : ℤ) (e : x ≡ z) (size : m ≡ nat
   pub value-above : (v : List ℕ) (r : ℕ) → ltZ x (pos 0) ≡ false
       → (v ≡ stored s at (space ∷ decimal m)) × (r ≡ at + length (space ∷ decimal m))
       → (v ≡ stored s at (space ∷ signedDecimal z)) × (r ≡ at + length (space ∷ signedDecimal z))
-  value-above v r h w = rw (← e, from-zero x h, ← size) w
+  value-above v r h w = rw (← e, text-from-zero x h, ← size) w

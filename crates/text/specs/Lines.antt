@@ -1,4 +1,4 @@
--- The lines of text that the programs print. Assumes nothing.
+-- The lines of text that the programs print.
 use mathlib.Core.Bool.{Bool}
 use mathlib.Core.List.{List, [], _∷_, map}
 use Prim.Native.Nat.{ℕ, zero, suc, _+_}

@@ -1,5 +1,11 @@
 // Lines of text as bytes in a lent buffer: each function stores one line from a position on and answers the position behind it; what
 // does not fit is dropped, and all other bytes are unchanged.
+use wire::ROW_BITS;
+use wire::decimal::DECIMAL_DIGITS;
+use wire::decimal::LINE_FEED;
+use wire::decimal::MINUS;
+use wire::decimal::SPACE;
+use wire::decimal::ZERO_DIGIT;
 ghost use mathlib.Core.Path.{_≡_};
 ghost use mathlib.Core.List.{_∷_, [], map};
 ghost use Prim.Native.Nat.{_+_, _^_, _<_, _≤_};
@@ -10,27 +16,12 @@ ghost use Rattle.wire.specs.Decimal.{digitsOf, decimal, signedDecimal, lineFeed
 ghost use Rattle.text.specs.Lines.{refusedText, blockRefusedText, cellText, receiptText, countsText, passing, rowText};
 ghost use Rattle.text.specs.Written.{Written, spaced};
 
-// Characters.
-const LINE_FEED: u8 = 10;
-
-const SPACE: u8 = 32;
-
-const MINUS: u8 = 45;
-
-const ZERO: u8 = 48;
-
-// A number of 64 bits has at most 20 decimal digits.
-const MAX_DIGITS: usize = 20;
-
-// A row has 256 bits.
-const ROW_BITS: usize = 256;
-
 // A digit's character.
 fn digit(n: u64) -> u8
     requires { ⌜ n < 10 ⌝ }
     ensures { λ r. ⌜ r ≡ zeroDigit + n ⌝ }
 {
-    ZERO + n as u8
+    ZERO_DIGIT + n as u8
 }
 
 // The digits of a number from a position on, `left` at most; answers the position behind them.
@@ -59,7 +50,7 @@ fn put_part(out: &mut [u8], at: usize, n: u64) -> usize
     ensures end { λ r. ⌜ r ≡ at + length (space ∷ decimal n) ⌝ }
 {
     wire::put_byte(out, at, SPACE);
-    put_digits(out, at + 1, MAX_DIGITS, n)
+    put_digits(out, at + 1, DECIMAL_DIGITS, n)
 }
 
 // The same of a value, which may be below zero.
@@ -71,7 +62,7 @@ fn put_value_part(out: &mut [u8], at: usize, z: i64) -> usize
     if z < 0 {
         wire::put_byte(out, at, SPACE);
         wire::put_byte(out, at + 1, MINUS);
-        return put_digits(out, at + 2, MAX_DIGITS, arith::magnitude(z));
+        return put_digits(out, at + 2, DECIMAL_DIGITS, arith::magnitude(z));
     }
     put_part(out, at, arith::magnitude(z))
 }

@@ -1,4 +1,4 @@
--- The mathematics of the crate's proofs, over plain variables: a number read or written in two halves, and the loop that clears a list. Assumes nothing.
+-- The mathematics of the crate's proofs, over plain variables: a number read or written in two halves, and the loop that clears a list.
 use mathlib.Core.Path.{_≡_, refl, sym, ap, _∙_}
 use mathlib.Core.List.{List, [], _∷_, _++_, append-nil}
 use Prim.Native.Nat.{ℕ, zero, suc, _+_, _*_, _/_, _%_, _^_, _≤_, _<_}
@@ -8,7 +8,7 @@ use native.Mathlib.Omega.{arith}
 use lib.ListN.{length, getD, set, drop, replicate, length-set, length-append, length-replicate, length-drop, drop-of-length-le, List·getD-eq-default}
 use lib.Seq.{set-out}
 use Rattle.wire.specs.Bytes.{readLe, bytesOf, stored, writeLe, repeated}
-use Rattle.wire.specs.Laws.{read-two, read-join, read-lt, write-join}
+use Rattle.wire.proofs.BytesLaws.{read-two, read-join, read-lt, write-join}
 
 -- The last byte, read as two.
 pub read-last : (s : List ℕ) (at : ℕ) → length s ≤ at + 1 → readLe 2 s at ≡ getD s at 0
@@ -34,11 +34,11 @@ write-halves j s at n e f = f ∙ rw e (sym (write-join j j s at n))
 
 module _ {ℓ} {A : Type ℓ} (a : A) where
   -- The first i elements of a list are cleared to a, and the others are as they were.
-  pub record Cleared (s₀ s : List A) (i : ℕ) : Type ℓ where
+  pub record ClearedBelow (s₀ s : List A) (i : ℕ) : Type ℓ where
     pub within : i ≤ length s₀
     pub same : s ≡ replicate i a ++ drop i s₀
 
-  pub cleared-none : (s : List A) → Cleared s s 0
+  pub cleared-none : (s : List A) → ClearedBelow s s 0
   cleared-none s = record { within = omega arith; same = refl }
 
   step : (i : ℕ) (s : List A) → i < length s → set (replicate i a ++ drop i s) i a ≡ replicate (suc i) a ++ drop (suc i) s
@@ -46,16 +46,16 @@ module _ {ℓ} {A : Type ℓ} (a : A) where
   step zero (x ∷ s) h = refl
   step (suc i) (x ∷ s) h = ap (λ (t : List A). a ∷ t) (step i s (le-of-suc-le-suc h))
 
-  pub cleared-length : (s₀ s : List A) (i : ℕ) → Cleared s₀ s i → length s ≡ length s₀
+  pub cleared-length : (s₀ s : List A) (i : ℕ) → ClearedBelow s₀ s i → length s ≡ length s₀
   cleared-length s₀ s i h =
       ap length (h .same) ∙ simp (length-append, length-replicate, length-drop) (let w : i ≤ length s₀ = h .within in omega arith)
 
-  pub cleared-more : (s₀ s : List A) (i : ℕ) → Cleared s₀ s i → i < length s → Cleared s₀ (set s i a) (i + 1)
+  pub cleared-more : (s₀ s : List A) (i : ℕ) → ClearedBelow s₀ s i → i < length s → ClearedBelow s₀ (set s i a) (i + 1)
   cleared-more s₀ s i h lt =
       let l : i < length s₀ = rw (cleared-length s₀ s i h) at lt in
       record { within = omega arith; same = ap (λ (t : List A). set t i a) (h .same) ∙ simp add-one (step i s₀ l) }
 
-  pub cleared-all : (s₀ s : List A) (i : ℕ) → Cleared s₀ s i → length s ≤ i → s ≡ repeated (length s₀) a
+  pub cleared-all : (s₀ s : List A) (i : ℕ) → ClearedBelow s₀ s i → length s ≤ i → s ≡ repeated (length s₀) a
   unfolding repeated
   cleared-all s₀ s i h end =
       let l : i ≡ length s₀ = let w : i ≤ length s₀ = h .within in let e : length s ≡ length s₀ = cleared-length s₀ s i h in omega arith in

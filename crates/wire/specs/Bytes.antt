@@ -1,4 +1,4 @@
--- Little-endian numbers in lists of bytes: one definition of reading and one of writing, for every width. Assumes nothing.
+-- Little-endian numbers in lists of bytes: one definition of reading and one of writing, for every width.
 use mathlib.Core.List.{List, [], _∷_, _++_}
 use Prim.Native.Nat.{ℕ, zero, suc, _+_, _-_, _*_, _/_, _%_}
 use lib.ListN.{length, drop, set, replicate}

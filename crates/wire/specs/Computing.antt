@@ -1,4 +1,4 @@
--- Names every definition of this crate that computes, so that a worked example opens them all by one name. Assumes nothing.
+-- Names every definition of this crate that computes, so that a worked example opens them all by one name.
 use Rattle.wire.specs.Bytes.{number, bytesOf, stored, repeated, below}
 use Rattle.wire.specs.Decimal.{digitsOf, signedDecimal, parts}
 use Rattle.wire.specs.RowOps.{withBit, unionOf, firstOf, nextBit}

@@ -1,4 +1,4 @@
--- Lines of text as bytes: decimal numbers, and parts divided by spaces. Assumes nothing.
+-- Lines of text as bytes: decimal numbers, and parts divided by spaces.
 use mathlib.Core.Bool.{true, false}
 use mathlib.Core.List.{List, [], _∷_, _++_}
 use Prim.Native.Nat.{ℕ, zero, suc, _+_, _/_, _%_}
@@ -18,13 +18,16 @@ abbrev pub zeroDigit : ℕ
 zeroDigit = 48
 
 -- A number in decimal digits; 20 digits hold every number of 64 bits.
+abbrev pub decimalDigits : ℕ
+decimalDigits = 20
+
 unfoldable pub digitsOf : ℕ → ℕ → List ℕ
 digitsOf zero n = []
 digitsOf (suc left) n =
     elim (ltb n 10) [ true ↦ (zeroDigit + n) ∷ [] | false ↦ digitsOf left (n / 10) ++ ((zeroDigit + n % 10) ∷ []) ]
 
 abbrev pub decimal : ℕ → List ℕ
-decimal n = digitsOf 20 n
+decimal n = digitsOf decimalDigits n
 
 unfoldable pub signedDecimal : ℤ → List ℕ
 signedDecimal (pos n) = decimal n

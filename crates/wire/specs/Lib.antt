@@ -1,8 +1,7 @@
+-- To read: Bytes is reading and writing little-endian numbers, Rows the row of 256 bits, RowOps what is done to rows, Decimal the text of numbers.
+-- Computing names what computed examples open.
 pub mod Bytes
 pub mod Rows
 pub mod RowOps
 pub mod Decimal
-pub mod Laws
-pub mod RowLaws
-pub mod NextLaws
 pub mod Computing

@@ -1,4 +1,4 @@
--- A row with one bit more, the union of two rows, and the next set bit of a row. Assumes nothing.
+-- A row with one bit more, the union of two rows, and the next set bit of a row.
 use mathlib.Core.Bool.{Bool}
 use mathlib.Core.List.{List, [], _∷_}
 use Prim.Native.Nat.{ℕ, zero, suc, _+_, _-_, _/_, _%_, _^_}
@@ -6,7 +6,7 @@ use lib.Bits.{bitOr}
 use lib.Dec.{ltb}
 use lib.ListN.{getD, set}
 use Rattle.arith.specs.Choice.{if_then_else_}
-use Rattle.wire.specs.Rows.{inRow}
+use Rattle.wire.specs.Rows.{inRow, rowBits}
 
 -- The row with bit i set as well; a bit past the row changes nothing.
 unfoldable pub withBit : List ℕ → ℕ → List ℕ
@@ -23,6 +23,6 @@ unfoldable pub firstOf : (ℕ → Bool) → ℕ → ℕ → ℕ
 firstOf p zero i = i
 firstOf p (suc n) i = let rest = firstOf p n (i + 1) in if p i then i else rest
 
--- The least set bit at or above a position; 256 where there is none.
+-- The least set bit at or above a position; the number of bits where there is none.
 unfoldable pub nextBit : List ℕ → ℕ → ℕ
-nextBit ws from = if ltb from 256 then firstOf (inRow ws) (256 - from) from else 256
+nextBit ws from = if ltb from rowBits then firstOf (inRow ws) (rowBits - from) from else rowBits

@@ -1,9 +1,15 @@
--- "Each call's earlier conflicting calls are kept as a row of 256 bits": four words of 64 bits, lowest bit first. Assumes nothing.
+-- "Each call's earlier conflicting calls are kept as a row of 256 bits": four words of 64 bits, lowest bit first.
 use mathlib.Core.Bool.{Bool, true, false}
 use mathlib.Core.List.{List, [], _∷_}
 use Prim.Native.Nat.{ℕ, _+_, _*_, _/_, _%_, _^_}
 use lib.ListN.{getD, take, drop}
 use lib.Dec.{eqb}
+
+abbrev pub rowBits : ℕ
+rowBits = 256
+
+abbrev pub rowWords : ℕ
+rowWords = 4
 
 abbrev pub bit : Bool → ℕ
 bit true = 1

@@ -1,5 +1,7 @@
 // Little-endian numbers in byte slices, total reads and writes of slices, and rows of 256 bits as four words.
 // Past the end of a slice a read gives 0 and a write changes nothing.
+pub mod decimal;
+
 ghost use mathlib.Core.Path.{_≡_};
 ghost use Prim.Native.Nat.{_+_, _%_, _^_, _≤_};
 ghost use lib.IntN.{pos};
@@ -244,7 +246,9 @@ pub fn put_i64(s: &mut [u8], at: usize, v: i64)
 }
 
 // A row is 256 bits, in words of 64.
-const ROW_BITS: usize = 256;
+pub const ROW_BITS: usize = 256;
+
+pub const ROW_WORDS: usize = 4;
 
 const WORD_BITS: usize = 64;
 

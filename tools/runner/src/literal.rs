@@ -36,7 +36,7 @@ pub fn modules(cases: &[Case]) -> Vec<(String, String)> {
 pub fn module(first: usize, cases: &[Case]) -> String {
     let last = first + cases.len() - 1;
     let mut text =
-        format!("-- Cases {first} to {last} of the independent runner. Assumes nothing.\n");
+        format!("-- Cases {first} to {last} of the independent runner.\n");
     text += HEADER;
     for (index, case) in cases.iter().enumerate() {
         let cons = if index == 0 { "" } else { "∷ " };

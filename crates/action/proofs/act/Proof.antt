@@ -1,7 +1,7 @@
--- `action::act` meets its contract: each arm is a clause of the definition. Assumes nothing.
+-- `action::act` meets its contract: each arm is a clause of the definition.
 use borrow.Author.Needs.{needs}
 use mathlib.Core.Path.{_∙_}
-use Rattle.arith.proofs.Laws.{back}
+use Rattle.arith.proofs.Laws.{read-back}
 use Rattle.machine.specs.Action.{instrAction}
 use Rattle.action.specs.Acted.{jumpOf}
 use Rattle.action.proofs.act.Statement.{statement}
@@ -121,7 +121,7 @@ returns-2 c = simp (c .before .enum-told2 .given .1) (c .throw .ensures)
 
 returns-3 : tie.Need-returns-3
 unfolding instrAction
-returns-3 c = simp (c .before .before .i .given .1) (c .set .ensures ∙ simp (back {z = c .before .before .i .given .0 .1 .0} (record { sfits = c .before .known-told .given .1 .0 .1 })))
+returns-3 c = simp (c .before .before .i .given .1) (c .set .ensures ∙ simp (read-back {z = c .before .before .i .given .0 .1 .0} (record { sfits = c .before .known-told .given .1 .0 .1 })))
 
 returns-4 : tie.Need-returns-4
 unfolding instrAction

@@ -1,10 +1,10 @@
--- `action::act_at` meets its contract: the jump of an instruction that was decoded is at most the size, which 16 bits hold. Assumes nothing.
+-- `action::act_at` meets its contract: the jump of an instruction that was decoded is at most the size, which 16 bits hold.
 use borrow.Author.Needs.{needs}
 use mathlib.Core.Path.{sym, _∙_}
 use Prim.Native.Nat.{_+_}
 use native.Mathlib.Omega.{arith}
 use lib.ListN.{drop}
-use Rattle.action.specs.JumpLaws.{decode-bounded}
+use Rattle.action.proofs.JumpLaws.{decode-bounded}
 use Rattle.action.proofs.Laws.{acted-valid, acted-invalid}
 use Rattle.action.proofs.act_at.Statement.{statement}
 use Rattle.action.proofs.act_at.Tie as tie
@@ -34,7 +34,8 @@ add-t16 c = search needs
 
 returns : tie.Need-returns
 returns c =
-    acted-valid (c .before .before .before .before .before .before .args .c) (c .before .before .before .before .before .before .args .index + 1) (c .before .before .before .before .before .before .args .regs)
+    let c6 = c .before .before .before .before .before .before in
+    acted-valid (c6 .args .c) (c6 .args .index + 1) (c6 .args .regs)
     (sym (c .before .before .before .before .decode .ensures) ∙ c .before .before .decoded .given .1) (c .act .ensures)
 
 returns-2 : tie.Need-returns-2

@@ -1,7 +1,7 @@
--- `action::enter` meets its contract: the test of the value is the definition's. Assumes nothing.
+-- `action::enter` meets its contract: the test of the value is the definition's.
 use lib.IntN.{pos}
 use lib.Signed.{ltZ}
-use Rattle.arith.proofs.Laws.{back}
+use Rattle.arith.proofs.Laws.{read-back}
 use Rattle.machine.specs.Action.{entryAction}
 use Rattle.action.proofs.Laws.{test-read}
 use Rattle.action.proofs.enter.Statement.{statement}
@@ -12,7 +12,7 @@ unfolding entryAction
 returns c =
     simp (
       test-read (ltZ (pos 0)) {z = c .before .before .args .c .value} (record { sfits = c .before .struct-told .given .1 .1 .1 .0 .1 }) (c .if1 .taken),
-      back {z = c .before .before .args .c .value} (record { sfits = c .before .struct-told .given .1 .1 .1 .0 .1 }),
+      read-back {z = c .before .before .args .c .value} (record { sfits = c .before .struct-told .given .1 .1 .1 .0 .1 }),
     )
 
 returns-2 : tie.Need-returns-2

@@ -1,4 +1,4 @@
--- `analysis::prepare_read` meets its contract: a refused file changes no buffer, and an accepted one has its layout. Assumes nothing.
+-- `analysis::prepare_read` meets its contract: a refused file changes no buffer, and an accepted one has its layout.
 use Rattle.analysis.proofs.PrepareLaws.{read-laid, read-left}
 use borrow.Author.Needs.{needs}
 use Rattle.analysis.proofs.prepare_read.Statement.{statement}
@@ -18,12 +18,14 @@ enum-told c = search needs
 
 prepare-laid-requires : tie.Need-prepare-laid-requires
 prepare-laid-requires c κs =
-    let s = c .before .before .before .before .before .before .before .before .before in
+    let c9 = c .before .before .before .before .before .before .before .before .before in
+    let s = c9 in
     (read-laid (s .args .file .now) _ (c .before .before .before .before .before .read-block .ensures) (c .before .before .before .enum-told .given .1), s .pre)
 
 returns : tie.Need-returns
 returns c =
-    let s = c .before .before .before .before .before .before .before .before in
+    let c8 = c .before .before .before .before .before .before .before .before in
+    let s = c8 in
     read-left (s .args .file .now) _ _ (s .args .plan .now) (s .args .keys .now) (s .args .values .now) _ (s .pre) (c .before .before .before .before .read-block .ensures) (c .before .before .verdict .given .1) (c .refused .ensures)
 
 same-length : tie.Need-same-length

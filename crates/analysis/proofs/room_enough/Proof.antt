@@ -1,4 +1,4 @@
--- `analysis::room_enough` meets its contract: it tests one buffer after another, as the definition does. Assumes nothing.
+-- `analysis::room_enough` meets its contract: it tests one buffer after another, as the definition does.
 use borrow.Author.Tests.{le-leb, lt-leb}
 use Rattle.footprint.specs.Plan.{roomEnough}
 use borrow.Author.Needs.{needs}

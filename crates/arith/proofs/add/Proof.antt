@@ -1,10 +1,10 @@
--- `arith::add` meets its contract: of unlike signs the sum fits, and of like signs the magnitudes add up and one test tells whether it does. Assumes nothing.
+-- `arith::add` meets its contract: of unlike signs the sum fits, and of like signs the magnitudes add up and one test tells whether it does.
 use mathlib.Core.Path.{_∙_, ap, ap₂}
 use mathlib.Core.Bool.{true, false}
 use borrow.Author.Needs.{needs}
 use lib.IntN.{_+ℤ_}
 use Rattle.arith.specs.Exact.{checked}
-use Rattle.arith.proofs.Laws.{back, read-fits, value, sum-fits, sum-above, sum-beneath}
+use Rattle.arith.proofs.Laws.{read-back, read-fits, value, sum-fits, sum-above, sum-beneath}
 use Rattle.arith.proofs.add.Statement.{statement}
 use Rattle.arith.proofs.add.Tie as tie
 
@@ -54,12 +54,12 @@ returns c =
 returns-2 : tie.Need-returns-2
 returns-2 c =
     let s = c .before .before in
-    value (add-t11 c) (ap₂ _+ℤ_ (back (s .fits .a)) (back (s .fits .b)))
+    value (add-t11 c) (ap₂ _+ℤ_ (read-back (s .fits .a)) (read-back (s .fits .b)))
 
 returns-3 : tie.Need-returns-3
 returns-3 c =
     let s = c .before .before in
-    value (add-t14 c) (ap₂ _+ℤ_ (back (s .fits .a)) (back (s .fits .b)))
+    value (add-t14 c) (ap₂ _+ℤ_ (read-back (s .fits .a)) (read-back (s .fits .b)))
 
 returns-4 : tie.Need-returns-4
 returns-4 c =

@@ -1,4 +1,4 @@
--- `arith::below` meets its contract: above 0, -p is -(n + 1) for n = p - 1. Assumes nothing.
+-- `arith::below` meets its contract: above 0, -p is -(n + 1) for n = p - 1.
 use mathlib.Core.Path.{_∙_, ap}
 use borrow.Author.Needs.{needs}
 use Rattle.arith.specs.Exact.{checked}

@@ -1,4 +1,4 @@
--- `arith::beneath` meets its contract: -(n + 1) is a value exactly where n is below 2^63, and `under` makes it. Assumes nothing.
+-- `arith::beneath` meets its contract: -(n + 1) is a value exactly where n is below 2^63, and `under` makes it.
 use borrow.Author.Needs.{needs}
 use Rattle.arith.proofs.Laws.{value, overflow-beneath}
 use Rattle.arith.proofs.beneath.Statement.{statement}

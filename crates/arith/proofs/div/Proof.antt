@@ -1,4 +1,4 @@
--- `arith::div` meets its contract: away from the divisors 0 and -1 the truncated quotient fits, and the floor is one less exactly where the rest is on the other side of 0 than the divisor. Assumes nothing.
+-- `arith::div` meets its contract: away from the divisors 0 and -1 the truncated quotient fits, and the floor is one less exactly where the rest is on the other side of 0 than the divisor.
 use mathlib.Core.Path.{_≡_, refl, sym, _∙_, ap, ap₂}
 use mathlib.Core.Bool.{Bool}
 use native.Mathlib.Omega.{arith}
@@ -8,12 +8,12 @@ use lib.Signed.{quotZ, remZ}
 use mir.Syntax.{w64}
 use mir.Val.{SFits}
 use Rattle.arith.specs.Exact.{subOf, divOf}
-use Rattle.arith.proofs.Laws.{read, back, read-fits, value, named, unnamed, Floor, Opposed, less-fits, less-value, quot-fits, rem-fits, by-zero, by-minus-one, rounds, keeps}
+use Rattle.arith.proofs.Laws.{read, read-back, read-fits, value, bits-name, unnamed, Floor, Opposed, less-fits, less-value, quot-fits, rem-fits, by-zero, by-minus-one, rounds, keeps}
 use Rattle.arith.proofs.div.Statement.{statement}
 use Rattle.arith.proofs.div.Tie as tie
 
 returns : tie.Need-returns
-returns c = by-zero (c .before .args .a) (named (c .before .fits .b) (c .if1 .taken))
+returns c = by-zero (c .before .args .a) (bits-name (c .before .fits .b) (c .if1 .taken))
 
 sub-requires : tie.Need-sub-requires
 sub-requires c κs = search needs
@@ -21,7 +21,7 @@ sub-requires c κs = search needs
 returns-2 : tie.Need-returns-2
 returns-2 c =
     let s = c .before .before .before in
-    c .sub .ensures ∙ ap (subOf (pos 0)) (back (s .fits .a)) ∙ by-minus-one (s .args .a) (named (s .fits .b) (c .before .if2 .taken))
+    c .sub .ensures ∙ ap (subOf (pos 0)) (read-back (s .fits .a)) ∙ by-minus-one (s .args .a) (bits-name (s .fits .b) (c .before .if2 .taken))
 
 -- What the two tests leave, of the numbers as they are read back.
 module _ (c : tie.Else2) where
@@ -41,7 +41,7 @@ module _ (c : tie.Else2) where
   fits-q = quot-fits a′ b′ fits-a (unnamed (negsuc 0) (c .before .before .fits .b) (c .if2 .left))
 
   plain : divOf a′ b′ ≡ divOf (c .before .before .args .a) (c .before .before .args .b)
-  plain = ap₂ divOf (back (c .before .before .fits .a)) (back (c .before .before .fits .b))
+  plain = ap₂ divOf (read-back (c .before .before .fits .a)) (read-back (c .before .before .fits .b))
 
 div-q : tie.Need-div-q
 div-q c = (omega (arith, c .before .if1 .left), fits-q c)
@@ -56,7 +56,7 @@ opposed-requires c κs = search needs
 told : (c : tie.After-opposed) {t : Bool} → c .opposed .result ≡ t → Opposed (remZ (a′ (c .before)) (b′ (c .before))) (b′ (c .before)) ≡ t
 told c e =
     let o = c .before in
-    ap (λ (r : ℤ). Opposed r (b′ o)) (sym (back (rem-fits (a′ o) (b′ o) (fits-a o)))) ∙ sym (c .opposed .ensures) ∙ e
+    ap (λ (r : ℤ). Opposed r (b′ o)) (sym (read-back (rem-fits (a′ o) (b′ o) (fits-a o)))) ∙ sym (c .opposed .ensures) ∙ e
 
 lower : (c : tie.Then3) → Floor (a′ (c .before .before)) (b′ (c .before .before)) (quotZ (a′ (c .before .before)) (b′ (c .before .before)) -ℤ pos 1)
 lower c = let o = c .before .before in rounds (a′ o) (b′ o) (not-zero o) (told (c .before) (c .if3 .taken))

@@ -1,11 +1,11 @@
--- `arith::mul` meets its contract: the product of the magnitudes, up to 2^63 exact and beyond it no value, with the sign that the two signs give. Assumes nothing.
+-- `arith::mul` meets its contract: the product of the magnitudes, up to 2^63 exact and beyond it no value, with the sign that the two signs give.
 use mathlib.Core.Path.{_≡_, _∙_, ap₂}
 use mathlib.Core.Bool.{Bool, true, false, not}
 use lib.IntN.{pos, negℤ}
 use lib.Signed.{ltZ}
 use borrow.Author.Needs.{needs}
 use Rattle.arith.specs.Exact.{checked, mulOf}
-use Rattle.arith.proofs.Laws.{read, back, product-like, product-unlike}
+use Rattle.arith.proofs.Laws.{read, read-back, product-like, product-unlike}
 use Rattle.arith.proofs.mul.Statement.{statement}
 use Rattle.arith.proofs.mul.Tie as tie
 
@@ -36,13 +36,13 @@ module _ (c : tie.After-product) (t : Bool) (s : ltZ (read (c .before .before .b
   like u =
       let o = c .before .before .before in
       product-like (read (o .args .a)) (read (o .args .b)) (c .product .ensures) (c .before .before .magnitude .ensures) (c .before .magnitude2 .ensures) t s u
-      ∙ ap₂ mulOf (back (o .fits .a)) (back (o .fits .b))
+      ∙ ap₂ mulOf (read-back (o .fits .a)) (read-back (o .fits .b))
 
   unlike : ltZ (read (c .before .before .before .args .b)) (pos 0) ≡ not t → checked (negℤ (pos (c .product .result))) ≡ mulOf (c .before .before .before .args .a) (c .before .before .before .args .b)
   unlike u =
       let o = c .before .before .before in
       product-unlike (read (o .args .a)) (read (o .args .b)) (c .product .ensures) (c .before .before .magnitude .ensures) (c .before .magnitude2 .ensures) t s u
-      ∙ ap₂ mulOf (back (o .fits .a)) (back (o .fits .b))
+      ∙ ap₂ mulOf (read-back (o .fits .a)) (read-back (o .fits .b))
 
 returns : tie.Need-returns
 returns c = c .above .ensures ∙ like (c .before .before .before) true (c .before .before .if1 .taken) (c .before .if2 .taken)

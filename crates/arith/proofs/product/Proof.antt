@@ -1,4 +1,4 @@
--- `arith::product` meets its contract: two small factors cannot pass 2^63, and by a factor n above 0 the product passes it exactly where 2^63 / n is below the other. Assumes nothing.
+-- `arith::product` meets its contract: two small factors cannot pass 2^63, and by a factor n above 0 the product passes it exactly where 2^63 / n is below the other.
 use mathlib.Core.Path.{ap, _∙_}
 use Prim.Native.Nat.{ℕ, _*_}
 use native.Mathlib.Nat.{mul-zero, le-div-iff-mul-le, div-lt-iff-lt-mul}

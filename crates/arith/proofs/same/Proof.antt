@@ -1,4 +1,4 @@
--- `arith::same` meets its contract: two numbers of the range have the same bits exactly where they are equal. Assumes nothing.
+-- `arith::same` meets its contract: two numbers of the range have the same bits exactly where they are equal.
 use Rattle.arith.proofs.Laws.{same-bits}
 use Rattle.arith.proofs.same.Statement.{statement}
 use Rattle.arith.proofs.same.Tie as tie

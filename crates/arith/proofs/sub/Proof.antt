@@ -1,10 +1,10 @@
--- `arith::sub` meets its contract: of like signs the difference fits, and of unlike signs the magnitudes add up and one test tells whether it does. Assumes nothing.
+-- `arith::sub` meets its contract: of like signs the difference fits, and of unlike signs the magnitudes add up and one test tells whether it does.
 use mathlib.Core.Path.{_∙_, ap, ap₂}
 use mathlib.Core.Bool.{true, false}
 use borrow.Author.Needs.{needs}
 use lib.IntN.{_-ℤ_}
 use Rattle.arith.specs.Exact.{checked}
-use Rattle.arith.proofs.Laws.{back, read-fits, value, diff-fits, diff-above, diff-beneath}
+use Rattle.arith.proofs.Laws.{read-back, read-fits, value, diff-fits, diff-above, diff-beneath}
 use Rattle.arith.proofs.sub.Statement.{statement}
 use Rattle.arith.proofs.sub.Tie as tie
 
@@ -48,7 +48,7 @@ sub-t17 c =
 returns : tie.Need-returns
 returns c =
     let s = c .before .before in
-    value (sub-t7 c) (ap₂ _-ℤ_ (back (s .fits .a)) (back (s .fits .b)))
+    value (sub-t7 c) (ap₂ _-ℤ_ (read-back (s .fits .a)) (read-back (s .fits .b)))
 
 returns-2 : tie.Need-returns-2
 returns-2 c =
@@ -65,7 +65,7 @@ returns-3 c =
 returns-4 : tie.Need-returns-4
 returns-4 c =
     let s = c .before .before in
-    value (sub-t17 c) (ap₂ _-ℤ_ (back (s .fits .a)) (back (s .fits .b)))
+    value (sub-t17 c) (ap₂ _-ℤ_ (read-back (s .fits .a)) (read-back (s .fits .b)))
 
 pub sub-spec : {M : Type 1} → statement M
 sub-spec =

@@ -1,7 +1,7 @@
--- `arith::under` meets its contract: below 2^63 the cast keeps n, and -1 - n is in the range. Assumes nothing.
+-- `arith::under` meets its contract: below 2^63 the cast keeps n, and -1 - n is in the range.
 use mathlib.Core.Path.{_∙_}
 use borrow.Author.Needs.{needs}
-use Rattle.arith.proofs.Laws.{under-fits, under-read, back}
+use Rattle.arith.proofs.Laws.{under-fits, under-read, read-back}
 use Rattle.arith.proofs.under.Statement.{statement}
 use Rattle.arith.proofs.under.Tie as tie
 
@@ -12,7 +12,7 @@ sub-result : tie.Need-sub-result
 sub-result c = under-fits (c .pre)
 
 returns : tie.Need-returns
-returns c = back (under-fits (c .pre)) ∙ under-read (c .pre)
+returns c = read-back (under-fits (c .pre)) ∙ under-read (c .pre)
 
 pub under-spec : {M : Type 1} → statement M
 under-spec = tie.close (tie.spec cast-result sub-result returns)

@@ -1,4 +1,4 @@
--- `closing::sheet` meets its contract: its tests are the definition's, in their order. Assumes nothing.
+-- `closing::sheet` meets its contract: its tests are the definition's, in their order.
 use borrow.Author.Needs.{needs}
 use mathlib.Core.Path.{sym, _∙_}
 use borrow.Author.Tests.{not-true, not-false, lt-ltb, le-ltb}
@@ -30,18 +30,28 @@ all-finished-requires c κs = search needs
 
 returns-4 : tie.Need-returns-4
 unfolding sheetOf
-returns-4 c = closed-as (simp (sym (c .before .all-finished .ensures) ∙ not-true _ (c .if4 .taken), sym (c .before .before .before .states-allowed .ensures) ∙ not-false _ (c .before .before .if3 .left), le-ltb _ _ (c .before .before .before .before .if2 .left), sym (c .before .before .before .before .before .before .large-enough .ensures) ∙ not-false _ (c .before .before .before .before .before .if1 .left)))
+returns-4 c =
+    let c6 = c .before .before .before .before .before .before in
+    closed-as (simp (sym (c .before .all-finished .ensures) ∙ not-true _ (c .if4 .taken), sym (c .before .before .before .states-allowed .ensures) ∙ not-false _ (c .before .before .if3 .left), le-ltb _ _ (c .before .before .before .before .if2 .left), sym (c6 .large-enough .ensures) ∙ not-false _ (c .before .before .before .before .before .if1 .left)))
 
 returns-5 : tie.Need-returns-5
 unfolding sheetOf
-returns-5 c = closed-as (simp (lt-ltb _ _ (c .if5 .taken), sym (c .before .before .all-finished .ensures) ∙ not-false _ (c .before .if4 .left), sym (c .before .before .before .before .states-allowed .ensures) ∙ not-false _ (c .before .before .before .if3 .left), le-ltb _ _ (c .before .before .before .before .before .if2 .left), sym (c .before .before .before .before .before .before .before .large-enough .ensures) ∙ not-false _ (c .before .before .before .before .before .before .if1 .left)))
+returns-5 c =
+    let c6 = c .before .before .before .before .before .before in
+    let c7 = c6 .before in
+    closed-as (simp (lt-ltb _ _ (c .if5 .taken), sym (c .before .before .all-finished .ensures) ∙ not-false _ (c .before .if4 .left), sym (c .before .before .before .before .states-allowed .ensures) ∙ not-false _ (c .before .before .before .if3 .left), le-ltb _ _ (c .before .before .before .before .before .if2 .left), sym (c7 .large-enough .ensures) ∙ not-false _ (c6 .if1 .left)))
 
 balances-allowed-requires : tie.Need-balances-allowed-requires
 balances-allowed-requires c κs = search needs
 
 returns-6 : tie.Need-returns-6
 unfolding sheetOf
-returns-6 c = closed-as (simp (sym (c .before .balances-allowed .ensures) ∙ not-true _ (c .if6 .taken), le-ltb _ _ (c .before .before .if5 .left), sym (c .before .before .before .before .all-finished .ensures) ∙ not-false _ (c .before .before .before .if4 .left), sym (c .before .before .before .before .before .before .states-allowed .ensures) ∙ not-false _ (c .before .before .before .before .before .if3 .left), le-ltb _ _ (c .before .before .before .before .before .before .before .if2 .left), sym (c .before .before .before .before .before .before .before .before .before .large-enough .ensures) ∙ not-false _ (c .before .before .before .before .before .before .before .before .if1 .left)))
+returns-6 c =
+    let c6 = c .before .before .before .before .before .before in
+    let c7 = c6 .before in
+    let c8 = c7 .before in
+    let c9 = c8 .before in
+    closed-as (simp (sym (c .before .balances-allowed .ensures) ∙ not-true _ (c .if6 .taken), le-ltb _ _ (c .before .before .if5 .left), sym (c .before .before .before .before .all-finished .ensures) ∙ not-false _ (c .before .before .before .if4 .left), sym (c6 .states-allowed .ensures) ∙ not-false _ (c .before .before .before .before .before .if3 .left), le-ltb _ _ (c7 .if2 .left), sym (c9 .large-enough .ensures) ∙ not-false _ (c8 .if1 .left)))
 
 write-sheet-requires : tie.Need-write-sheet-requires
 write-sheet-requires c κs = search needs
@@ -51,7 +61,16 @@ same-length c = search needs
 
 returns-7 : tie.Need-returns-7
 unfolding sheetOf sheetBytes
-returns-7 c = closed-as (simp (sym (c .before .before .before .before .before .balances-allowed .ensures) ∙ not-false _ (c .before .before .before .before .if6 .left), le-ltb _ _ (c .before .before .before .before .before .before .if5 .left), sym (c .before .before .before .before .before .before .before .before .all-finished .ensures) ∙ not-false _ (c .before .before .before .before .before .before .before .if4 .left), sym (c .before .before .before .before .before .before .before .before .before .before .states-allowed .ensures) ∙ not-false _ (c .before .before .before .before .before .before .before .before .before .if3 .left), le-ltb _ _ (c .before .before .before .before .before .before .before .before .before .before .before .if2 .left), sym (c .before .before .before .before .before .before .before .before .before .before .before .before .before .large-enough .ensures) ∙ not-false _ (c .before .before .before .before .before .before .before .before .before .before .before .before .if1 .left)) (c .before .before .write-sheet .ensures))
+returns-7 c =
+    let c6 = c .before .before .before .before .before .before in
+    let c7 = c6 .before in
+    let c8 = c7 .before in
+    let c9 = c8 .before in
+    let c10 = c9 .before in
+    let c11 = c10 .before in
+    let c12 = c11 .before in
+    let c13 = c12 .before in
+    closed-as (simp (sym (c .before .before .before .before .before .balances-allowed .ensures) ∙ not-false _ (c .before .before .before .before .if6 .left), le-ltb _ _ (c6 .if5 .left), sym (c8 .all-finished .ensures) ∙ not-false _ (c7 .if4 .left), sym (c10 .states-allowed .ensures) ∙ not-false _ (c9 .if3 .left), le-ltb _ _ (c11 .if2 .left), sym (c13 .large-enough .ensures) ∙ not-false _ (c12 .if1 .left)) (c .before .before .write-sheet .ensures))
 
 pub sheet-spec : {M : Type 1} → statement M
 sheet-spec =

@@ -1,12 +1,9 @@
--- `host::clear_from` meets its contract: the part from the position on is cleared. Assumes nothing.
+-- `host::clear_from` meets its contract: the part from the position on is cleared.
 use native.Mathlib.Omega.{arith}
 use borrow.Author.Needs.{needs}
 use Rattle.host.proofs.Laws.{cleared-rest}
 use Rattle.host.proofs.clear_from.Statement.{statement}
 use Rattle.host.proofs.clear_from.Tie as tie
-use Rattle.host.proofs.clear_from.Reads as reads
-use Rattle.host.proofs.clear_from.Lts as lts
-use Rattle.wire.proofs.clear_bytes.Reads as clear-bytes-reads
 
 sub-rest : tie.Need-sub-rest
 sub-rest c = search needs

@@ -1,4 +1,4 @@
--- `host::inspect` meets its contract: the file that was read is listed. Assumes nothing.
+-- `host::inspect` meets its contract: the file that was read is listed.
 use mathlib.Core.Path.{refl, sym}
 use lib.Seq.{length-take-le}
 use Rattle.host.proofs.Laws.{file-fits, inspects-of}
@@ -25,7 +25,9 @@ same-length : tie.Need-same-length
 same-length c = search needs
 
 returns : tie.Need-returns
-returns c = inspects-of _ _ (c .before .before .before .before .before .before .read-block-file .ensures) (c .before .before .before .before .before .before .read-block-file .kept .0) refl (c .before .before .print-listing .ensures .0)
+returns c =
+    let c6 = c .before .before .before .before .before .before in
+    inspects-of _ _ (c6 .read-block-file .ensures) (c6 .read-block-file .kept .0) refl (c .before .before .print-listing .ensures .0)
 
 pub inspect-spec : {M : Type 1} → statement M
 inspect-spec =

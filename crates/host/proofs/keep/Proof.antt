@@ -1,4 +1,4 @@
--- `host::keep` meets its contract: each turn stores one byte more, up to the transcript's end or the text's. Assumes nothing.
+-- `host::keep` meets its contract: each turn stores one byte more, up to the transcript's end or the text's.
 use Prim.Native.Nat.{_-_}
 use native.Mathlib.Omega.{arith}
 use borrow.Author.Needs.{needs}

@@ -1,4 +1,4 @@
--- `host::print` meets its contract: all of the text is written and kept, or nothing is kept of it. Assumes nothing.
+-- `host::print` meets its contract: all of the text is written and kept, or nothing is kept of it.
 use mathlib.Core.Path.{refl}
 use borrow.Author.Tests.{not-true, not-false}
 use Rattle.host.proofs.Laws.{handed-none, handed-all}
@@ -34,7 +34,9 @@ same-length : tie.Need-same-length
 same-length c = search needs
 
 returns-4 : tie.Need-returns-4
-returns-4 c = (handed-all _ _ _ _ _ (not-false _ (c .before .before .before .before .before .before .before .if1 .left)) (c .before .before .keep .ensures) refl, refl)
+returns-4 c =
+    let c7 = c .before .before .before .before .before .before .before in
+    (handed-all _ _ _ _ _ (not-false _ (c7 .if1 .left)) (c .before .before .keep .ensures) refl, refl)
 
 pub print-spec : {M : Type 1} → statement M
 print-spec =

@@ -1,4 +1,4 @@
--- `host::print_listing` meets its contract: the listing fits its buffer, and all of it is handed over. Assumes nothing.
+-- `host::print_listing` meets its contract: the listing fits its buffer, and all of it is handed over.
 use mathlib.Core.Path.{refl, sym}
 use native.Mathlib.Omega.{arith}
 use lib.Seq.{length-take-le}
@@ -29,10 +29,14 @@ list-requires : tie.Need-list-requires
 list-requires c κs = search needs
 
 array-share-prefix-text : tie.Need-array-share-prefix-text
-array-share-prefix-text c = omega (arith, listing-room (c .before .before .before .before .before .before .list .ensures))
+array-share-prefix-text c =
+    let c6 = c .before .before .before .before .before .before in
+    omega (arith, listing-room (c6 .list .ensures))
 
 slice-aggregate-print : tie.Need-slice-aggregate-print
-slice-aggregate-print c = sym (length-take-le _ _ (omega (arith, listing-room (c .before .before .before .before .before .before .before .list .ensures))))
+slice-aggregate-print c =
+    let c7 = c .before .before .before .before .before .before .before in
+    sym (length-take-le _ _ (omega (arith, listing-room (c7 .list .ensures))))
 
 print-requires : tie.Need-print-requires
 print-requires c κs = search needs
@@ -41,7 +45,9 @@ same-length : tie.Need-same-length
 same-length c = search needs
 
 returns : tie.Need-returns
-returns c = (handed-as (listing-front (c .before .before .before .before .before .before .before .before .before .before .before .list .ensures) refl (omega arith)) (c .before .before .print .ensures .0), c .before .before .print .ensures .1)
+returns c =
+    let c11 = c .before .before .before .before .before .before .before .before .before .before .before in
+    (handed-as (listing-front (c11 .list .ensures) refl (omega arith)) (c .before .before .print .ensures .0), c .before .before .print .ensures .1)
 
 pub print-listing-spec : {M : Type 1} → statement M
 print-listing-spec =

@@ -1,5 +1,5 @@
 -- `host::read_all` meets its contract: each read that gives bytes leaves fewer to come, and the reading stops at the file's end or where the
--- buffer is full. Assumes nothing.
+-- buffer is full.
 use mathlib.Core.Path.{_≡_, refl}
 use Prim.Native.Nat.{_-_, _≤_}
 use native.Mathlib.Omega.{arith}

@@ -1,4 +1,4 @@
--- `host::read_block_file` meets its contract: what is behind the bytes that were read is cleared. Assumes nothing.
+-- `host::read_block_file` meets its contract: what is behind the bytes that were read is cleared.
 use Rattle.host.proofs.Laws.{file-in}
 use borrow.Author.Needs.{needs}
 use Rattle.host.proofs.read_block_file.Statement.{statement}
@@ -20,7 +20,10 @@ same-length : tie.Need-same-length
 same-length c = search needs
 
 returns : tie.Need-returns
-returns c = file-in (c .before .before .before .before .before .before .before .before .before .before .before .args .file .now) (c .before .before .before .before .before .before .read-opened .last .1 .0) (c .before .before .clear-from .last .0) (c .before .before .before .before .before .before .read-opened .ensures) (c .before .before .before .before .before .before .read-opened .kept .1 .0) (c .before .before .clear-from .ensures)
+returns c =
+    let c6 = c .before .before .before .before .before .before in
+    let c11 = c6 .before .before .before .before .before in
+    file-in (c11 .args .file .now) (c6 .read-opened .last .1 .0) (c .before .before .clear-from .last .0) (c6 .read-opened .ensures) (c6 .read-opened .kept .1 .0) (c .before .before .clear-from .ensures)
 
 pub read-block-file-spec : {M : Type 1} → statement M
 read-block-file-spec =

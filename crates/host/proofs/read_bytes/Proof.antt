@@ -1,4 +1,4 @@
--- `host::read_bytes` meets its contract: what is behind the bytes that came is cleared. Assumes nothing.
+-- `host::read_bytes` meets its contract: what is behind the bytes that came is cleared.
 use mathlib.Core.Path.{sym}
 use native.Mathlib.Omega.{arith}
 use lib.Seq.{length-take-le}
@@ -26,13 +26,18 @@ read-full-requires : tie.Need-read-full-requires
 read-full-requires c κs = search needs
 
 clear-from-requires-2 : tie.Need-clear-from-requires-2
-clear-from-requires-2 c κs = got-fits (c .before .before .before .before .before .before .before .args .n) (c .before .before .before .before .before .before .before .args .buffer .now) (c .before .before .before .read-full .last .1 .0) (c .before .before .before .read-full .ensures .0)
+clear-from-requires-2 c κs =
+    let c7 = c .before .before .before .before .before .before .before in
+    got-fits (c7 .args .n) (c7 .args .buffer .now) (c .before .before .before .read-full .last .1 .0) (c .before .before .before .read-full .ensures .0)
 
 same-length-2 : tie.Need-same-length-2
 same-length-2 c = search needs
 
 returns-2 : tie.Need-returns-2
-returns-2 c = got-filled (c .before .before .before .before .before .before .before .before .before .before .args .n) (c .before .before .before .before .before .before .before .before .before .before .args .buffer .now) (c .before .before .before .before .before .before .read-full .last .1 .0) (c .before .before .before .before .before .before .read-full .ensures .0) (omega arith) (c .before .before .before .before .before .before .read-full .kept .1 .0) (c .before .before .clear-from2 .ensures)
+returns-2 c =
+    let c6 = c .before .before .before .before .before .before in
+    let c10 = c6 .before .before .before .before in
+    got-filled (c10 .args .n) (c10 .args .buffer .now) (c6 .read-full .last .1 .0) (c6 .read-full .ensures .0) (omega arith) (c6 .read-full .kept .1 .0) (c .before .before .clear-from2 .ensures)
 
 pub read-bytes-spec : {M : Type 1} → statement M
 read-bytes-spec =

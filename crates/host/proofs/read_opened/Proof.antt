@@ -1,4 +1,4 @@
--- `host::read_opened` meets its contract: a file that is missing is at its end at once. Assumes nothing.
+-- `host::read_opened` meets its contract: a file that is missing is at its end at once.
 use native.Mathlib.Omega.{arith}
 use Rattle.host.proofs.Laws.{reads-failed, reads-ended}
 use borrow.Author.Needs.{needs}

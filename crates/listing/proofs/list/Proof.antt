@@ -1,13 +1,8 @@
--- `listing::list` meets its contract: what is opened and what is read make the listing. Assumes nothing.
+-- `listing::list` meets its contract: what is opened and what is read make the listing.
 use borrow.Author.Needs.{needs}
 use Rattle.listing.proofs.Laws.{all-listed}
 use Rattle.listing.proofs.list.Statement.{statement}
 use Rattle.listing.proofs.list.Tie as tie
-use Rattle.listing.proofs.list.Reads as reads
-use Rattle.listing.proofs.list.Lts as lts
-use Rattle.listing.proofs.listing.Reads as listing-reads
-use Rattle.opening.proofs.open.Reads as open-reads
-use Rattle.reader.proofs.read_block.Reads as read-block-reads
 
 open-requires : tie.Need-open-requires
 open-requires c κs = search needs
@@ -37,7 +32,10 @@ same-length-6 : tie.Need-same-length-6
 same-length-6 c = search needs
 
 returns : tie.Need-returns
-returns c = all-listed _ _ _ _ _ _ _ _ _ _ _ _ (c .before .before .before .before .before .before .before .before .before .before .before .before .before .before .before .«open» .ensures .same) (c .before .before .before .before .before .read-block .ensures) (c .before .before .listing .ensures)
+returns c =
+    let c15 = c .before .before .before .before .before .before .before .before .before .before .before .before .before .before .before in
+    let c15 = c15 in
+    all-listed _ _ _ _ _ _ _ _ _ _ _ _ (c15 .«open» .ensures .same) (c .before .before .before .before .before .read-block .ensures) (c .before .before .listing .ensures)
 
 pub list-spec : {M : Type 1} → statement M
 list-spec =

@@ -1,4 +1,4 @@
--- `opening::answered` meets its contract: it goes by the verdict as the definition does. Assumes nothing.
+-- `opening::answered` meets its contract: it goes by the verdict as the definition does.
 use Rattle.opening.specs.Opened.{openedBy}
 use borrow.Author.Needs.{needs}
 use Rattle.opening.proofs.answered.Statement.{statement}

@@ -1,4 +1,4 @@
--- `opening::clear_all` meets its contract: each buffer is cleared. Assumes nothing.
+-- `opening::clear_all` meets its contract: each buffer is cleared.
 use borrow.Author.Needs.{needs}
 use Rattle.opening.proofs.clear_all.Statement.{statement}
 use Rattle.opening.proofs.clear_all.Tie as tie
@@ -31,7 +31,11 @@ same-length-5 : tie.Need-same-length-5
 same-length-5 c = search needs
 
 returns : tie.Need-returns
-returns c = (c .before .before .before .before .before .before .before .before .before .before .before .before .before .before .before .clear-words .ensures, (c .before .before .before .before .before .before .before .before .before .before .before .clear-words2 .ensures, (c .before .before .before .before .before .before .before .clear-values .ensures, c .before .before .before .clear-states .ensures)))
+returns c =
+    let c7 = c .before .before .before .before .before .before .before in
+    let c11 = c7 .before .before .before .before in
+    let c15 = c11 .before .before .before .before in
+    (c15 .clear-words .ensures, (c11 .clear-words2 .ensures, (c7 .clear-values .ensures, c .before .before .before .clear-states .ensures)))
 
 pub clear-all-spec : {M : Type 1} → statement M
 clear-all-spec =

@@ -1,4 +1,4 @@
--- `opening::idle_head` meets its contract: eight idle seats are the definition computed. Assumes nothing.
+-- `opening::idle_head` meets its contract: eight idle seats are the definition computed.
 use mathlib.Core.Path.{refl}
 use Rattle.wire.specs.Bytes.{repeated}
 use Rattle.opening.proofs.idle_head.Statement.{statement}

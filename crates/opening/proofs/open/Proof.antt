@@ -1,4 +1,4 @@
--- `opening::open` meets its contract: the buffers are zero before anything is tested, and the block is prepared in three of them. Assumes nothing.
+-- `opening::open` meets its contract: the buffers are zero before anything is tested, and the block is prepared in three of them.
 use Rattle.opening.proofs.Laws.{open-refused, open-passed, opened-as}
 use borrow.Author.Needs.{needs}
 use Rattle.opening.proofs.open.Statement.{statement}
@@ -45,8 +45,10 @@ same-length-5 c = search needs
 
 returns : tie.Need-returns
 returns c =
-    let s = c .before .before .before .before .before .before .before .before .before .before .before .before .before .before .before .before .before .before .before .before .before .before .before .before in
-    let k = c .before .before .before .before .before .before .before .before .before .before .before .before .before .before .clear-all in
+    let c14 = c .before .before .before .before .before .before .before .before .before .before .before .before .before .before in
+    let c24 = c14 .before .before .before .before .before .before .before .before .before .before in
+    let s = c24 in
+    let k = c14 .clear-all in
     opened-as (
     open-refused _ _ _ _ _ (s .args .file .now) (s .args .workers) (k .last .0) (k .last .1 .0) (k .last .1 .1 .0) (k .last .1 .1 .1 .0) (k .last .1 .1 .1 .1 .0)
     (record {
@@ -54,12 +56,12 @@ returns c =
       keys-kept = k .kept .1 .0;
       cells-kept = k .kept .1 .1 .0;
       status-kept = k .kept .1 .1 .1 .0;
-      olds-kept = k .kept .1 .1 .1 .1 .0;
+      saved-kept = k .kept .1 .1 .1 .1 .0;
       plan-zero = k .ensures .0;
       keys-zero = k .ensures .1 .0;
       cells-zero = k .ensures .1 .1 .0;
       status-zero = k .ensures .1 .1 .1 .0;
-      olds-zero = k .ensures .1 .1 .1 .1;
+      saved-zero = k .ensures .1 .1 .1 .1;
     })
     _ (c .before .before .before .before .before .large-enough .ensures) _ (c .before .before .before .before .tested .ensures) _ _ (c .before .before .why .given .1) (c .refused .ensures)
     )
@@ -81,8 +83,14 @@ same-length-10 c = search needs
 
 returns-2 : tie.Need-returns-2
 returns-2 c =
-    let s = c .before .before .before .before .before .before .before .before .before .before .before .before .before .before .before .before .before .before .before .before .before .before .before .before .before .before .before .before .before .before .before .before in
-    let k = c .before .before .before .before .before .before .before .before .before .before .before .before .before .before .before .before .before .before .before .before .before .before .clear-all in
+    let c6 = c .before .before .before .before .before .before in
+    let c10 = c6 .before .before .before .before in
+    let c12 = c10 .before .before in
+    let c13 = c12 .before in
+    let c22 = c13 .before .before .before .before .before .before .before .before .before in
+    let c32 = c22 .before .before .before .before .before .before .before .before .before .before in
+    let s = c32 in
+    let k = c22 .clear-all in
     opened-as (
     open-passed _ _ _ _ _ (s .args .file .now) (s .args .workers) (k .last .0) (k .last .1 .0) (k .last .1 .1 .0) (k .last .1 .1 .1 .0) (k .last .1 .1 .1 .1 .0)
     (record {
@@ -90,14 +98,14 @@ returns-2 c =
       keys-kept = k .kept .1 .0;
       cells-kept = k .kept .1 .1 .0;
       status-kept = k .kept .1 .1 .1 .0;
-      olds-kept = k .kept .1 .1 .1 .1 .0;
+      saved-kept = k .kept .1 .1 .1 .1 .0;
       plan-zero = k .ensures .0;
       keys-zero = k .ensures .1 .0;
       cells-zero = k .ensures .1 .1 .0;
       status-zero = k .ensures .1 .1 .1 .0;
-      olds-zero = k .ensures .1 .1 .1 .1;
+      saved-zero = k .ensures .1 .1 .1 .1;
     })
-    _ (c .before .before .before .before .before .before .before .before .before .before .before .before .before .large-enough .ensures) _ (c .before .before .before .before .before .before .before .before .before .before .before .before .tested .ensures) _ _ _ _ _ (c .before .before .before .before .before .before .before .before .before .before .enum-told .given .1) (c .before .before .before .before .before .before .prepare .ensures) (c .answered .ensures)
+    _ (c13 .large-enough .ensures) _ (c12 .tested .ensures) _ _ _ _ _ (c10 .enum-told .given .1) (c6 .prepare .ensures) (c .answered .ensures)
     )
 
 pub open-spec : {M : Type 1} → statement M

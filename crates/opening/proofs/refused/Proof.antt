@@ -1,4 +1,4 @@
--- `opening::refused` meets its contract: its head is all zero. Assumes nothing.
+-- `opening::refused` meets its contract: its head is all zero.
 use borrow.Author.Needs.{needs}
 use Rattle.opening.proofs.refused.Statement.{statement}
 use Rattle.opening.proofs.refused.Tie as tie

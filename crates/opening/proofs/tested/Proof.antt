@@ -1,4 +1,4 @@
--- `opening::tested` meets its contract: its tests are those of the definition, in their order. Assumes nothing.
+-- `opening::tested` meets its contract: its tests are those of the definition, in their order.
 use borrow.Author.Tests.{eq-eqb, ne-eqb, lt-ltb, le-ltb}
 use Rattle.opening.specs.Opened.{testedFor}
 use Rattle.opening.proofs.tested.Statement.{statement}

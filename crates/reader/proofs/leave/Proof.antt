@@ -1,4 +1,4 @@
--- `reader::leave` meets its contract: it goes by the verdict as the definition does. Assumes nothing.
+-- `reader::leave` meets its contract: it goes by the verdict as the definition does.
 use borrow.Author.Needs.{needs}
 use Rattle.reader.proofs.leave.Statement.{statement}
 use Rattle.reader.proofs.leave.Tie as tie

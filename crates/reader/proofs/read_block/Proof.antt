@@ -1,4 +1,4 @@
--- `reader::read_block` meets its contract: its numbers and tables stand for the block read so far, and each turn is one of the definition. Assumes nothing.
+-- `reader::read_block` meets its contract: its numbers and tables stand for the block read so far, and each turn is one of the definition.
 use borrow.Author.Needs.{needs}
 use native.Mathlib.Omega.{arith}
 use mathlib.Core.Path.{ap, _∙_}
@@ -7,12 +7,12 @@ use lib.ListN.{length, set, length-drop}
 use Rattle.wire.specs.Bytes.{repeated}
 use Rattle.reader.specs.Layout.{layoutOf}
 use Rattle.block.proofs.Laws.{to-the-end}
-use Rattle.reader.proofs.Going.{Going, Advanced, long-file, going-start, going-more, going-room, going-function, going-end}
+use Rattle.reader.proofs.ReadingLaws.{ReadingOn, Advanced, long-file, reading-start, reading-more, going-room, going-function, reading-end}
 use Rattle.reader.proofs.read_block.Statement.{statement}
 use Rattle.reader.proofs.read_block.Tie as tie
 
 abbrev Inv-loop : tie.InvT-loop
-Inv-loop file ids₀ starts₀ sizes₀ p₀ ids starts sizes p = Going file ids starts sizes p
+Inv-loop file ids₀ starts₀ sizes₀ p₀ ids starts sizes p = ReadingOn file ids starts sizes p
 
 abbrev μ-loop : tie.MeasureT-loop
 μ-loop file ids₀ starts₀ sizes₀ p₀ ids starts sizes p = length file - p .at
@@ -28,7 +28,7 @@ start-requires c κs = search needs
 
 loop-holds : tie.Need-loop-holds Inv-loop μ-loop
 unfolding repeated
-loop-holds c = rw (c .start .ensures) (going-start (c .before .before .before .args .file .now) (c .before .if1 .left))
+loop-holds c = rw (c .start .ensures) (reading-start (c .before .before .before .args .file .now) (c .before .if1 .left))
 
 sub-read-record : tie.Need-sub-read-record Inv-loop μ-loop
 sub-read-record c = c .loop .inv .stands .reached .within
@@ -48,8 +48,10 @@ enum-known-q c = search needs
 -- After a record that is no function.
 more : (c : tie.After-known-told Inv-loop μ-loop)
     → Advanced (c .before .before .before .before .before .before .before .before .before .args .file .now) (c .before .before .before .before .before .loop .ids) (c .before .before .before .before .before .loop .starts) (c .before .before .before .before .before .loop .sizes) (c .before .before .before .before .before .loop .p) (c .before .q .given .0 .0)
-more c = going-more (c .before .before .before .before .before .before .before .before .before .args .file .now) (c .before .before .before .before .before .loop .ids) (c .before .before .before .before .before .loop .starts) (c .before .before .before .before .before .loop .sizes) (c .before .before .before .before .before .loop .p) (c .before .before .before .before .before .loop .inv) (c .before .q .given .0 .0)
-    (rw (to-the-end (c .before .before .before .before .before .before .before .before .before .args .file .now) (c .before .before .before .before .before .loop .p .at), c .before .q .given .1) at (c .before .before .before .read-record .ensures (c .before .before .before .before .before .loop .inv .b) (c .before .before .before .before .before .loop .inv .stands .holds)))
+more c =
+    let c9 = c .before .before .before .before .before .before .before .before .before in
+    reading-more (c9 .args .file .now) (c .before .before .before .before .before .loop .ids) (c .before .before .before .before .before .loop .starts) (c .before .before .before .before .before .loop .sizes) (c .before .before .before .before .before .loop .p) (c .before .before .before .before .before .loop .inv) (c .before .q .given .0 .0)
+    (rw (to-the-end (c9 .args .file .now) (c .before .before .before .before .before .loop .p .at), c .before .q .given .1) at (c .before .before .before .read-record .ensures (c .before .before .before .before .before .loop .inv .b) (c .before .before .before .before .before .loop .inv .stands .holds)))
 
 loop-less : tie.Need-loop-less Inv-loop μ-loop
 loop-less c = more c .less
@@ -62,8 +64,10 @@ enum-known-next c = search needs
 
 -- After a function: its numbers are stored where there is room.
 room : (c : tie.After-known-told2 Inv-loop μ-loop) → c .before .before .before .before .before .loop .p .functions < 64
-room c = going-room (c .before .before .before .before .before .before .before .before .before .args .file .now) (c .before .before .before .before .before .loop .ids) (c .before .before .before .before .before .loop .starts) (c .before .before .before .before .before .loop .sizes) (c .before .before .before .before .before .loop .p) (c .before .before .before .before .before .loop .inv) (c .before .next .given .0 .0) (c .before .next .given .0 .1 .0) (c .before .next .given .0 .1 .1 .0) (c .before .next .given .0 .1 .1 .1 .0)
-    (rw (to-the-end (c .before .before .before .before .before .before .before .before .before .args .file .now) (c .before .before .before .before .before .loop .p .at), c .before .next .given .1) at (c .before .before .before .read-record .ensures (c .before .before .before .before .before .loop .inv .b) (c .before .before .before .before .before .loop .inv .stands .holds)))
+room c =
+    let c9 = c .before .before .before .before .before .before .before .before .before in
+    going-room (c9 .args .file .now) (c .before .before .before .before .before .loop .ids) (c .before .before .before .before .before .loop .starts) (c .before .before .before .before .before .loop .sizes) (c .before .before .before .before .before .loop .p) (c .before .before .before .before .before .loop .inv) (c .before .next .given .0 .0) (c .before .next .given .0 .1 .0) (c .before .next .given .0 .1 .1 .0) (c .before .next .given .0 .1 .1 .1 .0)
+    (rw (to-the-end (c9 .args .file .now) (c .before .before .before .before .before .loop .p .at), c .before .next .given .1) at (c .before .before .before .read-record .ensures (c .before .before .before .before .before .loop .inv .b) (c .before .before .before .before .before .loop .inv .stands .holds)))
 
 mul-ids : tie.Need-mul-ids Inv-loop μ-loop
 mul-ids c = omega (arith, room c)
@@ -89,8 +93,10 @@ with-function : (c : tie.After-known-told2 Inv-loop μ-loop)
     (set (c .before .before .before .before .before .loop .starts) (c .before .before .before .before .before .loop .p .functions) (c .before .next .given .0 .1 .1 .0))
     (set (c .before .before .before .before .before .loop .sizes) (c .before .before .before .before .before .loop .p .functions) (c .before .next .given .0 .1 .1 .1 .0))
     (c .before .before .before .before .before .loop .p) (c .before .next .given .0 .0)
-with-function c = going-function (c .before .before .before .before .before .before .before .before .before .args .file .now) (c .before .before .before .before .before .loop .ids) (c .before .before .before .before .before .loop .starts) (c .before .before .before .before .before .loop .sizes) (c .before .before .before .before .before .loop .p) (c .before .before .before .before .before .loop .inv) (c .before .next .given .0 .0) (c .before .next .given .0 .1 .0) (c .before .next .given .0 .1 .1 .0) (c .before .next .given .0 .1 .1 .1 .0)
-    (rw (to-the-end (c .before .before .before .before .before .before .before .before .before .args .file .now) (c .before .before .before .before .before .loop .p .at), c .before .next .given .1) at (c .before .before .before .read-record .ensures (c .before .before .before .before .before .loop .inv .b) (c .before .before .before .before .before .loop .inv .stands .holds)))
+with-function c =
+    let c9 = c .before .before .before .before .before .before .before .before .before in
+    going-function (c9 .args .file .now) (c .before .before .before .before .before .loop .ids) (c .before .before .before .before .before .loop .starts) (c .before .before .before .before .before .loop .sizes) (c .before .before .before .before .before .loop .p) (c .before .before .before .before .before .loop .inv) (c .before .next .given .0 .0) (c .before .next .given .0 .1 .0) (c .before .next .given .0 .1 .1 .0) (c .before .next .given .0 .1 .1 .1 .0)
+    (rw (to-the-end (c9 .args .file .now) (c .before .before .before .before .before .loop .p .at), c .before .next .given .1) at (c .before .before .before .read-record .ensures (c .before .before .before .before .before .loop .inv .b) (c .before .before .before .before .before .loop .inv .stands .holds)))
 
 loop-less-2 : tie.Need-loop-less-2 Inv-loop μ-loop
 loop-less-2 c = with-function c .less
@@ -105,8 +111,11 @@ leave-requires : tie.Need-leave-requires Inv-loop μ-loop
 leave-requires c κs = search needs
 
 returns-2 : tie.Need-returns-2 Inv-loop μ-loop
-returns-2 c = c .leave .ensures ∙ going-end (c .before .before .before .before .before .before .before .before .before .before .args .file .now) (c .before .before .before .before .before .before .loop .ids) (c .before .before .before .before .before .before .loop .starts) (c .before .before .before .before .before .before .loop .sizes) (c .before .before .before .before .before .before .loop .p) (c .before .before .before .before .before .before .loop .inv) (c .before .before .verdict .given .0 .0)
-    (rw (to-the-end (c .before .before .before .before .before .before .before .before .before .before .args .file .now) (c .before .before .before .before .before .before .loop .p .at), c .before .before .verdict .given .1) at (c .before .before .before .before .read-record .ensures (c .before .before .before .before .before .before .loop .inv .b) (c .before .before .before .before .before .before .loop .inv .stands .holds)))
+returns-2 c =
+    let c6 = c .before .before .before .before .before .before in
+    let c10 = c6 .before .before .before .before in
+    c .leave .ensures ∙ reading-end (c10 .args .file .now) (c6 .loop .ids) (c6 .loop .starts) (c6 .loop .sizes) (c6 .loop .p) (c6 .loop .inv) (c .before .before .verdict .given .0 .0)
+    (rw (to-the-end (c10 .args .file .now) (c6 .loop .p .at), c .before .before .verdict .given .1) at (c .before .before .before .before .read-record .ensures (c6 .loop .inv .b) (c6 .loop .inv .stands .holds)))
 
 pub read-block-spec : {M : Type 1} → statement M
 read-block-spec =

@@ -1,4 +1,4 @@
--- `reader::refused` meets its contract: it is the definition at a refusal. Assumes nothing.
+-- `reader::refused` meets its contract: it is the definition at a refusal.
 use mathlib.Core.Path.{refl}
 use Rattle.wire.specs.Bytes.{repeated}
 use Rattle.reader.specs.Layout.{layoutOf}

@@ -1,9 +1,9 @@
--- `serial::is_idle` meets its contract: the first seat's call is read. Assumes nothing.
+-- `serial::is_idle` meets its contract: the first seat's call is read.
 use borrow.Author.Needs.{needs}
 use mathlib.Core.Path.{refl, ap}
 use lib.Dec.{eqb}
 use Rattle.machine.specs.Run.{idleSeat}
-use Rattle.serial.specs.SerialLaws.{first-call}
+use Rattle.serial.proofs.SerialLaws.{first-call}
 use Rattle.serial.proofs.is_idle.Statement.{statement}
 use Rattle.serial.proofs.is_idle.Tie as tie
 

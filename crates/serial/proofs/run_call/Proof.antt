@@ -1,6 +1,6 @@
--- `serial::run_call` meets its contract: the steps go on from the run that the begin leaves. Assumes nothing.
+-- `serial::run_call` meets its contract: the steps go on from the run that the begin leaves.
 use borrow.Author.Needs.{needs}
-use Rattle.serial.specs.SerialLaws.{call-run}
+use Rattle.serial.proofs.SerialLaws.{begun-call-run}
 use Rattle.serial.proofs.run_call.Statement.{statement}
 use Rattle.serial.proofs.run_call.Tie as tie
 
@@ -21,8 +21,10 @@ same-length-3 c = search needs
 
 returns : tie.Need-returns
 returns c =
-    let a = c .before .before .before .before .before .before .before .before .before .before .before .before .before .before .before .before .before .before .args in
-    call-run (a .block .now) _ (a .call) (c .before .before .before .before .before .before .before .before .before .before .begin .ensures) (c .before .before .before .step-to-end .ensures)
+    let c10 = c .before .before .before .before .before .before .before .before .before .before in
+    let c18 = c10 .before .before .before .before .before .before .before .before in
+    let a = c18 .args in
+    begun-call-run (a .block .now) _ (a .call) (c10 .begin .ensures) (c .before .before .before .step-to-end .ensures)
 
 pub run-call-spec : {M : Type 1} → statement M
 run-call-spec =

@@ -1,4 +1,4 @@
--- `serial::serial_run` meets its contract: the run so far is that of the calls below the next one. Assumes nothing.
+-- `serial::serial_run` meets its contract: the run so far is that of the calls below the next one.
 use borrow.Author.Needs.{needs}
 use native.Mathlib.Omega.{arith}
 use Prim.Native.Nat.{_-_, _≤_, min}
@@ -8,18 +8,18 @@ use Rattle.wire.specs.Bytes.{below}
 use Rattle.block.specs.Limits.{maxCalls}
 use Rattle.machine.specs.Serial.{runCalls}
 use Rattle.moves.specs.Lent.{lent}
-use Rattle.serial.specs.SerialLaws.{calls-none, calls-next, calls-all}
+use Rattle.serial.proofs.SerialLaws.{calls-none, calls-next, calls-all}
 use Rattle.serial.proofs.serial_run.Statement.{statement}
 use Rattle.serial.proofs.serial_run.Tie as tie
 
 abbrev Inv-loop : tie.InvT-loop
-Inv-loop head₀ block plan keys cells₀ status₀ olds₀ calls call₀ head cells status olds call =
+Inv-loop head₀ block plan keys cells₀ status₀ saved₀ calls call₀ head cells status saved call =
     (call ≤ calls)
-    × (length cells ≡ length cells₀) × (length status ≡ length status₀) × (length olds ≡ length olds₀)
-    × (lent head plan keys cells status olds ≡ runCalls block (lent head₀ plan keys cells₀ status₀ olds₀) (below call))
+    × (length cells ≡ length cells₀) × (length status ≡ length status₀) × (length saved ≡ length saved₀)
+    × (lent head plan keys cells status saved ≡ runCalls block (lent head₀ plan keys cells₀ status₀ saved₀) (below call))
 
 abbrev μ-loop : tie.MeasureT-loop
-μ-loop head₀ block plan keys cells₀ status₀ olds₀ calls call₀ head cells status olds call = calls - call
+μ-loop head₀ block plan keys cells₀ status₀ saved₀ calls call₀ head cells status saved call = calls - call
 
 call-count-requires : tie.Need-call-count-requires Inv-loop μ-loop
 call-count-requires c κs = search needs
@@ -59,7 +59,8 @@ same-length-3 c = c .before .loop .inv .3
 
 returns : tie.Need-returns Inv-loop μ-loop
 returns c =
-    let a = c .before .before .before .before .before .before .before .args in
+    let c7 = c .before .before .before .before .before .before .before in
+    let a = c7 .args in
     let l = c .before .loop in
     let all : l .call ≡ min (a .head .calls) maxCalls = omega (arith, c .before .before .call-count .ensures) in
     calls-all (a .block .now) _ (l .inv .4) all

@@ -1,21 +1,21 @@
--- `text::put_bits` meets its contract: what is written and what is left make up the whole text at every turn. Assumes nothing.
+-- `text::put_bits` meets its contract: what is written and what is left make up the whole text at every turn.
 use mathlib.Core.Logic.{⊎-elim}
 use mathlib.Core.Path.{sym, _∙_}
 use native.Mathlib.Omega.{arith}
 use Prim.Native.Nat.{_-_}
 use borrow.Author.Needs.{needs}
-use Rattle.text.proofs.Bits.{Going, going-start, going-set, going-clear, going-end}
+use Rattle.text.proofs.Bits.{WritingBits, bits-start, going-set, going-clear, bits-end}
 use Rattle.text.proofs.put_bits.Statement.{statement}
 use Rattle.text.proofs.put_bits.Tie as tie
 
 abbrev Inv-loop : tie.InvT-loop
-Inv-loop out₀ at row end₀ call₀ out end call = Going row out₀ out at end call
+Inv-loop out₀ at row end₀ call₀ out end call = WritingBits row out₀ out at end call
 
 abbrev μ-loop : tie.MeasureT-loop
 μ-loop out₀ at row end₀ call₀ out end call = 256 - call
 
 loop-holds : tie.Need-loop-holds Inv-loop μ-loop
-loop-holds c = going-start _ _ _
+loop-holds c = bits-start _ _ _
 
 row-test-requires : tie.Need-row-test-requires Inv-loop μ-loop
 row-test-requires c κs = search needs
@@ -44,7 +44,7 @@ same-length : tie.Need-same-length Inv-loop μ-loop
 same-length c = search needs
 
 returns : tie.Need-returns Inv-loop μ-loop
-returns c = going-end _ _ _ _ _ _ (c .before .loop .inv) (c .loop-test .left)
+returns c = bits-end _ _ _ _ _ _ (c .before .loop .inv) (c .loop-test .left)
 
 pub put-bits-spec : {M : Type 1} → statement M
 put-bits-spec =

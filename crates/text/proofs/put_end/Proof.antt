@@ -1,11 +1,8 @@
--- `text::put_end` meets its contract: the line feed is stored, and the line ends behind it. Assumes nothing.
+-- `text::put_end` meets its contract: the line feed is stored, and the line ends behind it.
 use borrow.Author.Needs.{needs}
 use Rattle.text.proofs.Laws.{put-last}
 use Rattle.text.proofs.put_end.Statement.{statement}
 use Rattle.text.proofs.put_end.Tie as tie
-use Rattle.text.proofs.put_end.Reads as reads
-use Rattle.text.proofs.put_end.Lts as lts
-use Rattle.wire.proofs.put_byte.Reads as put-byte-reads
 
 put-byte-requires : tie.Need-put-byte-requires
 put-byte-requires c κs = search needs

@@ -1,15 +1,9 @@
--- `text::put_value_part` meets its contract: the sign, where there is one, and the digits of the magnitude. Assumes nothing.
+-- `text::put_value_part` meets its contract: the sign, where there is one, and the digits of the magnitude.
 use borrow.Author.Needs.{needs}
 use Rattle.text.proofs.Laws.{value-below, value-above}
-use Rattle.arith.proofs.Laws.{read, back}
+use Rattle.arith.proofs.Laws.{read, read-back}
 use Rattle.text.proofs.put_value_part.Statement.{statement}
 use Rattle.text.proofs.put_value_part.Tie as tie
-use Rattle.text.proofs.put_value_part.Reads as reads
-use Rattle.text.proofs.put_value_part.Lts as lts
-use Rattle.arith.proofs.magnitude.Reads as magnitude-reads
-use Rattle.text.proofs.put_digits.Reads as put-digits-reads
-use Rattle.text.proofs.put_part.Reads as put-part-reads
-use Rattle.wire.proofs.put_byte.Reads as put-byte-reads
 
 put-byte-requires : tie.Need-put-byte-requires
 put-byte-requires c κs = search needs
@@ -33,7 +27,12 @@ same-length : tie.Need-same-length
 same-length c = search needs
 
 returns : tie.Need-returns
-returns c = value-below _ _ _ (read (c .before .before .before .before .before .before .before .before .before .before .before .before .before .before .before .args .z)) _ (back (c .before .before .before .before .before .before .before .before .before .before .before .before .before .before .before .fits .z)) (c .before .before .before .magnitude .ensures) _ _ _ _ (c .before .before .before .before .before .before .before .before .before .before .before .before .before .if1 .taken) (c .before .before .before .before .before .before .before .before .before .before .before .put-byte .ensures) (c .before .before .before .before .before .before .before .put-byte2 .ensures) (c .before .before .put-digits .ensures)
+returns c =
+    let c7 = c .before .before .before .before .before .before .before in
+    let c11 = c7 .before .before .before .before in
+    let c13 = c11 .before .before in
+    let c15 = c13 .before .before in
+    value-below _ _ _ (read (c15 .args .z)) _ (read-back (c15 .fits .z)) (c .before .before .before .magnitude .ensures) _ _ _ _ (c13 .if1 .taken) (c11 .put-byte .ensures) (c7 .put-byte2 .ensures) (c .before .before .put-digits .ensures)
 
 magnitude-requires-2 : tie.Need-magnitude-requires-2
 magnitude-requires-2 c κs = search needs
@@ -45,7 +44,9 @@ same-length-2 : tie.Need-same-length-2
 same-length-2 c = search needs
 
 returns-2 : tie.Need-returns-2
-returns-2 c = value-above _ _ _ (read (c .before .before .before .before .before .before .before .args .z)) _ (back (c .before .before .before .before .before .before .before .fits .z)) (c .before .before .before .magnitude2 .ensures) _ _ (c .before .before .before .before .before .if1 .left) (c .before .before .put-part .ensures)
+returns-2 c =
+    let c7 = c .before .before .before .before .before .before .before in
+    value-above _ _ _ (read (c7 .args .z)) _ (read-back (c7 .fits .z)) (c .before .before .before .magnitude2 .ensures) _ _ (c .before .before .before .before .before .if1 .left) (c .before .before .put-part .ensures)
 
 pub put-value-part-spec : {M : Type 1} → statement M
 put-value-part-spec =

@@ -1,18 +1,12 @@
--- `text::row_line` meets its contract: the call, its bits, and the end of the line behind them. Assumes nothing.
+-- `text::row_line` meets its contract: the call, its bits, and the end of the line behind them.
 use borrow.Author.Needs.{needs}
-use Rattle.text.specs.Written.{written-letter, written-part, written-parts, written-end}
+use Rattle.text.proofs.WrittenLaws.{written-letter, written-part, written-parts, written-end}
 use Rattle.text.proofs.Bits.{bits-length}
 use Rattle.text.proofs.Laws.{digits-length}
 use mathlib.Core.List.{[], _∷_}
 use native.Mathlib.Omega.{arith}
 use Rattle.text.proofs.row_line.Statement.{statement}
 use Rattle.text.proofs.row_line.Tie as tie
-use Rattle.text.proofs.row_line.Reads as reads
-use Rattle.text.proofs.row_line.Lts as lts
-use Rattle.text.proofs.put_bits.Reads as put-bits-reads
-use Rattle.text.proofs.put_end.Reads as put-end-reads
-use Rattle.text.proofs.put_part.Reads as put-part-reads
-use Rattle.wire.proofs.put_byte.Reads as put-byte-reads
 
 put-byte-requires : tie.Need-put-byte-requires
 put-byte-requires c κs = search needs
@@ -24,16 +18,25 @@ put-part-requires : tie.Need-put-part-requires
 put-part-requires c κs = search needs
 
 put-bits-requires : tie.Need-put-bits-requires
-put-bits-requires c κs = omega (arith, c .before .before .before .put-part .ensures .1, digits-length 20 (c .before .before .before .before .before .before .before .before .before .before .args .call), c .before .before .before .before .before .before .before .before .before .before .fits .from .fits)
+put-bits-requires c κs =
+    let c10 = c .before .before .before .before .before .before .before .before .before .before in
+    omega (arith, c .before .before .before .put-part .ensures .1, digits-length 20 (c10 .args .call), c10 .fits .from .fits)
 
 put-end-requires : tie.Need-put-end-requires
-put-end-requires c κs = omega (arith, c .before .before .before .before .before .before .before .put-part .ensures .1, digits-length 20 (c .before .before .before .before .before .before .before .before .before .before .before .before .before .before .args .call), c .before .before .before .put-bits .ensures .1, bits-length (c .before .before .before .before .before .before .before .before .before .before .before .before .before .before .args .row), c .before .before .before .before .before .before .before .before .before .before .before .before .before .before .fits .from .fits)
+put-end-requires c κs =
+    let c7 = c .before .before .before .before .before .before .before in
+    let c14 = c7 .before .before .before .before .before .before .before in
+    omega (arith, c7 .put-part .ensures .1, digits-length 20 (c14 .args .call), c .before .before .before .put-bits .ensures .1, bits-length (c14 .args .row), c14 .fits .from .fits)
 
 same-length : tie.Need-same-length
 same-length c = search needs
 
 returns : tie.Need-returns
-returns c = written-end _ _ _ _ _ _ _ (_ ∷ _) (written-parts _ _ _ _ _ _ _ (_ ∷ []) (written-part _ _ _ _ _ _ _ [] (written-letter _ _ _ _ (c .before .before .before .before .before .before .before .before .before .before .before .before .before .before .put-byte .ensures)) _ (c .before .before .before .before .before .before .before .before .before .before .put-part .ensures)) _ (c .before .before .before .before .before .before .put-bits .ensures)) (c .before .before .put-end .ensures)
+returns c =
+    let c6 = c .before .before .before .before .before .before in
+    let c10 = c6 .before .before .before .before in
+    let c14 = c10 .before .before .before .before in
+    written-end _ _ _ _ _ _ _ (_ ∷ _) (written-parts _ _ _ _ _ _ _ (_ ∷ []) (written-part _ _ _ _ _ _ _ [] (written-letter _ _ _ _ (c14 .put-byte .ensures)) _ (c10 .put-part .ensures)) _ (c6 .put-bits .ensures)) (c .before .before .put-end .ensures)
 
 pub row-line-spec : {M : Type 1} → statement M
 row-line-spec =

@@ -1,4 +1,4 @@
--- `wire::byte` meets its contract: past the end the list's default is 0 too. Assumes nothing.
+-- `wire::byte` meets its contract: past the end the list's default is 0 too.
 use borrow.Author.Needs.{needs}
 use mathlib.Core.Path.{sym}
 use lib.ListN.{List·getD-eq-default}

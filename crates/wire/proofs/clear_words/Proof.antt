@@ -1,13 +1,13 @@
--- `wire::clear_words` meets its contract: each turn clears one element more, and the loop ends behind the last. Assumes nothing.
+-- `wire::clear_words` meets its contract: each turn clears one element more, and the loop ends behind the last.
 use Prim.Native.Nat.{_-_}
 use native.Mathlib.Omega.{arith}
 use lib.ListN.{length, length-set}
-use Rattle.wire.proofs.Laws.{Cleared, cleared-none, cleared-length, cleared-more, cleared-all}
+use Rattle.wire.proofs.Laws.{ClearedBelow, cleared-none, cleared-length, cleared-more, cleared-all}
 use Rattle.wire.proofs.clear_words.Statement.{statement}
 use Rattle.wire.proofs.clear_words.Tie as tie
 
 abbrev Inv-loop : tie.InvT-loop
-Inv-loop s₀ i₀ s i = Cleared 0 s₀ s i
+Inv-loop s₀ i₀ s i = ClearedBelow 0 s₀ s i
 
 abbrev μ-loop : tie.MeasureT-loop
 μ-loop s₀ i₀ s i = length s - i

@@ -1,8 +1,8 @@
--- `wire::get16` meets its contract: it is 0 past the end, whole inside, and at the last byte that byte. Assumes nothing.
+-- `wire::get16` meets its contract: it is 0 past the end, whole inside, and at the last byte that byte.
 use borrow.Author.Needs.{needs}
 use native.Mathlib.Omega.{arith}
 use mathlib.Core.Path.{sym}
-use Rattle.wire.specs.Laws.{read-past}
+use Rattle.wire.proofs.BytesLaws.{read-past}
 use Rattle.wire.proofs.Laws.{read-last}
 use Rattle.wire.proofs.get16.Statement.{statement}
 use Rattle.wire.proofs.get16.Tie as tie

@@ -1,4 +1,4 @@
--- `wire::get_i64` meets its contract: it is the eight bytes' number, read in two's complement. Assumes nothing.
+-- `wire::get_i64` meets its contract: it is the eight bytes' number, read in two's complement.
 use borrow.Author.Needs.{needs}
 use mathlib.Core.Path.{ap, _∙_}
 use mir.Syntax.{w64}

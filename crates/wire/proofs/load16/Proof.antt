@@ -1,13 +1,11 @@
--- `wire::load16` meets its contract: two bytes are read one by one, the higher at 256. Assumes nothing.
+-- `wire::load16` meets its contract: two bytes are read one by one, the higher at 256.
 use borrow.Author.Needs.{needs}
 use native.Mathlib.Omega.{arith}
 use Prim.Native.Nat.{_+_}
 use mathlib.Core.Path.{sym}
-use Rattle.wire.specs.Laws.{read-two}
+use Rattle.wire.proofs.BytesLaws.{read-two}
 use Rattle.wire.proofs.load16.Statement.{statement}
 use Rattle.wire.proofs.load16.Tie as tie
-use Rattle.wire.proofs.load16.Reads as reads
-use Rattle.wire.proofs.load16.Lts as lts
 
 shared-slice-read-low : tie.Need-shared-slice-read-low
 shared-slice-read-low c = search needs

@@ -1,4 +1,4 @@
--- `wire::load32` meets its contract: a number is its lower half and its upper half at that one's place value. Assumes nothing.
+-- `wire::load32` meets its contract: a number is its lower half and its upper half at that one's place value.
 use borrow.Author.Needs.{needs}
 use Prim.Native.Nat.{_+_, _*_, _^_, _<_}
 use native.Mathlib.Omega.{arith}

@@ -1,6 +1,6 @@
--- `wire::mask` meets its contract: 1 shifted by less than 64 loses no bit. Assumes nothing.
+-- `wire::mask` meets its contract: 1 shifted by less than 64 loses no bit.
 use borrow.Author.Needs.{needs}
-use Rattle.wire.proofs.Masks.{mask-is}
+use Rattle.wire.proofs.MaskedBits.{mask-is}
 use Rattle.wire.proofs.mask.Statement.{statement}
 use Rattle.wire.proofs.mask.Tie as tie
 

@@ -1,8 +1,8 @@
--- `wire::put16` meets its contract: nothing past the end, the whole inside, and at the last byte the low one. Assumes nothing.
+-- `wire::put16` meets its contract: nothing past the end, the whole inside, and at the last byte the low one.
 use borrow.Author.Needs.{needs}
 use native.Mathlib.Omega.{arith}
 use mathlib.Core.Path.{sym}
-use Rattle.wire.specs.Laws.{write-past}
+use Rattle.wire.proofs.BytesLaws.{write-past}
 use Rattle.wire.proofs.Laws.{write-last}
 use Rattle.wire.proofs.put16.Statement.{statement}
 use Rattle.wire.proofs.put16.Tie as tie

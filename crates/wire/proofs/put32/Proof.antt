@@ -1,7 +1,7 @@
--- `wire::put32` meets its contract: nothing past the end, the whole inside, and at the end its halves, each written by itself. Assumes nothing.
+-- `wire::put32` meets its contract: nothing past the end, the whole inside, and at the end its halves, each written by itself.
 use borrow.Author.Needs.{needs}
 use mathlib.Core.Path.{sym}
-use Rattle.wire.specs.Laws.{write-past}
+use Rattle.wire.proofs.BytesLaws.{write-past}
 use Rattle.wire.proofs.Laws.{write-halves}
 use Rattle.wire.proofs.put32.Statement.{statement}
 use Rattle.wire.proofs.put32.Tie as tie
@@ -35,8 +35,10 @@ same-length-2 c = search needs
 
 returns-3 : tie.Need-returns-3
 returns-3 c =
-    write-halves 2 (c .before .before .before .before .before .before .before .before .before .before .before .args .s .now) (c .before .before .before .before .before .before .before .before .before .before .before .args .at) (c .before .before .before .before .before .before .before .before .before .before .before .args .v)
-    (c .before .before .before .before .before .before .put16 .ensures) (c .before .before .put162 .ensures)
+    let c6 = c .before .before .before .before .before .before in
+    let c11 = c6 .before .before .before .before .before in
+    write-halves 2 (c11 .args .s .now) (c11 .args .at) (c11 .args .v)
+    (c6 .put16 .ensures) (c .before .before .put162 .ensures)
 
 pub put32-spec : {M : Type 1} → statement M
 put32-spec =

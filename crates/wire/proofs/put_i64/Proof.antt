@@ -1,4 +1,4 @@
--- `wire::put_i64` meets its contract: the bits of the value are written as a number of eight bytes. Assumes nothing.
+-- `wire::put_i64` meets its contract: the bits of the value are written as a number of eight bytes.
 use borrow.Author.Needs.{needs}
 use mathlib.Core.Path.{ap, _∙_}
 use mir.Facts.{toZ-ofZ}
@@ -18,8 +18,9 @@ same-length c = search needs
 
 returns : tie.Need-returns
 returns c =
+    let c6 = c .before .before .before .before .before .before in
     c .before .before .put64 .ensures
-    ∙ ap (writeLe 8 (c .before .before .before .before .before .before .args .s .now) (c .before .before .before .before .before .before .args .at)) (c .before .before .before .unsigned64 .ensures ∙ ap (unsigned 64) (toZ-ofZ (c .before .before .before .before .before .before .fits .v)))
+    ∙ ap (writeLe 8 (c6 .args .s .now) (c6 .args .at)) (c .before .before .before .unsigned64 .ensures ∙ ap (unsigned 64) (toZ-ofZ (c6 .fits .v)))
 
 pub put-i64-spec : {M : Type 1} → statement M
 put-i64-spec = tie.close (tie.spec unsigned64-requires put64-requires same-length returns)

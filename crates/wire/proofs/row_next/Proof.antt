@@ -1,4 +1,4 @@
--- `wire::row_next` meets its contract: the search for the first bit goes on from the loop's position, a word at a time. Assumes nothing.
+-- `wire::row_next` meets its contract: the search for the first bit goes on from the loop's position, a word at a time.
 use borrow.Author.Needs.{needs}
 use native.Mathlib.Omega.{arith}
 use Prim.Native.Nat.{_-_, _/_, _^_, _≤_, _<_}
@@ -9,8 +9,8 @@ use lib.ListN.{getD}
 use lib.Count.{trailing-le}
 use Rattle.wire.specs.Rows.{inRow}
 use Rattle.wire.specs.RowOps.{firstOf, nextBit}
-use Rattle.wire.specs.NextLaws.{next-below, next-past}
-use Rattle.wire.proofs.Masks.{restOf, scan-none, scan-hit, scan-end}
+use Rattle.wire.proofs.NextLaws.{next-below, next-past}
+use Rattle.wire.proofs.MaskedBits.{restOf, scan-none, row-scan-hit, row-scan-end}
 use Rattle.wire.proofs.row_next.Statement.{statement}
 use Rattle.wire.proofs.row_next.Tie as tie
 
@@ -47,7 +47,7 @@ word c = let fits : Fits w64 (getD (c .before .before .before .before .args .t1)
 returns-2 : tie.Need-returns-2 Inv-loop μ-loop
 returns-2 c =
     sym (c .before .before .loop .inv .1
-    ∙ scan-hit (c .before .before .before .before .args .t1) (c .before .before .loop .at) (c .before .loop-test .taken)
+    ∙ row-scan-hit (c .before .before .before .before .args .t1) (c .before .before .loop .at) (c .before .loop-test .taken)
     (word c) (omega (arith, c .if2 .taken)))
 
 add-at : tie.Need-add-at Inv-loop μ-loop
@@ -68,7 +68,7 @@ loop-again c = (
 
 returns-3 : tie.Need-returns-3 Inv-loop μ-loop
 returns-3 c =
-    sym (c .before .loop .inv .1 ∙ scan-end (inRow (c .before .before .before .args .t1)) (c .before .loop .at) (c .before .loop .inv .0) (c .loop-test .left))
+    sym (c .before .loop .inv .1 ∙ row-scan-end (inRow (c .before .before .before .args .t1)) (c .before .loop .at) (c .before .loop .inv .0) (c .loop-test .left))
 
 pub row-next-spec : {M : Type 1} → statement M
 row-next-spec =

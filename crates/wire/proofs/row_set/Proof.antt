@@ -1,8 +1,8 @@
--- `wire::row_set` meets its contract: the mask is the bit's power of two, and past the row nothing changes. Assumes nothing.
+-- `wire::row_set` meets its contract: the mask is the bit's power of two, and past the row nothing changes.
 use borrow.Author.Needs.{needs}
 use mathlib.Core.Path.{sym}
-use Rattle.wire.specs.RowLaws.{withBit-past}
-use Rattle.wire.proofs.Masks.{set-by-mask}
+use Rattle.wire.proofs.RowLaws.{withBit-past}
+use Rattle.wire.proofs.MaskedBits.{set-by-mask}
 use Rattle.wire.proofs.row_set.Statement.{statement}
 use Rattle.wire.proofs.row_set.Tie as tie
 

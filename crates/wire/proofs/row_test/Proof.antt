@@ -1,8 +1,8 @@
--- `wire::row_test` meets its contract: the masked word is not 0 exactly when the bit is set, and no bit is set past the row. Assumes nothing.
+-- `wire::row_test` meets its contract: the masked word is not 0 exactly when the bit is set, and no bit is set past the row.
 use borrow.Author.Needs.{needs}
 use mathlib.Core.Path.{sym}
-use Rattle.wire.specs.RowLaws.{inRow-past}
-use Rattle.wire.proofs.Masks.{test-by-mask}
+use Rattle.wire.proofs.RowLaws.{inRow-past}
+use Rattle.wire.proofs.MaskedBits.{test-by-mask}
 use Rattle.wire.proofs.row_test.Statement.{statement}
 use Rattle.wire.proofs.row_test.Tie as tie
 

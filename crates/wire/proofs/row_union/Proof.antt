@@ -1,7 +1,7 @@
--- `wire::row_union` meets its contract: the four words are joined one by one. Assumes nothing.
+-- `wire::row_union` meets its contract: the four words are joined one by one.
 use borrow.Author.Needs.{needs}
 use Rattle.wire.specs.RowOps.{unionOf}
-use Rattle.wire.proofs.Masks.{union-by-words}
+use Rattle.wire.proofs.MaskedBits.{union-by-words}
 use Rattle.wire.proofs.row_union.Statement.{statement}
 use Rattle.wire.proofs.row_union.Tie as tie
 

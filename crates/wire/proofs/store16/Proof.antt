@@ -1,4 +1,4 @@
--- `wire::store16` meets its contract: two bytes are stored one by one, as the definition stores them. Assumes nothing.
+-- `wire::store16` meets its contract: two bytes are stored one by one, as the definition stores them.
 use borrow.Author.Needs.{needs}
 use native.Mathlib.Omega.{arith}
 use mathlib.Core.Path.{refl}

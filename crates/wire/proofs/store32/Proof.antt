@@ -1,4 +1,4 @@
--- `wire::store32` meets its contract: a number is written as its lower half and its upper half behind that. Assumes nothing.
+-- `wire::store32` meets its contract: a number is written as its lower half and its upper half behind that.
 use borrow.Author.Needs.{needs}
 use Rattle.wire.proofs.Laws.{write-halves}
 use Rattle.wire.proofs.store32.Statement.{statement}
@@ -18,8 +18,10 @@ same-length c = search needs
 
 returns : tie.Need-returns
 returns c =
-    write-halves 2 (c .before .before .before .before .before .before .before .before .before .args .s .now) (c .before .before .before .before .before .before .before .before .before .args .at) (c .before .before .before .before .before .before .before .before .before .args .v)
-    (c .before .before .before .before .before .before .store16 .ensures) (c .before .before .store162 .ensures)
+    let c6 = c .before .before .before .before .before .before in
+    let c9 = c6 .before .before .before in
+    write-halves 2 (c9 .args .s .now) (c9 .args .at) (c9 .args .v)
+    (c6 .store16 .ensures) (c .before .before .store162 .ensures)
 
 pub store32-spec : {M : Type 1} → statement M
 store32-spec =

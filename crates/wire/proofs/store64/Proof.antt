@@ -1,4 +1,4 @@
--- `wire::store64` meets its contract: a number is written as its lower half and its upper half behind that. Assumes nothing.
+-- `wire::store64` meets its contract: a number is written as its lower half and its upper half behind that.
 use borrow.Author.Needs.{needs}
 use Rattle.wire.proofs.Laws.{write-halves}
 use Rattle.wire.proofs.store64.Statement.{statement}
@@ -18,8 +18,10 @@ same-length c = search needs
 
 returns : tie.Need-returns
 returns c =
-    write-halves 4 (c .before .before .before .before .before .before .before .before .before .args .s .now) (c .before .before .before .before .before .before .before .before .before .args .at) (c .before .before .before .before .before .before .before .before .before .args .v)
-    (c .before .before .before .before .before .before .store32 .ensures) (c .before .before .store322 .ensures)
+    let c6 = c .before .before .before .before .before .before in
+    let c9 = c6 .before .before .before in
+    write-halves 4 (c9 .args .s .now) (c9 .args .at) (c9 .args .v)
+    (c6 .store32 .ensures) (c .before .before .store322 .ensures)
 
 pub store64-spec : {M : Type 1} → statement M
 store64-spec =

@@ -66,22 +66,22 @@ impl Folder {
 pub fn folders() -> Vec<Folder> {
     vec![
         Folder {
-            name: "edge_full",
+            name: "test_edge_full",
             block: Some(full_block()),
             input: full_input(),
         },
         Folder {
-            name: "edge_long",
+            name: "test_edge_long",
             block: Some(too_long_block()),
             input: UNANSWERED.into(),
         },
         Folder {
-            name: "edge_none",
+            name: "test_edge_none",
             block: None,
             input: UNANSWERED.into(),
         },
         Folder {
-            name: "edge_silent",
+            name: "test_edge_silent",
             block: Some(block_p()),
             input: Vec::new(),
         },

@@ -211,7 +211,7 @@ fn the_largest_block_is_accepted_and_a_longer_one_refused() {
 
 #[test]
 fn the_full_folder_ends_with_its_last_line() {
-    let full = folder("edge_full");
+    let full = folder("test_edge_full");
     let block = full.block.as_deref().unwrap();
     assert_eq!(block.len(), 65_536);
     assert!(open(block, MAX_WORKERS).is_ok());
@@ -234,14 +234,14 @@ fn the_full_folder_ends_with_its_last_line() {
 
 #[test]
 fn the_other_folders_print_one_line() {
-    let long = folder("edge_long");
+    let long = folder("test_edge_long");
     let block = long.block.as_deref().unwrap();
     assert_eq!(block.len(), 65_537);
     assert!(open(&block[..65_536], MAX_WORKERS).is_ok());
     assert_eq!(long.output(), "e 1 0\n");
-    assert_eq!(folder("edge_none").output(), "e 2 0\n");
-    assert_eq!(folder("edge_silent").output(), "r 0 27\n");
-    assert!(folder("edge_silent").input.is_empty());
+    assert_eq!(folder("test_edge_none").output(), "e 2 0\n");
+    assert_eq!(folder("test_edge_silent").output(), "r 0 27\n");
+    assert!(folder("test_edge_silent").input.is_empty());
 }
 
 #[test]
@@ -255,9 +255,9 @@ fn folders_are_written_with_their_files() {
         let printed = fs::read_to_string(home.join("stdout")).unwrap();
         assert_eq!(printed, folder.output());
     }
-    assert!(!directory.join("edge_none/data").exists());
-    fs::create_dir(directory.join("edge_none/data")).unwrap();
-    assert!(folder("edge_none").write(&directory).is_err());
+    assert!(!directory.join("test_edge_none/data").exists());
+    fs::create_dir(directory.join("test_edge_none/data")).unwrap();
+    assert!(folder("test_edge_none").write(&directory).is_err());
 }
 
 #[test]
@@ -268,7 +268,7 @@ fn the_commands_write_streams_and_folders() {
     assert_eq!(fs::read(home.join("stdin")).unwrap(), examples().input);
     assert_eq!(fs::read(home.join("stdout")).unwrap(), examples().output);
     vectors("files", &directory);
-    assert!(directory.join("edge_full/data/block.bin").exists());
+    assert!(directory.join("test_edge_full/data/block.bin").exists());
 }
 
 /// Runs the command `runner vectors KIND DIR`.

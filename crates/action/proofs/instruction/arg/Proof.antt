@@ -1,10 +1,11 @@
--- `action::instruction::arg` meets its contract: the four arguments have 32 bits, so a register holds them. Assumes nothing.
+-- `action::instruction::arg` meets its contract: the four arguments have 32 bits, so a register holds them.
 use borrow.Author.Needs.{needs}
 use mathlib.Core.Path.{ap}
 use native.Mathlib.Omega.{arith}
 use lib.IntN.{ℤ, pos}
 use Rattle.block.specs.declared.Call.{Call}
-use Rattle.footprint.specs.AccessLaws.{InRanges, argument-below}
+use Rattle.footprint.proofs.SetAccessLaws.{argument-below}
+use Rattle.footprint.specs.SafeSets.{InRanges}
 use Rattle.machine.specs.Action.{assign}
 use Rattle.action.proofs.Laws.{of-value}
 use Rattle.action.proofs.instruction.arg.Statement.{statement}

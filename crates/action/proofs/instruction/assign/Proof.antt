@@ -1,4 +1,4 @@
--- `action::instruction::assign` meets its contract: x has the value, and the next place is the one behind. Assumes nothing.
+-- `action::instruction::assign` meets its contract: x has the value, and the next place is the one behind.
 use borrow.Author.Needs.{needs}
 use Rattle.action.proofs.Laws.{assign-by-register}
 use Rattle.action.proofs.instruction.assign.Statement.{statement}

@@ -1,7 +1,7 @@
--- `action::instruction::div` meets its contract: x takes the quotient of both registers. Assumes nothing.
+-- `action::instruction::div` meets its contract: x takes the quotient of both registers.
 use borrow.Author.Needs.{needs}
 use Rattle.arith.specs.Exact.{divOf}
-use Rattle.machine.specs.Action.{assignChecked}
+use Rattle.machine.specs.Action.{checkedAction}
 use Rattle.action.proofs.Laws.{of-registers}
 use Rattle.action.proofs.instruction.div.Statement.{statement}
 use Rattle.action.proofs.instruction.div.Tie as tie
@@ -20,7 +20,7 @@ assign-checked-requires c κs = search needs
 
 returns : tie.Need-returns
 returns c =
-    of-registers (assignChecked (c .before .before .before .before .args .place) (c .before .before .before .before .args .regs) (c .before .before .before .before .args .x)) divOf (c .assign-checked .ensures) (c .before .div .ensures)
+    of-registers (checkedAction (c .before .before .before .before .args .place) (c .before .before .before .before .args .regs) (c .before .before .before .before .args .x)) divOf (c .assign-checked .ensures) (c .before .div .ensures)
     (record { sfits = c .before .before .before .register .ok }) (record { sfits = c .before .before .register2 .ok })
     (c .before .before .before .register .ensures) (c .before .before .register2 .ensures)
 

@@ -1,4 +1,4 @@
--- `action::instruction::jeq` meets its contract: it jumps by the test of both registers. Assumes nothing.
+-- `action::instruction::jeq` meets its contract: it jumps by the test of both registers.
 use borrow.Author.Needs.{needs}
 use mathlib.Core.Bool.{Bool}
 use Rattle.arith.specs.Compare.{eqZ}

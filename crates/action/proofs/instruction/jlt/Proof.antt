@@ -1,4 +1,4 @@
--- `action::instruction::jlt` meets its contract: it jumps by the test of both registers. Assumes nothing.
+-- `action::instruction::jlt` meets its contract: it jumps by the test of both registers.
 use borrow.Author.Needs.{needs}
 use mathlib.Core.Bool.{Bool}
 use lib.Signed.{ltZ}

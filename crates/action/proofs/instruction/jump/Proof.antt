@@ -1,4 +1,4 @@
--- `action::instruction::jump` meets its contract: both places are the definition's. Assumes nothing.
+-- `action::instruction::jump` meets its contract: both places are the definition's.
 use borrow.Author.Needs.{needs}
 use Rattle.action.proofs.instruction.jump.Statement.{statement}
 use Rattle.action.proofs.instruction.jump.Tie as tie

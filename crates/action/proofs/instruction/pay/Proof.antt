@@ -1,7 +1,7 @@
--- `action::instruction::pay` meets its contract: it pays the amount in the register to whom the source names. Assumes nothing.
+-- `action::instruction::pay` meets its contract: it pays the amount in the register to whom the source names.
 use borrow.Author.Needs.{needs}
 use mathlib.Core.Path.{ap, ap₂, _∙_}
-use Rattle.arith.proofs.Laws.{back}
+use Rattle.arith.proofs.Laws.{read-back}
 use Rattle.block.specs.Key.{payeeOf}
 use Rattle.machine.specs.Action.{payAction}
 use Rattle.action.proofs.instruction.pay.Statement.{statement}
@@ -23,7 +23,7 @@ returns : tie.Need-returns
 returns c =
     c .pay-to .ensures
     ∙ ap₂ (payAction (c .before .before .before .before .args .regs))
-    (back {z = c .before .before .before .register .result} (record { sfits = c .before .before .before .register .ok }) ∙ c .before .before .before .register .ensures)
+    (read-back {z = c .before .before .before .register .result} (record { sfits = c .before .before .before .register .ok }) ∙ c .before .before .before .register .ensures)
     (c .before .payee-of .ensures ∙ ap payeeOf (c .before .before .source-value .ensures))
 
 pub pay-spec : {M : Type 1} → statement M

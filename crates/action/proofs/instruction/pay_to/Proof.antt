@@ -1,11 +1,11 @@
--- `action::instruction::pay_to` meets its contract: each arm is a clause of the definition, and the test of the amount is its sign. Assumes nothing.
+-- `action::instruction::pay_to` meets its contract: each arm is a clause of the definition, and the test of the amount is its sign.
 use borrow.Author.Needs.{needs}
 use lib.IntN.{ℤ, pos}
 use lib.Signed.{ltZ}
 use Rattle.block.proofs.Laws.{negative, not-negative}
 use Rattle.machine.specs.Action.{payAction}
 use Rattle.action.proofs.Laws.{test-read}
-use Rattle.arith.proofs.Laws.{back}
+use Rattle.arith.proofs.Laws.{read-back}
 use Rattle.action.proofs.instruction.pay_to.Statement.{statement}
 use Rattle.action.proofs.instruction.pay_to.Tie as tie
 
@@ -40,7 +40,7 @@ returns-3 c =
     simp (
       c .before .enum-told2 .given .1,
       not-negative (c .before .before .before .args .amount) (test-read (λ (z : ℤ). ltZ z (pos 0)) (c .before .before .before .fits .amount) (c .if1 .left)),
-      back (c .before .before .before .fits .amount),
+      read-back (c .before .before .before .fits .amount),
     )
 
 pub pay-to-spec : {M : Type 1} → statement M

@@ -1,4 +1,4 @@
--- `action::instruction::register` meets its contract: a register that does not exist reads 0. Assumes nothing.
+-- `action::instruction::register` meets its contract: a register that does not exist reads 0.
 use borrow.Author.Needs.{needs}
 use Rattle.action.proofs.Laws.{register-past}
 use Rattle.action.proofs.instruction.register.Statement.{statement}

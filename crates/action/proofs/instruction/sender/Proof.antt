@@ -1,8 +1,8 @@
--- `action::instruction::sender` meets its contract: an account has 16 bits, so a register holds it. Assumes nothing.
+-- `action::instruction::sender` meets its contract: an account has 16 bits, so a register holds it.
 use borrow.Author.Needs.{needs}
 use mathlib.Core.Path.{ap, _∙_}
 use lib.IntN.{pos}
-use Rattle.arith.proofs.Laws.{back}
+use Rattle.arith.proofs.Laws.{read-back}
 use Rattle.action.proofs.instruction.sender.Statement.{statement}
 use Rattle.action.proofs.instruction.sender.Tie as tie
 
@@ -16,7 +16,7 @@ assign-requires : tie.Need-assign-requires
 assign-requires c κs = search needs
 
 returns : tie.Need-returns
-returns c = c .assign .ensures ∙ simp (back {z = pos (c .before .number .result)} (cast-assign (c .before)) ∙ ap pos (c .before .number .ensures))
+returns c = c .assign .ensures ∙ simp (read-back {z = pos (c .before .number .result)} (cast-assign (c .before)) ∙ ap pos (c .before .number .ensures))
 
 pub sender-spec : {M : Type 1} → statement M
 sender-spec = tie.close (tie.spec number-requires cast-assign assign-requires returns)

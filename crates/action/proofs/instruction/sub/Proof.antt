@@ -1,7 +1,7 @@
--- `action::instruction::sub` meets its contract: x takes the difference of both registers. Assumes nothing.
+-- `action::instruction::sub` meets its contract: x takes the difference of both registers.
 use borrow.Author.Needs.{needs}
 use Rattle.arith.specs.Exact.{subOf}
-use Rattle.machine.specs.Action.{assignChecked}
+use Rattle.machine.specs.Action.{checkedAction}
 use Rattle.action.proofs.Laws.{of-registers}
 use Rattle.action.proofs.instruction.sub.Statement.{statement}
 use Rattle.action.proofs.instruction.sub.Tie as tie
@@ -20,7 +20,7 @@ assign-checked-requires c κs = search needs
 
 returns : tie.Need-returns
 returns c =
-    of-registers (assignChecked (c .before .before .before .before .args .place) (c .before .before .before .before .args .regs) (c .before .before .before .before .args .x)) subOf (c .assign-checked .ensures) (c .before .sub .ensures)
+    of-registers (checkedAction (c .before .before .before .before .args .place) (c .before .before .before .before .args .regs) (c .before .before .before .before .args .x)) subOf (c .assign-checked .ensures) (c .before .sub .ensures)
     (record { sfits = c .before .before .before .register .ok }) (record { sfits = c .before .before .register2 .ok })
     (c .before .before .before .register .ensures) (c .before .before .register2 .ensures)
 

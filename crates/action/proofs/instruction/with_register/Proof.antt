@@ -1,4 +1,4 @@
--- `action::instruction::with_register` meets its contract: past the last register the list's store changes nothing too. Assumes nothing.
+-- `action::instruction::with_register` meets its contract: past the last register the list's store changes nothing too.
 use borrow.Author.Needs.{needs}
 use lib.Seq.{set-out}
 use mathlib.Core.Path.{sym}

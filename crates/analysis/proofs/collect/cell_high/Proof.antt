@@ -1,5 +1,5 @@
--- `analysis::collect::cell_high` meets its contract: address, field and a are the high word of a key. Assumes nothing.
-use Rattle.analysis.proofs.OpeningLaws.{cell-high}
+-- `analysis::collect::cell_high` meets its contract: address, field and a are the high word of a key.
+use Rattle.analysis.proofs.OpeningKeyLaws.{cell-high}
 use native.Mathlib.Omega.{arith}
 use borrow.Author.Needs.{needs}
 use Rattle.block.proofs.Laws.{high-named}
@@ -26,8 +26,10 @@ high-of-requires c κs = search needs
 
 returns : tie.Need-returns
 returns c =
-    let a = c .before .before .before .before .before .before .before .args in
-    cell-high (a .file .now) (a .at) (c .before .before .before .before .before .from .ensures) (λ i. omega (arith, c .before .before .before .before .before .before .shared-slice-known .given i)) (c .before .before .before .before .short .ensures) (c .before .before .short2 .ensures) (c .before .long .ensures)
+    let c6 = c .before .before .before .before .before .before in
+    let c7 = c6 .before in
+    let a = c7 .args in
+    cell-high (a .file .now) (a .at) (c .before .before .before .before .before .from .ensures) (λ i. omega (arith, c6 .shared-slice-known .given i)) (c .before .before .before .before .short .ensures) (c .before .before .short2 .ensures) (c .before .long .ensures)
     (high-named (c .before .before .before .before .short .result) (c .before .before .short2 .result) (c .before .long .result) (c .before .before .before .address-of .ensures) (c .high-of .ensures))
 
 pub cell-high-spec : {M : Type 1} → statement M

@@ -1,5 +1,5 @@
--- `analysis::collect::cell_low` meets its contract: b is the low word of a key. Assumes nothing.
-use Rattle.analysis.proofs.OpeningLaws.{cell-low}
+-- `analysis::collect::cell_low` meets its contract: b is the low word of a key.
+use Rattle.analysis.proofs.OpeningKeyLaws.{cell-low}
 use borrow.Author.Needs.{needs}
 use Rattle.analysis.proofs.collect.cell_low.Statement.{statement}
 use Rattle.analysis.proofs.collect.cell_low.Tie as tie

@@ -1,4 +1,4 @@
--- `analysis::collect::code_of` meets its contract: the place of the id tells the code, if the id is there. Assumes nothing.
+-- `analysis::collect::code_of` meets its contract: the place of the id tells the code, if the id is there.
 use native.Mathlib.Omega.{arith}
 use Rattle.block.specs.Record.{callId}
 use Rattle.analysis.proofs.CollectLaws.{code-there, code-none}
@@ -26,12 +26,14 @@ element-copy-out-t18 c = search needs
 
 add-t20 : tie.Need-add-t20
 add-t20 c =
-    let s = c .before .before .before .before .before .before .before in
+    let c7 = c .before .before .before .before .before .before .before in
+    let s = c7 in
     omega (arith, s .pre .sizes (c .before .before .before .id-place .result))
 
 returns : tie.Need-returns
 returns c =
-    let s = c .before .before .before .before .before .before .before in
+    let c7 = c .before .before .before .before .before .before .before in
+    let s = c7 in
     code-there (s .args .t1) (callId (s .args .c)) (rw (c .before .before .before .before .id-of .ensures) at (c .before .before .before .id-place .ensures)) (c .before .before .if1 .taken)
 
 returns-2 : tie.Need-returns-2

@@ -1,4 +1,4 @@
--- `analysis::collect::id_place` meets its contract: the search for the id goes on from the loop's place. Assumes nothing.
+-- `analysis::collect::id_place` meets its contract: the search for the id goes on from the loop's place.
 use native.Mathlib.Omega.{arith}
 use Prim.Native.Nat.{_-_, _≤_}
 use borrow.Author.Tests.{eq-eqb, ne-eqb}

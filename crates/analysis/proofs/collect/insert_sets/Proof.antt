@@ -1,4 +1,4 @@
--- `analysis::collect::insert_sets` meets its contract: what the keys that are left lead to, all of them lead to. Assumes nothing.
+-- `analysis::collect::insert_sets` meets its contract: what the keys that are left lead to, all of them lead to.
 use native.Mathlib.Omega.{arith}
 use Prim.Native.Nat.{_-_}
 use Rattle.analysis.proofs.CallLaws.{Filling, filling-start, filling-full, filling-more, filling-kept, filling-end}
@@ -29,19 +29,27 @@ element-copy-out-key-insert-2 : tie.Need-element-copy-out-key-insert-2 Inv-loop 
 element-copy-out-key-insert-2 c = omega arith
 
 key-insert-requires : tie.Need-key-insert-requires Inv-loop μ-loop
-key-insert-requires c κs = (c .before .before .before .before .loop .inv .tabled, c .before .before .before .before .before .before .pre .1 .lows (c .before .before .before .before .loop .i))
+key-insert-requires c κs =
+    let c6 = c .before .before .before .before .before .before in
+    (c .before .before .before .before .loop .inv .tabled, c6 .pre .1 .lows (c .before .before .before .before .loop .i))
 
 same-length : tie.Need-same-length Inv-loop μ-loop
 same-length c =
-    let s = c .before .before .before .before .before .before .before .before .before .before in
-    let g = c .before .before .before .before .before .before .before .before .loop in
-    filling-kept (s .args .n) (s .args .keys .now) (s .args .t3) (g .keys) (g .count) (g .i) (g .inv) (c .before .before .before .before .before .before .before .loop-test .taken) _ _ (c .before .before .before .key-insert .ensures)
+    let c7 = c .before .before .before .before .before .before .before in
+    let c8 = c7 .before in
+    let c10 = c8 .before .before in
+    let s = c10 in
+    let g = c8 .loop in
+    filling-kept (s .args .n) (s .args .keys .now) (s .args .t3) (g .keys) (g .count) (g .i) (g .inv) (c7 .loop-test .taken) _ _ (c .before .before .before .key-insert .ensures)
 
 returns : tie.Need-returns Inv-loop μ-loop
 returns c =
-    let s = c .before .before .before .before .before .before .before .before .before .before in
-    let g = c .before .before .before .before .before .before .before .before .loop in
-    filling-full (s .args .n) (s .args .keys .now) (s .args .t3) (g .keys) (g .count) (g .i) (g .inv) (c .before .before .before .before .before .before .before .loop-test .taken) _ _ (c .before .before .before .key-insert .ensures) (c .if1 .taken)
+    let c7 = c .before .before .before .before .before .before .before in
+    let c8 = c7 .before in
+    let c10 = c8 .before .before in
+    let s = c10 in
+    let g = c8 .loop in
+    filling-full (s .args .n) (s .args .keys .now) (s .args .t3) (g .keys) (g .count) (g .i) (g .inv) (c7 .loop-test .taken) _ _ (c .before .before .before .key-insert .ensures) (c .if1 .taken)
 
 add-i : tie.Need-add-i Inv-loop μ-loop
 add-i c = omega arith
@@ -51,9 +59,12 @@ loop-less c = omega arith
 
 loop-again : tie.Need-loop-again Inv-loop μ-loop
 loop-again c =
-    let s = c .before .before .before .before .before .before .before .before .before .before in
-    let g = c .before .before .before .before .before .before .before .before .loop in
-    filling-more (s .args .n) (s .args .keys .now) (s .args .t3) (g .keys) (g .count) (g .i) (g .inv) (c .before .before .before .before .before .before .before .loop-test .taken) _ _ (c .before .before .before .key-insert .ensures) (c .if1 .left)
+    let c7 = c .before .before .before .before .before .before .before in
+    let c8 = c7 .before in
+    let c10 = c8 .before .before in
+    let s = c10 in
+    let g = c8 .loop in
+    filling-more (s .args .n) (s .args .keys .now) (s .args .t3) (g .keys) (g .count) (g .i) (g .inv) (c7 .loop-test .taken) _ _ (c .before .before .before .key-insert .ensures) (c .if1 .left)
 
 same-length-2 : tie.Need-same-length-2 Inv-loop μ-loop
 same-length-2 c = c .before .loop .inv .kept

@@ -1,16 +1,16 @@
--- `analysis::collect::opening_keys` meets its contract: after i cells the buffer holds the first i keys of the opening. Assumes nothing.
+-- `analysis::collect::opening_keys` meets its contract: after i cells the buffer holds the first i keys of the opening.
 use borrow.Author.Needs.{needs}
 use native.Mathlib.Omega.{arith}
 use mathlib.Core.Path.{refl}
 use Prim.Native.Nat.{_+_, _-_, _*_, _≤_, _<_}
 use lib.ListN.{length, length-set}
 use Rattle.block.specs.Limits.{maxBytes, maxKeys}
-use Rattle.analysis.proofs.OpeningLaws.{Opened, opened-none, opened-inside, opened-more, opened-all}
+use Rattle.analysis.proofs.OpeningKeyLaws.{OpeningKeysIn, keys-opened-none, opened-inside, keys-opened-more, keys-opened-all}
 use Rattle.analysis.proofs.collect.opening_keys.Statement.{statement}
 use Rattle.analysis.proofs.collect.opening_keys.Tie as tie
 
 abbrev Inv-loop : tie.InvT-loop
-Inv-loop file l keys₀ i₀ keys i = Opened file keys₀ keys i
+Inv-loop file l keys₀ i₀ keys i = OpeningKeysIn file keys₀ keys i
 
 abbrev μ-loop : tie.MeasureT-loop
 μ-loop file l keys₀ i₀ keys i = l .cells - i
@@ -26,7 +26,7 @@ inside c =
 loop-holds : tie.Need-loop-holds Inv-loop μ-loop
 loop-holds c =
     let s = c .before .before in
-    opened-none (s .args .file .now) (s .args .keys .now) (s .pre .1 .1)
+    keys-opened-none (s .args .file .now) (s .args .keys .now) (s .pre .1 .1)
 
 add-at : tie.Need-add-at Inv-loop μ-loop
 add-at c = omega arith
@@ -75,9 +75,10 @@ loop-less c = omega arith
 
 loop-again : tie.Need-loop-again Inv-loop μ-loop
 loop-again c =
-    let s = c .before .before .before .before .before .before .before .before in
+    let c8 = c .before .before .before .before .before .before .before .before in
+    let s = c8 in
     let g = c .before .before .before .before .before .loop in
-    opened-more (s .args .file .now) (s .args .l) (s .pre .0) (s .args .keys .now) (s .pre .1 .0) (g .keys) (g .i) (g .inv) (c .before .before .before .if1 .taken) refl (c .before .cell-high .ensures) (c .cell-low .ensures)
+    keys-opened-more (s .args .file .now) (s .args .l) (s .pre .0) (s .args .keys .now) (s .pre .1 .0) (g .keys) (g .i) (g .inv) (c .before .before .before .if1 .taken) refl (c .before .cell-high .ensures) (c .cell-low .ensures)
 
 same-length : tie.Need-same-length Inv-loop μ-loop
 same-length c = c .before .before .loop .inv .kept
@@ -86,7 +87,7 @@ returns : tie.Need-returns Inv-loop μ-loop
 returns c =
     let s = c .before .before .before .before .before in
     let g = c .before .before .loop in
-    opened-all (s .args .file .now) (s .args .l) (s .pre .0) (s .args .keys .now) (s .pre .1 .0) (g .keys) (g .i) (g .inv) (c .if1 .left)
+    keys-opened-all (s .args .file .now) (s .args .l) (s .pre .0) (s .args .keys .now) (s .pre .1 .0) (g .keys) (g .i) (g .inv) (c .if1 .left)
 
 pub opening-keys-spec : {M : Type 1} → statement M
 opening-keys-spec =

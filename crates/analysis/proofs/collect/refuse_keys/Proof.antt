@@ -1,4 +1,4 @@
--- `analysis::collect::refuse_keys` meets its contract: the buffer is cleared. Assumes nothing.
+-- `analysis::collect::refuse_keys` meets its contract: the buffer is cleared.
 use mathlib.Core.Path.{ap}
 use mathlib.Core.List.{List}
 use Prim.Native.Nat.{ℕ}

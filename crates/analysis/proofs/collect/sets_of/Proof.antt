@@ -1,4 +1,4 @@
--- `analysis::collect::sets_of` meets its contract: an unknown function has no keys, and any other is walked. Assumes nothing.
+-- `analysis::collect::sets_of` meets its contract: an unknown function has no keys, and any other is walked.
 use Rattle.analysis.proofs.CollectLaws.{set-none, set-some}
 use borrow.Author.Needs.{needs}
 use Rattle.analysis.proofs.collect.sets_of.Statement.{statement}

@@ -1,4 +1,4 @@
--- `analysis::gather::function_sets` meets its contract: after n instructions the set is that of the entry and of the first n. Assumes nothing.
+-- `analysis::gather::function_sets` meets its contract: after n instructions the set is that of the entry and of the first n.
 use borrow.Author.Needs.{needs}
 use native.Mathlib.Omega.{arith}
 use Prim.Native.Nat.{ℕ, _-_, _≤_}
@@ -45,7 +45,8 @@ with-uses-requires c κs = (omega arith, zeros, zeros, zeros)
 loop-holds : tie.Need-loop-holds Inv-loop μ-loop
 unfolding gathered repeated
 loop-holds c =
-    let a = c .before .before .before .before .before .before .before .before .before .args in
+    let c9 = c .before .before .before .before .before .before .before .before .before in
+    let a = c9 .args in
     let made = c .before .before .before .with-uses in
     let entry = walk-start (a .c) (a .size) (a .code .now) refl (c .before .before .before .before .entry-uses .ensures) (made .ensures) in
     (omega arith, made .kept .0 ∙ zeros, made .kept .1 .0 ∙ zeros, made .kept .1 .1 .0 ∙ zeros, entry)
@@ -71,24 +72,29 @@ with-uses-requires-2 c κs =
 
 add-index : tie.Need-add-index Inv-loop μ-loop
 add-index c =
-    let asked = c .before .before .before .before .before .before .before .before in
-    omega (arith, asked .loop-test .taken, asked .before .before .before .before .before .before .before .before .before .before .before .pre)
+    let c8 = c .before .before .before .before .before .before .before .before in
+    let asked = c8 in
+    let asked11 = asked .before .before .before .before .before .before .before .before .before .before .before in
+    omega (arith, asked .loop-test .taken, asked11 .pre)
 
 loop-less : tie.Need-loop-less Inv-loop μ-loop
 loop-less c = omega arith
 
 loop-again : tie.Need-loop-again Inv-loop μ-loop
 loop-again c =
-    let turn = c .before .before .before .before .before .before .before .before .before in
+    let c7 = c .before .before .before .before .before .before .before in
+    let c9 = c7 .before .before in
+    let turn = c9 in
     let a = turn .before .before .before .before .before .before .before .before .before .before .args in
     let l = turn .loop in
     let made = c .before .before .before .with-uses2 in
-    let more = walk-more (a .c) (a .size) (a .code .now) (l .index) (l .inv .4) (c .before .before .before .before .before .before .before .uses-at .ensures) (made .ensures) in
+    let more = walk-more (a .c) (a .size) (a .code .now) (l .index) (l .inv .4) (c7 .uses-at .ensures) (made .ensures) in
     (omega arith, made .kept .0 ∙ l .inv .1, made .kept .1 .0 ∙ l .inv .2, made .kept .1 .1 .0 ∙ l .inv .3, more)
 
 returns : tie.Need-returns Inv-loop μ-loop
 returns c =
-    let a = c .before .before .before .before .before .before .before .before .before .before .before .args in
+    let c11 = c .before .before .before .before .before .before .before .before .before .before .before in
+    let a = c11 .args in
     let l = c .before .loop in
     walk-end (a .c) (a .size) (a .code .now) (l .index) (l .inv .4) (l .inv .0) (c .loop-test .left)
 

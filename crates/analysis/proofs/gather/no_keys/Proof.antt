@@ -1,4 +1,4 @@
--- `analysis::gather::no_keys` meets its contract: zeros are the columns of no accesses. Assumes nothing.
+-- `analysis::gather::no_keys` meets its contract: zeros are the columns of no accesses.
 use mathlib.Core.Path.{refl}
 use Rattle.wire.specs.Bytes.{repeated}
 use Rattle.analysis.specs.Gathered.{gathered}

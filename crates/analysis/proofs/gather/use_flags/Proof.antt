@@ -1,4 +1,4 @@
--- `analysis::gather::use_flags` meets its contract: each case of the two flags has its number. Assumes nothing.
+-- `analysis::gather::use_flags` meets its contract: each case of the two flags has its number.
 use Rattle.analysis.proofs.gather.use_flags.Statement.{statement}
 use Rattle.analysis.proofs.gather.use_flags.Tie as tie
 

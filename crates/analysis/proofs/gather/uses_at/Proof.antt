@@ -1,4 +1,4 @@
--- `analysis::gather::uses_at` meets its contract: what decodes has the uses of its accesses, and what does not decode has none. Assumes nothing.
+-- `analysis::gather::uses_at` meets its contract: what decodes has the uses of its accesses, and what does not decode has none.
 use borrow.Author.Needs.{needs}
 use Rattle.footprint.specs.Uses.{usesOf}
 use Rattle.analysis.proofs.GatherLaws.{uses-valid, uses-invalid}
@@ -22,7 +22,8 @@ enum-told c = search needs
 
 returns : tie.Need-returns
 returns c =
-    let a = c .before .before .before .before .before .before .args in
+    let c6 = c .before .before .before .before .before .before in
+    let a = c6 .args in
     uses-valid (a .c) (c .before .before .before .before .decode .ensures) (c .before .before .i .given .1) (c .instr-uses .ensures)
 
 returns-2 : tie.Need-returns-2

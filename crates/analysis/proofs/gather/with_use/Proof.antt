@@ -1,4 +1,4 @@
--- `analysis::gather::with_use` meets its contract: its four returns are the four cases of the definition. Assumes nothing.
+-- `analysis::gather::with_use` meets its contract: its four returns are the four cases of the definition.
 use borrow.Author.Needs.{needs}
 use Rattle.analysis.specs.Gathered.{inParts}
 use Rattle.analysis.proofs.GatherLaws.{use-over, use-known, use-past, use-new, all-clear}
@@ -64,14 +64,17 @@ same-length-6 c = search needs
 
 returns-3 : tie.Need-returns-3
 returns-3 c =
-    let past = c .before .before .before .before .before .before .before .before .before .before .before .before in
+    let c6 = c .before .before .before .before .before .before in
+    let c10 = c6 .before .before .before .before in
+    let c12 = c10 .before .before in
+    let past = c12 in
     let found = past .before .before .before .before in
     let start = found .before .before .before .before .before .before .before in
     let a = start .args in
     use-past (inParts (a .t) (a .highs .now) (a .lows .now) (a .flags .now)) (a .u)
     (found .before .before .before .if1 .left) (found .place .ensures)
     (all-clear (a .highs .now) (a .lows .now) (a .flags .now)
-    (c .before .before .before .before .before .before .before .before .before .before .clear-words .ensures) (c .before .before .before .before .before .before .clear-words2 .ensures) (c .before .before .clear-words3 .ensures)
+    (c10 .clear-words .ensures) (c6 .clear-words2 .ensures) (c .before .before .clear-words3 .ensures)
     (start .pre .1) (start .pre .2) (start .pre .3))
     (past .before .if2 .left) (past .if3 .taken)
 

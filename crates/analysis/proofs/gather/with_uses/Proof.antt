@@ -1,4 +1,4 @@
--- `analysis::gather::with_uses` meets its contract: the uses that stand are taken one after the other. Assumes nothing.
+-- `analysis::gather::with_uses` meets its contract: the uses that stand are taken one after the other.
 use borrow.Author.Needs.{needs}
 use Rattle.analysis.specs.Gathered.{inParts}
 use Rattle.analysis.proofs.GatherLaws.{uses-none, uses-one, uses-two, wide-used}
@@ -24,16 +24,20 @@ same-length-3 c = search needs
 
 returns-2 : tie.Need-returns-2
 returns-2 c =
-    let some = c .before .before .before .before .before .before .before .before .before .before .before .before in
+    let c8 = c .before .before .before .before .before .before .before .before in
+    let c12 = c8 .before .before .before .before in
+    let some = c12 in
     let a = some .before .before .before .before .before .args in
     uses-one (inParts (a .t) (a .highs .now) (a .lows .now) (a .flags .now)) (a .us)
-    (some .if1 .left) (c .if2 .taken) (c .before .before .before .before .before .before .before .before .with-use .ensures)
+    (some .if1 .left) (c .if2 .taken) (c8 .with-use .ensures)
 
 with-use-requires-2 : tie.Need-with-use-requires-2
 with-use-requires-2 c κs =
-    let first = c .before .before .before .before .before .before .before .before .before .before .before in
+    let c11 = c .before .before .before .before .before .before .before .before .before .before .before in
+    let first = c11 in
+    let first9 = first .before .before .before .before .before .before .before .before .before in
     let one = first .with-use in
-    wide-used _ _ _ _ _ _ _ _ _ (first .before .before .before .before .before .before .before .before .before .pre) (one .ensures) (one .kept .0) (one .kept .1 .0) (one .kept .1 .1 .0)
+    wide-used _ _ _ _ _ _ _ _ _ (first9 .pre) (one .ensures) (one .kept .0) (one .kept .1 .0) (one .kept .1 .1 .0)
 
 same-length-4 : tie.Need-same-length-4
 same-length-4 c = search needs
@@ -46,11 +50,14 @@ same-length-6 c = search needs
 
 returns-3 : tie.Need-returns-3
 returns-3 c =
-    let more = c .before .before .before .before .before .before .before .before .before .before in
+    let c6 = c .before .before .before .before .before .before in
+    let c10 = c6 .before .before .before .before in
+    let more = c10 in
+    let more8 = more .before .before .before .before .before .before .before .before in
     let some = more .before .before .before .before .before .before .before .before .before .before .before .before in
     let a = some .before .before .before .before .before .args in
     uses-two (inParts (a .t) (a .highs .now) (a .lows .now) (a .flags .now)) (a .us)
-    (some .if1 .left) (more .if2 .left) (more .before .before .before .before .before .before .before .before .with-use .ensures) (c .before .before .before .before .before .before .with-use2 .ensures)
+    (some .if1 .left) (more .if2 .left) (more8 .with-use .ensures) (c6 .with-use2 .ensures)
 
 pub with-uses-spec : {M : Type 1} → statement M
 with-uses-spec =

@@ -1,4 +1,4 @@
--- `analysis::plan::entries` meets its contract: each turn makes the word of one entry more. Assumes nothing.
+-- `analysis::plan::entries` meets its contract: each turn makes the word of one entry more.
 use native.Mathlib.Omega.{arith}
 use Prim.Native.Nat.{_-_, _≤_}
 use Rattle.block.specs.Limits.{maxKeys}
@@ -33,7 +33,9 @@ cell-number-requires c κs = (c .before .before .before .before .before .pre .0,
 
 -- A cell number is small.
 small : (c : tie.After-cell-number Inv-loop μ-loop) → c .cell-number .result ≤ maxKeys
-small c = place-few _ _ _ _ (c .before .before .before .before .before .before .pre .0) (c .cell-number .ensures)
+small c =
+    let c6 = c .before .before .before .before .before .before in
+    place-few _ _ _ _ (c6 .pre .0) (c .cell-number .ensures)
 
 mul-words : tie.Need-mul-words Inv-loop μ-loop
 mul-words c = omega (arith, small c)
@@ -45,7 +47,9 @@ element-copy-out-words : tie.Need-element-copy-out-words Inv-loop μ-loop
 element-copy-out-words c = omega arith
 
 add-words : tie.Need-add-words Inv-loop μ-loop
-add-words c = omega (arith, small (c .before), c .before .before .before .before .before .before .before .pre .1 .flags (c .before .before .before .before .before .loop .k))
+add-words c =
+    let c7 = c .before .before .before .before .before .before .before in
+    omega (arith, small (c .before), c7 .pre .1 .flags (c .before .before .before .before .before .loop .k))
 
 mul-words-3 : tie.Need-mul-words-3 Inv-loop μ-loop
 mul-words-3 c = omega arith
@@ -60,7 +64,9 @@ loop-less : tie.Need-loop-less Inv-loop μ-loop
 loop-less c = omega arith
 
 loop-again : tie.Need-loop-again Inv-loop μ-loop
-loop-again c = entries-more _ _ _ _ _ (c .before .before .before .before .before .loop .inv) (c .before .before .before .before .loop-test .taken) (c .before .before .before .before .before .before .before .pre .1 .few) (c .before .cell-number .ensures)
+loop-again c =
+    let c7 = c .before .before .before .before .before .before .before in
+    entries-more _ _ _ _ _ (c .before .before .before .before .before .loop .inv) (c .before .before .before .before .loop-test .taken) (c7 .pre .1 .few) (c .before .cell-number .ensures)
 
 returns : tie.Need-returns Inv-loop μ-loop
 returns c = entries-all _ _ _ _ (c .before .loop .inv) (c .loop-test .left)

@@ -1,7 +1,7 @@
 -- `analysis::plan::open_cell` meets its contract: it reads the parts of the cell's key and its value, and stores the one at the number of the
--- other. Assumes nothing.
+-- other.
 use borrow.Author.Needs.{needs}
-use Rattle.arith.proofs.Laws.{back}
+use Rattle.arith.proofs.Laws.{read-back}
 use Rattle.block.proofs.Laws.{high-named}
 use Rattle.analysis.proofs.PlanLoops.{cell-stored}
 use Rattle.analysis.proofs.plan.open_cell.Statement.{statement}
@@ -42,9 +42,15 @@ same-length c = search needs
 
 returns : tie.Need-returns
 returns c =
-    cell-stored _ _ (c .before .before .before .before .before .before .before .before .before .before .before .before .before .args .values .now) _ (c .before .before .before .before .before .before .before .before .before .before .short .ensures) (c .before .before .before .before .before .before .before .before .short2 .ensures) (c .before .before .before .before .before .before .before .long .ensures) (c .before .before .before .before .before .long2 .ensures)
-    (high-named (c .before .before .before .before .before .before .before .before .before .before .short .result) (c .before .before .before .before .before .before .before .before .short2 .result) (c .before .before .before .before .before .before .before .long .result) (c .before .before .before .before .before .before .before .before .before .address-of .ensures) (c .before .before .before .before .before .before .high-of .ensures)) (c .before .before .before .before .cell-number .ensures) (c .before .before .get-i64 .ensures)
-    (back {z = c .before .before .get-i64 .result} (record { sfits = c .before .before .get-i64 .ok })) (c .before .put-value .ensures)
+    let c6 = c .before .before .before .before .before .before in
+    let c7 = c6 .before in
+    let c8 = c7 .before in
+    let c9 = c8 .before in
+    let c10 = c9 .before in
+    let c13 = c10 .before .before .before in
+    cell-stored _ _ (c13 .args .values .now) _ (c10 .short .ensures) (c8 .short2 .ensures) (c7 .long .ensures) (c .before .before .before .before .before .long2 .ensures)
+    (high-named (c10 .short .result) (c8 .short2 .result) (c7 .long .result) (c9 .address-of .ensures) (c6 .high-of .ensures)) (c .before .before .before .before .cell-number .ensures) (c .before .before .get-i64 .ensures)
+    (read-back {z = c .before .before .get-i64 .result} (record { sfits = c .before .before .get-i64 .ok })) (c .before .put-value .ensures)
 
 pub open-cell-spec : {M : Type 1} → statement M
 open-cell-spec =

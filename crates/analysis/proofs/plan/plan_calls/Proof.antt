@@ -1,11 +1,11 @@
--- `analysis::plan::plan_calls` meets its contract: each turn adds the words of one call to the plan, and its entries to the masks. Assumes nothing.
+-- `analysis::plan::plan_calls` meets its contract: each turn adds the words of one call to the plan, and its entries to the masks.
 use native.Mathlib.Omega.{arith}
 use mathlib.Core.Path.{_≡_, refl, sym, _∙_}
 use Prim.Native.Nat.{ℕ, _-_, _≤_}
 use lib.ListN.{length, length-replicate}
 use Rattle.analysis.specs.KeyTable.{keysIn}
-use Rattle.analysis.specs.LaidLaws.{laid-whole, laid-calls}
-use Rattle.analysis.specs.PlanLaws.{PlannedTo, planned-none, planned-more, planned-all, complete}
+use Rattle.analysis.proofs.LayoutLaws.{laid-whole, laid-calls}
+use Rattle.analysis.proofs.PlanLaws.{PlannedTo, planned-none, planned-more, planned-all, complete}
 use Rattle.analysis.proofs.plan.plan_calls.Statement.{statement}
 use Rattle.analysis.proofs.plan.plan_calls.Tie as tie
 
@@ -28,29 +28,36 @@ slice-aggregate-plan-call-2 c = sym (c .before .before .before .before .before .
 
 plan-call-requires : tie.Need-plan-call-requires Inv-loop μ-loop
 plan-call-requires c κs =
-    let s = c .before .before .before .before .before .before .before .before .before in
+    let c9 = c .before .before .before .before .before .before .before .before .before in
+    let s = c9 in
     let inv = c .before .before .before .before .before .loop .inv in
     let calls = laid-calls _ _ (s .pre .0) in
     let few = laid-whole _ _ (s .pre .0) .laws .callLimit in
     (s .pre .0, (s .pre .1 .0, (s .pre .1 .1 .0, (omega (arith, c .before .before .before .if1 .taken, calls), (omega (arith, c .before .before .before .if1 .taken, calls, few, inv .1, s .pre .1 .1 .1 .0), (omega (arith, inv .2), omega (arith, inv .3)))))))
 
-add-j : tie.Need-add-j Inv-loop μ-loop
-add-j c = let s = c .before .before .before .before .before .before .before .before .before .before .before .before .before .before in omega (arith, c .before .before .before .before .before .before .before .before .if1 .taken, laid-calls _ _ (s .pre .0), laid-whole _ _ (s .pre .0) .laws .callLimit)
+add-call : tie.Need-add-call Inv-loop μ-loop
+add-call c =
+    let c8 = c .before .before .before .before .before .before .before .before in
+    let c14 = c8 .before .before .before .before .before .before in
+    let s = c14 in omega (arith, c8 .if1 .taken, laid-calls _ _ (s .pre .0), laid-whole _ _ (s .pre .0) .laws .callLimit)
 
 loop-less : tie.Need-loop-less Inv-loop μ-loop
 loop-less c = omega arith
 
 loop-again : tie.Need-loop-again Inv-loop μ-loop
 loop-again c =
-    let s = c .before .before .before .before .before .before .before .before .before .before .before .before .before .before in
-    let inv = c .before .before .before .before .before .before .before .before .before .before .loop .inv in
+    let c8 = c .before .before .before .before .before .before .before .before in
+    let c10 = c8 .before .before in
+    let c14 = c10 .before .before .before .before in
+    let s = c14 in
+    let inv = c10 .loop .inv in
     let made = c .before .before .before .before .plan-call in
     let calls = laid-calls _ _ (s .pre .0) in (
       omega arith,
       made .kept .1 .1 .1 .1 .1 .0 ∙ inv .1,
       made .kept .1 .1 .1 .1 .1 .1 .0 ∙ inv .2,
       made .kept .1 .1 .1 .1 .1 .1 .1 .0 ∙ inv .3,
-      planned-more _ _ (complete _ _ (s .pre .1 .0)) (c .before .before .before .before .before .before .before .before .before .before .loop .j) _ _ _ _ _ _ _ (inv .4) (omega (arith, c .before .before .before .before .before .before .before .before .if1 .taken, calls)) (laid-whole _ _ (s .pre .0) .laws .callLimit)
+      planned-more _ _ (complete _ _ (s .pre .1 .0)) (c10 .loop .call) _ _ _ _ _ _ _ (inv .4) (omega (arith, c8 .if1 .taken, calls)) (laid-whole _ _ (s .pre .0) .laws .callLimit)
           (s .pre .1 .1 .1 .0) (made .ensures .0) (made .ensures .1 .0) (made .ensures .1 .1),
     )
 
@@ -59,8 +66,9 @@ same-length c = c .before .before .loop .inv .1
 
 returns : tie.Need-returns Inv-loop μ-loop
 returns c =
-    let s = c .before .before .before .before .before .before in
-    planned-all _ _ (complete _ _ (s .pre .1 .0)) (c .before .before .loop .j) _ _ _ _ (c .before .before .loop .inv .4) (omega (arith, c .if1 .left, laid-calls _ _ (s .pre .0)))
+    let c6 = c .before .before .before .before .before .before in
+    let s = c6 in
+    planned-all _ _ (complete _ _ (s .pre .1 .0)) (c .before .before .loop .call) _ _ _ _ (c .before .before .loop .inv .4) (omega (arith, c .if1 .left, laid-calls _ _ (s .pre .0)))
 
 pub plan-calls-spec : {M : Type 1} → statement M
 plan-calls-spec =
@@ -72,7 +80,7 @@ plan-calls-spec =
     slice-aggregate-plan-call
     slice-aggregate-plan-call-2
     plan-call-requires
-    add-j
+    add-call
     loop-less
     loop-again
     same-length

@@ -1,4 +1,4 @@
--- `analysis::plan::put_call` meets its contract: three words, the entries, the row and a zero, one behind the other. Assumes nothing.
+-- `analysis::plan::put_call` meets its contract: three words, the entries, the row and a zero, one behind the other.
 use borrow.Author.Needs.{needs}
 use native.Mathlib.Omega.{arith}
 use Prim.Native.Nat.{_*_, _+_, _≤_}
@@ -50,7 +50,7 @@ mul-plan-4 : tie.Need-mul-plan-4
 mul-plan-4 c = search needs
 
 -- The buffer is as long behind the entries.
-inside : (c : tie.After-slice-known2) → 32 * c .before .before .before .before .before .args .j + 32 ≤ length (c .before .before .put-entries .last .0)
+inside : (c : tie.After-slice-known2) → 32 * c .before .before .before .before .before .args .call + 32 ≤ length (c .before .before .put-entries .last .0)
 inside c = omega (arith, simp length-set at (c .before .before .put-entries .kept .0))
 
 slice-write-plan-4 : tie.Need-slice-write-plan-4

@@ -1,4 +1,4 @@
--- `analysis::plan::put_entries` meets its contract: each turn stores one word more. Assumes nothing.
+-- `analysis::plan::put_entries` meets its contract: each turn stores one word more.
 use borrow.Author.Needs.{needs}
 use native.Mathlib.Omega.{arith}
 use Prim.Native.Nat.{_-_}

@@ -1,4 +1,4 @@
--- `analysis::rows::add_entry` meets its contract: the flags say whether the second buffer is marked too. Assumes nothing.
+-- `analysis::rows::add_entry` meets its contract: the flags say whether the second buffer is marked too.
 use borrow.Author.Needs.{needs}
 use borrow.Author.Tests.{le-leb, lt-leb}
 use Rattle.analysis.proofs.rows.add_entry.Statement.{statement}
@@ -17,7 +17,9 @@ same-length-2 : tie.Need-same-length-2
 same-length-2 c = search needs
 
 returns : tie.Need-returns
-returns c = (c .before .before .before .before .before .before .before .mark .ensures, simp (le-leb _ _ (c .before .before .before .before .if1 .taken)) (c .before .before .mark2 .ensures))
+returns c =
+    let c7 = c .before .before .before .before .before .before .before in
+    (c7 .mark .ensures, simp (le-leb _ _ (c .before .before .before .before .if1 .taken)) (c .before .before .mark2 .ensures))
 
 same-length-3 : tie.Need-same-length-3
 same-length-3 c = search needs

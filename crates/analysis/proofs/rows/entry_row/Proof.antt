@@ -1,4 +1,4 @@
--- `analysis::rows::entry_row` meets its contract: the flags say which buffer the row is taken from. Assumes nothing.
+-- `analysis::rows::entry_row` meets its contract: the flags say which buffer the row is taken from.
 use borrow.Author.Needs.{needs}
 use borrow.Author.Tests.{le-leb, lt-leb}
 use Rattle.analysis.proofs.rows.entry_row.Statement.{statement}

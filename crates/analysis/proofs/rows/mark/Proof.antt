@@ -1,4 +1,4 @@
--- `analysis::rows::mark` meets its contract: the cell's row is stored back with the call set in it. Assumes nothing.
+-- `analysis::rows::mark` meets its contract: the cell's row is stored back with the call set in it.
 use borrow.Author.Needs.{needs}
 use Rattle.analysis.proofs.RowLoops.{mark-by-row}
 use Rattle.analysis.proofs.rows.mark.Statement.{statement}
@@ -18,8 +18,9 @@ same-length c = search needs
 
 returns : tie.Need-returns
 returns c =
-    let a = c .before .before .before .before .before .before .before .before .args in
-    mark-by-row (a .masks .now) (a .cell) (a .j) (c .before .before .before .before .before .row-at .ensures) (c .before .before .before .row-set .ensures) (c .before .before .put-row .ensures)
+    let c8 = c .before .before .before .before .before .before .before .before in
+    let a = c8 .args in
+    mark-by-row (a .masks .now) (a .cell) (a .call) (c .before .before .before .before .before .row-at .ensures) (c .before .before .before .row-set .ensures) (c .before .before .put-row .ensures)
 
 pub mark-spec : {M : Type 1} → statement M
 mark-spec = tie.close (tie.spec row-at-requires row-set-requires put-row-requires same-length returns)

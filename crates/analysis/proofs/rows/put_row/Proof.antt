@@ -1,4 +1,4 @@
--- `analysis::rows::put_row` meets its contract: the four words are stored from the cell's first on. Assumes nothing.
+-- `analysis::rows::put_row` meets its contract: the four words are stored from the cell's first on.
 use borrow.Author.Needs.{needs}
 use native.Mathlib.Omega.{arith}
 use Prim.Native.Nat.{_*_}

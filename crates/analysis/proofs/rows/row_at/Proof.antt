@@ -1,4 +1,4 @@
--- `analysis::rows::row_at` meets its contract: the four words from the cell's first on are its row. Assumes nothing.
+-- `analysis::rows::row_at` meets its contract: the four words from the cell's first on are its row.
 use borrow.Author.Needs.{needs}
 use Rattle.analysis.proofs.RowLoops.{row-by-words}
 use Rattle.analysis.proofs.rows.row_at.Statement.{statement}

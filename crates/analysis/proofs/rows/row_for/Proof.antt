@@ -1,4 +1,4 @@
--- `analysis::rows::row_for` meets its contract: the row so far, joined with those of the entries that are left, stays the whole row. Assumes nothing.
+-- `analysis::rows::row_for` meets its contract: the row so far, joined with those of the entries that are left, stays the whole row.
 use borrow.Author.Needs.{needs}
 use native.Mathlib.Omega.{arith}
 use Prim.Native.Nat.{_≤_, _-_}
@@ -45,7 +45,8 @@ loop-less c = omega arith
 
 loop-again : tie.Need-loop-again Inv-loop μ-loop
 loop-again c =
-    let s = c .before .before .before .before .before .before in
+    let c6 = c .before .before .before .before .before .before in
+    let s = c6 in
     let turn = c .before .before in (
       omega arith,
       turn .before .loop .inv .1

@@ -1,8 +1,7 @@
 -- `table::key_below` meets its contract: two keys compare as their high words do, and where those are equal as their low words.
--- Assumes nothing.
 use mathlib.Core.Path.{sym}
 use borrow.Author.Needs.{needs}
-use Rattle.analysis.proofs.KeyLaws.{below-high, above-high, same-high}
+use Rattle.analysis.proofs.KeyWordLaws.{below-high, above-high, same-high}
 use Rattle.analysis.proofs.table.key_below.Statement.{statement}
 use Rattle.analysis.proofs.table.key_below.Tie as tie
 

@@ -1,13 +1,13 @@
 -- `table::key_insert` meets its contract: a key that stands at its place is in the table; any other goes to its place, behind which the
--- later keys move up. Assumes nothing.
+-- later keys move up.
 use mathlib.Core.Path.{sym, _∙_}
 use Prim.Native.Nat.{_+_, _*_, _≤_, _<_}
 use native.Mathlib.Omega.{arith}
 use borrow.Author.Needs.{needs}
 use lib.ListN.{length, length-set}
 use Rattle.block.specs.Limits.{maxKeys}
-use Rattle.analysis.specs.TableWords.{tabled-sorted}
-use Rattle.analysis.proofs.KeyLaws.{at-le, answer-present, answer-full, answer-new}
+use Rattle.analysis.proofs.TableWords.{tabled-sorted}
+use Rattle.analysis.proofs.KeyWordLaws.{at-le, answer-present, answer-full, answer-new}
 use Rattle.analysis.proofs.table.key_insert.Statement.{statement}
 use Rattle.analysis.proofs.table.key_insert.Tie as tie
 
@@ -22,7 +22,8 @@ same-length c = search needs
 
 returns : tie.Need-returns
 returns c =
-    answer-present _ _ _ _ _ (c .before .before .before .before .before .before .pre .0) (c .before .before .before .before .before .before .pre .1) (c .before .before .before .key-place .ensures)
+    let c6 = c .before .before .before .before .before .before in
+    answer-present _ _ _ _ _ (c6 .pre .0) (c6 .pre .1) (c .before .before .before .key-place .ensures)
     (sym (c .before .key-stands .ensures) ∙ c .if1 .taken)
 
 add-result : tie.Need-add-result
@@ -33,21 +34,29 @@ same-length-2 c = search needs
 
 returns-2 : tie.Need-returns-2
 returns-2 c =
-    answer-full _ _ _ _ _ (c .before .before .before .before .before .before .before .pre .0) (c .before .before .before .before .before .before .before .pre .1) (c .before .before .before .before .key-place .ensures)
+    let c7 = c .before .before .before .before .before .before .before in
+    answer-full _ _ _ _ _ (c7 .pre .0) (c7 .pre .1) (c .before .before .before .before .key-place .ensures)
     (sym (c .before .before .key-stands .ensures) ∙ c .before .if1 .left) (c .if2 .taken)
 
 mul-move-up : tie.Need-mul-move-up
-mul-move-up c = omega (arith, at-le _ _ _ _ _ (c .before .before .before .before .before .before .before .before .pre .0) (c .before .before .before .before .before .before .before .before .pre .1) (c .before .before .before .before .before .key-place .ensures), c .before .before .before .before .before .before .before .before .pre .0 .few)
+mul-move-up c =
+    let c8 = c .before .before .before .before .before .before .before .before in
+    omega (arith, at-le _ _ _ _ _ (c8 .pre .0) (c8 .pre .1) (c .before .before .before .before .before .key-place .ensures), c8 .pre .0 .few)
 
 mul-move-up-2 : tie.Need-mul-move-up-2
 mul-move-up-2 c = search needs
 
 move-up-requires : tie.Need-move-up-requires
-move-up-requires c κs = omega (arith, at-le _ _ _ _ _ (c .before .before .before .before .before .before .before .before .pre .0) (c .before .before .before .before .before .before .before .before .pre .1) (c .before .before .before .before .before .key-place .ensures), c .before .before .before .before .before .before .before .before .pre .0 .few, c .before .before .before .before .before .before .before .before .pre .0 .room)
+move-up-requires c κs =
+    let c8 = c .before .before .before .before .before .before .before .before in
+    omega (arith, at-le _ _ _ _ _ (c8 .pre .0) (c8 .pre .1) (c .before .before .before .before .before .key-place .ensures), c8 .pre .0 .few, c8 .pre .0 .room)
 
 -- The two words are stored inside the buffer.
 inside : (c : tie.After-slice-known2) → (2 * c .before .before .before .before .before .before .before .before .key-place .result + 1 < length (c .before .before .move-up .last .0)) × (c .before .before .before .before .before .before .before .before .key-place .result ≤ maxKeys)
-inside c = omega (arith, at-le _ _ _ _ _ (c .before .before .before .before .before .before .before .before .before .before .before .pre .0) (c .before .before .before .before .before .before .before .before .before .before .before .pre .1) (c .before .before .before .before .before .before .before .before .key-place .ensures), c .before .before .before .before .before .before .before .before .before .before .before .pre .0 .few, c .before .before .before .before .before .before .before .before .before .before .before .pre .0 .room, c .before .before .before .before .if2 .left, c .before .before .move-up .kept .0)
+inside c =
+    let c8 = c .before .before .before .before .before .before .before .before in
+    let c11 = c8 .before .before .before in
+    omega (arith, at-le _ _ _ _ _ (c11 .pre .0) (c11 .pre .1) (c8 .key-place .ensures), c11 .pre .0 .few, c11 .pre .0 .room, c .before .before .before .before .if2 .left, c .before .before .move-up .kept .0)
 
 mul-keys : tie.Need-mul-keys
 mul-keys c = omega (arith, inside c)
@@ -78,8 +87,11 @@ same-length-3 c = search needs
 
 returns-3 : tie.Need-returns-3
 returns-3 c =
-    answer-new _ _ _ _ _ (c .before .before .before .before .before .before .before .before .before .before .before .pre .0) (c .before .before .before .before .before .before .before .before .before .before .before .pre .1) (c .before .before .before .before .before .before .before .before .key-place .ensures)
-    (sym (c .before .before .before .before .before .before .key-stands .ensures) ∙ c .before .before .before .before .before .if1 .left) (c .before .before .before .before .if2 .left) _ (c .before .before .move-up .ensures)
+    let c6 = c .before .before .before .before .before .before in
+    let c8 = c6 .before .before in
+    let c11 = c8 .before .before .before in
+    answer-new _ _ _ _ _ (c11 .pre .0) (c11 .pre .1) (c8 .key-place .ensures)
+    (sym (c6 .key-stands .ensures) ∙ c .before .before .before .before .before .if1 .left) (c .before .before .before .before .if2 .left) _ (c .before .before .move-up .ensures)
 
 pub key-insert-spec : {M : Type 1} → statement M
 key-insert-spec =

@@ -1,9 +1,9 @@
 -- `table::key_place` meets its contract: the place lies between `from` and `from + size`, each turn halves the stretch by the key in its
--- middle, and a stretch of none is the place. Assumes nothing.
+-- middle, and a stretch of none is the place.
 use mathlib.Core.Path.{sym, _∙_}
 use native.Mathlib.Omega.{arith}
 use Rattle.analysis.specs.KeyTable.{keyFrom}
-use Rattle.analysis.proofs.KeyLaws.{Between, between-all, between-upper, between-lower, mid-inside, mid-low}
+use Rattle.analysis.proofs.KeyWordLaws.{Between, between-all, between-upper, between-lower, mid-inside, mid-low}
 use Rattle.analysis.proofs.table.key_place.Statement.{statement}
 use Rattle.analysis.proofs.table.key_place.Tie as tie
 

@@ -1,7 +1,7 @@
--- `table::key_stands` meets its contract: past the table no key stands, and two keys are equal if both their words are. Assumes nothing.
+-- `table::key_stands` meets its contract: past the table no key stands, and two keys are equal if both their words are.
 use mathlib.Core.Path.{sym}
 use borrow.Author.Needs.{needs}
-use Rattle.analysis.proofs.KeyLaws.{stands-past, stands-other, stands-equal}
+use Rattle.analysis.proofs.KeyWordLaws.{stands-past, stands-other, stands-equal}
 use Rattle.analysis.proofs.table.key_stands.Statement.{statement}
 use Rattle.analysis.proofs.table.key_stands.Tie as tie
 

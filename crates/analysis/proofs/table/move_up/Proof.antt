@@ -1,6 +1,6 @@
--- `table::move_up` meets its contract: the words from `from + left` on are moved, one more each turn. Assumes nothing.
+-- `table::move_up` meets its contract: the words from `from + left` on are moved, one more each turn.
 use native.Mathlib.Omega.{arith}
-use Rattle.analysis.proofs.KeyLaws.{Moving, moving-none, moving-more, moving-all}
+use Rattle.analysis.proofs.KeyWordLaws.{Moving, moving-none, moving-more, moving-all}
 use Rattle.analysis.proofs.table.move_up.Statement.{statement}
 use Rattle.analysis.proofs.table.move_up.Tie as tie
 

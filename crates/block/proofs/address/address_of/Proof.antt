@@ -1,4 +1,4 @@
--- `block::address::address_of` meets its contract: the test is the definition's. Assumes nothing.
+-- `block::address::address_of` meets its contract: the test is the definition's.
 use borrow.Author.Tests.{le-ltb, lt-ltb}
 use Rattle.block.specs.Key.{addressOf}
 use Rattle.block.proofs.address.address_of.Statement.{statement}

@@ -1,4 +1,4 @@
--- `block::instruction::allowed` meets its contract: it goes by the rule as the definition does. Assumes nothing.
+-- `block::instruction::allowed` meets its contract: it goes by the rule as the definition does.
 use borrow.Author.Needs.{needs}
 use Rattle.block.proofs.instruction.allowed.Statement.{statement}
 use Rattle.block.proofs.instruction.allowed.Tie as tie

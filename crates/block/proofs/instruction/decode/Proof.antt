@@ -1,4 +1,4 @@
--- `block::instruction::decode` meets its contract: it reads the parts and decodes them; a number of one byte is that byte. Assumes nothing.
+-- `block::instruction::decode` meets its contract: it reads the parts and decodes them; a number of one byte is that byte.
 use borrow.Author.Needs.{needs}
 use mathlib.Core.Path.{_∙_}
 use Rattle.block.proofs.Laws.{decode-parts}
@@ -40,9 +40,11 @@ decode-parts-requires c κs = search needs
 
 returns : tie.Need-returns
 returns c =
-    rw (← c .before .before .before .before .before .before .from .ensures)
+    let c6 = c .before .before .before .before .before .before in
+    let c8 = c6 .before .before in
+    rw (← c6 .from .ensures)
     (c .decode-parts .ensures
-    ∙ decode-parts (c .before .before .before .before .before .before .before .before .args .index) (c .before .before .before .before .before .before .before .before .args .size) (c .before .before .before .before .before .before .from .result .now)
+    ∙ decode-parts (c8 .args .index) (c8 .args .size) (c6 .from .result .now)
     (c .before .before .before .before .before .byte .ensures) (c .before .before .before .before .byte2 .ensures) (c .before .before .before .byte3 .ensures) (c .before .before .byte4 .ensures) (c .before .long .ensures))
 
 pub decode-spec : {M : Type 1} → statement M

@@ -1,4 +1,4 @@
--- `block::instruction::decode_end` meets its contract: the rule and the instruction are the definition's. Assumes nothing.
+-- `block::instruction::decode_end` meets its contract: the rule and the instruction are the definition's.
 use borrow.Author.Needs.{needs}
 use borrow.Author.Tests.{eq-eqb, ne-eqb}
 use Rattle.block.specs.Instruction.{decodeEnd}

@@ -1,4 +1,4 @@
--- `block::instruction::decode_fact` meets its contract: the rule and the instruction are the definition's. Assumes nothing.
+-- `block::instruction::decode_fact` meets its contract: the rule and the instruction are the definition's.
 use borrow.Author.Needs.{needs}
 use Rattle.block.specs.Instruction.{decodeFact}
 use Rattle.block.proofs.instruction.decode_fact.Statement.{statement}

@@ -1,4 +1,4 @@
--- `block::instruction::decode_parts` meets its contract: its tests of op are the definition's, in the same order. Assumes nothing.
+-- `block::instruction::decode_parts` meets its contract: its tests of op are the definition's, in the same order.
 use borrow.Author.Needs.{needs}
 use borrow.Author.Tests.{eq-eqb, le-ltb, lt-ltb, ne-eqb}
 use Rattle.block.specs.Instruction.{decodeParts}
@@ -52,32 +52,50 @@ decode-cell-requires c κs = search needs
 
 returns-7 : tie.Need-returns-7
 unfolding decodeParts
-returns-7 c = simp (lt-ltb _ _ (c .before .if7 .taken), le-ltb _ _ (c .before .before .if6 .left), le-ltb _ _ (c .before .before .before .if4 .left), ne-eqb _ _ (c .before .before .before .before .if3 .left), ne-eqb _ _ (c .before .before .before .before .before .if2 .left), le-ltb _ _ (c .before .before .before .before .before .before .if1 .left)) (c .decode-cell .ensures)
+returns-7 c =
+    let c6 = c .before .before .before .before .before .before in
+    simp (lt-ltb _ _ (c .before .if7 .taken), le-ltb _ _ (c .before .before .if6 .left), le-ltb _ _ (c .before .before .before .if4 .left), ne-eqb _ _ (c .before .before .before .before .if3 .left), ne-eqb _ _ (c .before .before .before .before .before .if2 .left), le-ltb _ _ (c6 .if1 .left)) (c .decode-cell .ensures)
 
 decode-fact-requires-3 : tie.Need-decode-fact-requires-3
 decode-fact-requires-3 c κs = search needs
 
 returns-8 : tie.Need-returns-8
 unfolding decodeParts
-returns-8 c = simp (eq-eqb _ _ (c .before .if8 .taken), le-ltb _ _ (c .before .before .if7 .left), le-ltb _ _ (c .before .before .before .if6 .left), le-ltb _ _ (c .before .before .before .before .if4 .left), ne-eqb _ _ (c .before .before .before .before .before .if3 .left), ne-eqb _ _ (c .before .before .before .before .before .before .if2 .left), le-ltb _ _ (c .before .before .before .before .before .before .before .if1 .left)) (c .decode-fact3 .ensures)
+returns-8 c =
+    let c6 = c .before .before .before .before .before .before in
+    let c7 = c6 .before in
+    simp (eq-eqb _ _ (c .before .if8 .taken), le-ltb _ _ (c .before .before .if7 .left), le-ltb _ _ (c .before .before .before .if6 .left), le-ltb _ _ (c .before .before .before .before .if4 .left), ne-eqb _ _ (c .before .before .before .before .before .if3 .left), ne-eqb _ _ (c6 .if2 .left), le-ltb _ _ (c7 .if1 .left)) (c .decode-fact3 .ensures)
 
 decode-pay-requires : tie.Need-decode-pay-requires
 decode-pay-requires c κs = search needs
 
 returns-9 : tie.Need-returns-9
 unfolding decodeParts
-returns-9 c = simp (eq-eqb _ _ (c .before .if9 .taken), ne-eqb _ _ (c .before .before .if8 .left), le-ltb _ _ (c .before .before .before .if7 .left), le-ltb _ _ (c .before .before .before .before .if6 .left), le-ltb _ _ (c .before .before .before .before .before .if4 .left), ne-eqb _ _ (c .before .before .before .before .before .before .if3 .left), ne-eqb _ _ (c .before .before .before .before .before .before .before .if2 .left), le-ltb _ _ (c .before .before .before .before .before .before .before .before .if1 .left)) (c .decode-pay .ensures)
+returns-9 c =
+    let c6 = c .before .before .before .before .before .before in
+    let c7 = c6 .before in
+    let c8 = c7 .before in
+    simp (eq-eqb _ _ (c .before .if9 .taken), ne-eqb _ _ (c .before .before .if8 .left), le-ltb _ _ (c .before .before .before .if7 .left), le-ltb _ _ (c .before .before .before .before .if6 .left), le-ltb _ _ (c .before .before .before .before .before .if4 .left), ne-eqb _ _ (c6 .if3 .left), ne-eqb _ _ (c7 .if2 .left), le-ltb _ _ (c8 .if1 .left)) (c .decode-pay .ensures)
 
 decode-jump-requires : tie.Need-decode-jump-requires
 decode-jump-requires c κs = search needs
 
 returns-10 : tie.Need-returns-10
 unfolding decodeParts
-returns-10 c = simp (lt-ltb _ _ (c .before .if10 .taken), ne-eqb _ _ (c .before .before .if9 .left), ne-eqb _ _ (c .before .before .before .if8 .left), le-ltb _ _ (c .before .before .before .before .if7 .left), le-ltb _ _ (c .before .before .before .before .before .if6 .left), le-ltb _ _ (c .before .before .before .before .before .before .if4 .left), ne-eqb _ _ (c .before .before .before .before .before .before .before .if3 .left), ne-eqb _ _ (c .before .before .before .before .before .before .before .before .if2 .left), le-ltb _ _ (c .before .before .before .before .before .before .before .before .before .if1 .left)) (c .decode-jump .ensures)
+returns-10 c =
+    let c6 = c .before .before .before .before .before .before in
+    let c7 = c6 .before in
+    let c8 = c7 .before in
+    let c9 = c8 .before in
+    simp (lt-ltb _ _ (c .before .if10 .taken), ne-eqb _ _ (c .before .before .if9 .left), ne-eqb _ _ (c .before .before .before .if8 .left), le-ltb _ _ (c .before .before .before .before .if7 .left), le-ltb _ _ (c .before .before .before .before .before .if6 .left), le-ltb _ _ (c6 .if4 .left), ne-eqb _ _ (c7 .if3 .left), ne-eqb _ _ (c8 .if2 .left), le-ltb _ _ (c9 .if1 .left)) (c .decode-jump .ensures)
 
 returns-11 : tie.Need-returns-11
 unfolding decodeParts
-returns-11 c = simp (le-ltb _ _ (c .if10 .left), ne-eqb _ _ (c .before .if9 .left), ne-eqb _ _ (c .before .before .if8 .left), le-ltb _ _ (c .before .before .before .if7 .left), le-ltb _ _ (c .before .before .before .before .if6 .left), le-ltb _ _ (c .before .before .before .before .before .if4 .left), ne-eqb _ _ (c .before .before .before .before .before .before .if3 .left), ne-eqb _ _ (c .before .before .before .before .before .before .before .if2 .left), le-ltb _ _ (c .before .before .before .before .before .before .before .before .if1 .left))
+returns-11 c =
+    let c6 = c .before .before .before .before .before .before in
+    let c7 = c6 .before in
+    let c8 = c7 .before in
+    simp (le-ltb _ _ (c .if10 .left), ne-eqb _ _ (c .before .if9 .left), ne-eqb _ _ (c .before .before .if8 .left), le-ltb _ _ (c .before .before .before .if7 .left), le-ltb _ _ (c .before .before .before .before .if6 .left), le-ltb _ _ (c .before .before .before .before .before .if4 .left), ne-eqb _ _ (c6 .if3 .left), ne-eqb _ _ (c7 .if2 .left), le-ltb _ _ (c8 .if1 .left))
 
 pub decode-parts-spec : {M : Type 1} → statement M
 decode-parts-spec =

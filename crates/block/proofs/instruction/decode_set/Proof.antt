@@ -1,7 +1,7 @@
--- `block::instruction::decode_set` meets its contract: the rule and the instruction are the definition's. Assumes nothing.
+-- `block::instruction::decode_set` meets its contract: the rule and the instruction are the definition's.
 use borrow.Author.Needs.{needs}
 use mathlib.Core.Path.{_∙_}
-use Rattle.arith.proofs.Laws.{back}
+use Rattle.arith.proofs.Laws.{read-back}
 use Rattle.block.specs.Instruction.{decodeSet}
 use Rattle.block.proofs.instruction.decode_set.Statement.{statement}
 use Rattle.block.proofs.instruction.decode_set.Tie as tie
@@ -14,7 +14,7 @@ allowed-requires c κs = search needs
 
 returns : tie.Need-returns
 unfolding decodeSet
-returns c = simp (← c .before .signed32 .ensures) (c .allowed .ensures ∙ simp (back {z = c .before .signed32 .result} (record { sfits = c .before .signed32 .ok })))
+returns c = simp (← c .before .signed32 .ensures) (c .allowed .ensures ∙ simp (read-back {z = c .before .signed32 .result} (record { sfits = c .before .signed32 .ok })))
 
 pub decode-set-spec : {M : Type 1} → statement M
 decode-set-spec = tie.close (tie.spec signed32-requires allowed-requires returns)

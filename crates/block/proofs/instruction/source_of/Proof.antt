@@ -1,4 +1,4 @@
--- `block::instruction::source_of` meets its contract: its tests are the definition's. Assumes nothing.
+-- `block::instruction::source_of` meets its contract: its tests are the definition's.
 use borrow.Author.Needs.{needs}
 use borrow.Author.Tests.{eq-eqb, ne-eqb}
 use Rattle.block.specs.Instruction.{sourceOf}

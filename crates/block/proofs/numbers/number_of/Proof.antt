@@ -1,10 +1,8 @@
--- `block::numbers::number_of` meets its contract: each arm is a clause of the definition. Assumes nothing.
+-- `block::numbers::number_of` meets its contract: each arm is a clause of the definition.
 use Rattle.block.specs.Refusal.{numberOf}
 use borrow.Author.Needs.{needs}
 use Rattle.block.proofs.numbers.number_of.Statement.{statement}
 use Rattle.block.proofs.numbers.number_of.Tie as tie
-use Rattle.block.proofs.numbers.number_of.Reads as reads
-use Rattle.block.proofs.numbers.number_of.Lts as lts
 
 enum-told : tie.Need-enum-told
 enum-told c = search needs

@@ -1,10 +1,8 @@
--- `block::numbers::offset_of` meets its contract: each arm is a clause of the definition. Assumes nothing.
+-- `block::numbers::offset_of` meets its contract: each arm is a clause of the definition.
 use Rattle.block.specs.Refusal.{offsetOf}
 use borrow.Author.Needs.{needs}
 use Rattle.block.proofs.numbers.offset_of.Statement.{statement}
 use Rattle.block.proofs.numbers.offset_of.Tie as tie
-use Rattle.block.proofs.numbers.offset_of.Reads as reads
-use Rattle.block.proofs.numbers.offset_of.Lts as lts
 
 enum-told : tie.Need-enum-told
 enum-told c = search needs

@@ -1,4 +1,4 @@
--- `block::part::from` meets its contract: a part that runs to the end is all that stands there, and past the end that is nothing. Assumes nothing.
+-- `block::part::from` meets its contract: a part that runs to the end is all that stands there, and past the end that is nothing.
 use borrow.Author.Needs.{needs}
 use Rattle.block.proofs.Laws.{to-the-end, past-the-end}
 use Rattle.block.proofs.part.from.Statement.{statement}

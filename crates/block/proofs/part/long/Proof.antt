@@ -1,6 +1,6 @@
--- `block::part::long` meets its contract: a number of 4 bytes is below 256 ^ 4. Assumes nothing.
+-- `block::part::long` meets its contract: a number of 4 bytes is below 256 ^ 4.
 use borrow.Author.Needs.{needs}
-use Rattle.wire.specs.Laws.{read-lt}
+use Rattle.wire.proofs.BytesLaws.{read-lt}
 use Rattle.block.proofs.part.long.Statement.{statement}
 use Rattle.block.proofs.part.long.Tie as tie
 

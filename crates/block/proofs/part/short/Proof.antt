@@ -1,6 +1,6 @@
--- `block::part::short` meets its contract: a number of 2 bytes is below 256 ^ 2. Assumes nothing.
+-- `block::part::short` meets its contract: a number of 2 bytes is below 256 ^ 2.
 use borrow.Author.Needs.{needs}
-use Rattle.wire.specs.Laws.{read-lt}
+use Rattle.wire.proofs.BytesLaws.{read-lt}
 use Rattle.block.proofs.part.short.Statement.{statement}
 use Rattle.block.proofs.part.short.Tie as tie
 

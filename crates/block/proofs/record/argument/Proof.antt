@@ -1,4 +1,4 @@
--- `block::record::argument` meets its contract: its tests are the definition's. Assumes nothing.
+-- `block::record::argument` meets its contract: its tests are the definition's.
 use borrow.Author.Needs.{needs}
 use borrow.Author.Tests.{eq-eqb, ne-eqb}
 use Rattle.block.specs.Record.{argument}

@@ -1,9 +1,9 @@
--- `block::record::call_at` meets its contract: the addresses and the value that it reads are those that the definition tests. Assumes nothing.
+-- `block::record::call_at` meets its contract: the addresses and the value that it reads are those that the definition tests.
 use borrow.Author.Needs.{needs}
 use mathlib.Core.Path.{sym, ap, _∙_}
 use lib.Signed.{nonNeg}
-use Rattle.arith.proofs.Laws.{back}
-use Rattle.block.proofs.Laws.{named, negative, not-negative, call-sender, call-contract, call-negative, call-good}
+use Rattle.arith.proofs.Laws.{read-back}
+use Rattle.block.proofs.Laws.{address-read, negative, not-negative, call-sender, call-contract, call-negative, call-good}
 use Rattle.block.proofs.record.call_at.Statement.{statement}
 use Rattle.block.proofs.record.call_at.Tie as tie
 
@@ -28,7 +28,7 @@ enum-told c = search needs
 returns : tie.Need-returns
 returns c =
     rw (← c .before .before .before .before .before .from .ensures)
-    (call-sender _ _ (named (c .before .before .address-of .ensures) (c .before .before .before .short .ensures) (c .enum-told .given .1)))
+    (call-sender _ _ (address-read (c .before .before .address-of .ensures) (c .before .before .before .short .ensures) (c .enum-told .given .1)))
 
 short-requires-2 : tie.Need-short-requires-2
 short-requires-2 c κs = search needs
@@ -44,13 +44,21 @@ enum-told-2 c = search needs
 
 returns-2 : tie.Need-returns-2
 returns-2 c =
-    rw (← c .before .before .before .before .before .before .before .before .before .before .from .ensures)
-    (call-contract _ _ (named (c .before .before .before .before .before .before .before .address-of .ensures) (c .before .before .before .before .before .before .before .before .short .ensures) (c .before .before .before .before .before .sender .given .1)) _ (named (c .before .before .address-of2 .ensures) (c .before .before .before .short2 .ensures) (c .enum-told2 .given .1)))
+    let c7 = c .before .before .before .before .before .before .before in
+    let c8 = c7 .before in
+    let c10 = c8 .before .before in
+    rw (← c10 .from .ensures)
+    (call-contract _ _ (address-read (c7 .address-of .ensures) (c8 .short .ensures) (c .before .before .before .before .before .sender .given .1)) _ (address-read (c .before .before .address-of2 .ensures) (c .before .before .before .short2 .ensures) (c .enum-told2 .given .1)))
 
 returns-3 : tie.Need-returns-3
 returns-3 c =
-    rw (← c .before .before .before .before .before .before .before .before .before .before .before .before .from .ensures)
-    (call-negative _ _ (named (c .before .before .before .before .before .before .before .before .before .address-of .ensures) (c .before .before .before .before .before .before .before .before .before .before .short .ensures) (c .before .before .before .before .before .before .before .sender .given .1)) _ (named (c .before .before .before .before .address-of2 .ensures) (c .before .before .before .before .before .short2 .ensures) (c .before .before .contract .given .1)) (sym (ap nonNeg (c .before .before .before .before .before .before .before .before .before .before .before .get-i64 .ensures)) ∙ negative (c .before .before .before .before .before .before .before .before .before .before .before .get-i64 .result) (simp (back {z = c .before .before .before .before .before .before .before .before .before .before .before .get-i64 .result} (record { sfits = c .before .before .before .before .before .before .before .before .before .before .before .get-i64 .ok })) at (c .if1 .taken))))
+    let c7 = c .before .before .before .before .before .before .before in
+    let c9 = c7 .before .before in
+    let c10 = c9 .before in
+    let c11 = c10 .before in
+    let c12 = c11 .before in
+    rw (← c12 .from .ensures)
+    (call-negative _ _ (address-read (c9 .address-of .ensures) (c10 .short .ensures) (c7 .sender .given .1)) _ (address-read (c .before .before .before .before .address-of2 .ensures) (c .before .before .before .before .before .short2 .ensures) (c .before .before .contract .given .1)) (sym (ap nonNeg (c11 .get-i64 .ensures)) ∙ negative (c11 .get-i64 .result) (simp (read-back {z = c11 .get-i64 .result} (record { sfits = c11 .get-i64 .ok })) at (c .if1 .taken))))
 
 short-requires-3 : tie.Need-short-requires-3
 short-requires-3 c κs = search needs
@@ -69,9 +77,17 @@ long-requires-4 c κs = search needs
 
 returns-4 : tie.Need-returns-4
 returns-4 c =
-    rw (← c .before .before .before .before .before .before .before .before .before .before .before .before .before .before .before .before .before .from .ensures)
-    (simp (back {z = c .before .before .before .before .before .before .before .before .before .before .before .before .before .before .before .before .get-i64 .result} (record { sfits = c .before .before .before .before .before .before .before .before .before .before .before .before .before .before .before .before .get-i64 .ok }) ∙ c .before .before .before .before .before .before .before .before .before .before .before .before .before .before .before .before .get-i64 .ensures, c .before .before .before .before .short3 .ensures, c .before .before .before .long .ensures, c .before .before .long2 .ensures, c .before .long3 .ensures, c .long4 .ensures)
-    (call-good _ _ (named (c .before .before .before .before .before .before .before .before .before .before .before .before .before .before .address-of .ensures) (c .before .before .before .before .before .before .before .before .before .before .before .before .before .before .before .short .ensures) (c .before .before .before .before .before .before .before .before .before .before .before .before .sender .given .1)) _ (named (c .before .before .before .before .before .before .before .before .before .address-of2 .ensures) (c .before .before .before .before .before .before .before .before .before .before .short2 .ensures) (c .before .before .before .before .before .before .before .contract .given .1)) (sym (ap nonNeg (c .before .before .before .before .before .before .before .before .before .before .before .before .before .before .before .before .get-i64 .ensures)) ∙ not-negative (c .before .before .before .before .before .before .before .before .before .before .before .before .before .before .before .before .get-i64 .result) (simp (back {z = c .before .before .before .before .before .before .before .before .before .before .before .before .before .before .before .before .get-i64 .result} (record { sfits = c .before .before .before .before .before .before .before .before .before .before .before .before .before .before .before .before .get-i64 .ok })) at (c .before .before .before .before .before .if1 .left)))))
+    let c7 = c .before .before .before .before .before .before .before in
+    let c9 = c7 .before .before in
+    let c10 = c9 .before in
+    let c12 = c10 .before .before in
+    let c14 = c12 .before .before in
+    let c15 = c14 .before in
+    let c16 = c15 .before in
+    let c17 = c16 .before in
+    rw (← c17 .from .ensures)
+    (simp (read-back {z = c16 .get-i64 .result} (record { sfits = c16 .get-i64 .ok }) ∙ c16 .get-i64 .ensures, c .before .before .before .before .short3 .ensures, c .before .before .before .long .ensures, c .before .before .long2 .ensures, c .before .long3 .ensures, c .long4 .ensures)
+    (call-good _ _ (address-read (c14 .address-of .ensures) (c15 .short .ensures) (c12 .sender .given .1)) _ (address-read (c9 .address-of2 .ensures) (c10 .short2 .ensures) (c7 .contract .given .1)) (sym (ap nonNeg (c16 .get-i64 .ensures)) ∙ not-negative (c16 .get-i64 .result) (simp (read-back {z = c16 .get-i64 .result} (record { sfits = c16 .get-i64 .ok })) at (c .before .before .before .before .before .if1 .left)))))
 
 pub call-at-spec : {M : Type 1} → statement M
 call-at-spec =

@@ -1,4 +1,4 @@
--- `block::record::code_at` meets its contract: a stretch that the block cuts is all that is left of it. Assumes nothing.
+-- `block::record::code_at` meets its contract: a stretch that the block cuts is all that is left of it.
 use borrow.Author.Needs.{needs}
 use native.Mathlib.Omega.{arith}
 use Rattle.block.proofs.Laws.{cut, cut-length}

@@ -1,4 +1,4 @@
--- `block::record::key_allowed` meets its contract: each kind of address has the rule of the definition. Assumes nothing.
+-- `block::record::key_allowed` meets its contract: each kind of address has the rule of the definition.
 use borrow.Author.Needs.{needs}
 use Rattle.block.specs.Key.{keyAllowed}
 use Rattle.block.proofs.record.key_allowed.Statement.{statement}

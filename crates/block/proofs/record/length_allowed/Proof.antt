@@ -1,4 +1,4 @@
--- `block::record::length_allowed` meets its contract: its tests are the definition's. Assumes nothing.
+-- `block::record::length_allowed` meets its contract: its tests are the definition's.
 use borrow.Author.Tests.{eq-eqb, le-leb, lt-leb, ne-eqb}
 use Rattle.block.specs.Record.{lengthAllowed}
 use Rattle.block.proofs.record.length_allowed.Statement.{statement}

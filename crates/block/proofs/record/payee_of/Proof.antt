@@ -1,8 +1,8 @@
--- `block::record::payee_of` meets its contract: the address of the number tells whether it is an account. Assumes nothing.
+-- `block::record::payee_of` meets its contract: the address of the number tells whether it is an account.
 use borrow.Author.Needs.{needs}
 use mathlib.Core.Path.{refl}
 use native.Mathlib.Omega.{arith}
-use Rattle.block.proofs.Laws.{named, payee-account, payee-contract, payee-none}
+use Rattle.block.proofs.Laws.{address-read, payee-account, payee-contract, payee-none}
 use Rattle.block.proofs.record.payee_of.Statement.{statement}
 use Rattle.block.proofs.record.payee_of.Tie as tie
 
@@ -22,10 +22,10 @@ enum-told : tie.Need-enum-told
 enum-told c = search needs
 
 returns-2 : tie.Need-returns-2
-returns-2 c = payee-account _ _ (named (c .before .before .before .address-of .ensures) refl (c .before .account .given .1))
+returns-2 c = payee-account _ _ (address-read (c .before .before .before .address-of .ensures) refl (c .before .account .given .1))
 
 returns-3 : tie.Need-returns-3
-returns-3 c = payee-contract _ _ (named (c .before .before .address-of .ensures) refl (c .enum-told .given .1))
+returns-3 c = payee-contract _ _ (address-read (c .before .before .address-of .ensures) refl (c .enum-told .given .1))
 
 pub payee-of-spec : {M : Type 1} → statement M
 payee-of-spec =

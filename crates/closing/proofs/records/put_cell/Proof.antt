@@ -1,4 +1,4 @@
--- `closing::records::put_cell` meets its contract: a head, and behind it the key and the value. Assumes nothing.
+-- `closing::records::put_cell` meets its contract: a head, and behind it the key and the value.
 use borrow.Author.Needs.{needs}
 use native.Mathlib.Omega.{arith}
 use Prim.Native.Nat.{_+_}
@@ -6,11 +6,11 @@ use mathlib.Core.Path.{_≡_}
 use mathlib.Core.List.{_++_}
 use lib.ListN.{length, length-append}
 use Rattle.wire.specs.Bytes.{bytesOf}
-use Rattle.wire.specs.Laws.{bytesOf-length}
+use Rattle.wire.proofs.BytesLaws.{bytesOf-length}
 use Rattle.block.specs.Record.{cellKind}
 use Rattle.sheet.specs.Sheet.{keyBytes}
-use Rattle.closing.proofs.Storing.{behind, record-behind}
-use Rattle.closing.proofs.Sizes.{cell-body}
+use Rattle.closing.proofs.Storing.{stored-joined, record-behind}
+use Rattle.closing.proofs.SheetSizes.{cell-body}
 use Rattle.closing.proofs.records.put_cell.Statement.{statement}
 use Rattle.closing.proofs.records.put_cell.Tie as tie
 
@@ -33,11 +33,15 @@ same-length : tie.Need-same-length
 same-length c = search needs
 
 returns : tie.Need-returns
-returns c = let s = c .before .before .before .before .before .before .before .before .before .before .before .before .before in
+returns c =
+    let c6 = c .before .before .before .before .before .before in
+    let c10 = c6 .before .before .before .before in
+    let c13 = c10 .before .before .before in
+    let s = c13 in
     let key = keyBytes (s .args .high) (s .args .low) in
     let twelve : s .args .at + 16 ≡ s .args .at + 4 + length (keyBytes (s .args .high) (s .args .low)) = simp (length-append, bytesOf-length) (omega arith) in
-    let body = behind _ (s .args .at + 4) key (bytesOf 8 (s .args .bits)) twelve (c .before .before .before .before .before .before .put-key .ensures) (c .before .before .put64 .ensures) in
-    record-behind (s .args .output .now) (s .args .at) cellKind 20 (key ++ bytesOf 8 (s .args .bits)) (cell-body (s .args .high) (s .args .low) (s .args .bits)) (c .before .before .before .before .before .before .before .before .before .before .put-head .ensures) body
+    let body = stored-joined _ (s .args .at + 4) key (bytesOf 8 (s .args .bits)) twelve (c6 .put-key .ensures) (c .before .before .put64 .ensures) in
+    record-behind (s .args .output .now) (s .args .at) cellKind 20 (key ++ bytesOf 8 (s .args .bits)) (cell-body (s .args .high) (s .args .low) (s .args .bits)) (c10 .put-head .ensures) body
 
 pub put-cell-spec : {M : Type 1} → statement M
 put-cell-spec =

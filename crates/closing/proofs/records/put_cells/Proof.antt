@@ -1,4 +1,4 @@
--- `closing::records::put_cells` meets its contract: each turn stores one cell behind the others. Assumes nothing.
+-- `closing::records::put_cells` meets its contract: each turn stores one cell behind the others.
 use borrow.Author.Needs.{needs}
 use native.Mathlib.Omega.{arith}
 use mathlib.Core.Path.{_∙_, ap}
@@ -7,7 +7,7 @@ use lib.ListN.{length}
 use Rattle.wire.specs.Bytes.{stored}
 use Rattle.sheet.specs.Sheet.{cellRecords}
 use Rattle.closing.proofs.Storing.{Storing, storing-none, storing-more, storing-all}
-use Rattle.closing.proofs.Sizes.{cellPart, cells-none, cells-turn, cell-told, cell-within, bits-told}
+use Rattle.closing.proofs.SheetSizes.{cellPart, cells-none, cells-turn, cell-told, sheet-cell-within, bits-told}
 use Rattle.closing.proofs.records.put_cells.Statement.{statement}
 use Rattle.closing.proofs.records.put_cells.Tie as tie
 
@@ -42,22 +42,34 @@ word-requires-2 : tie.Need-word-requires-2 Inv-loop μ-loop
 word-requires-2 c κs = search needs
 
 put-nonzero-requires : tie.Need-put-nonzero-requires Inv-loop μ-loop
-put-nonzero-requires c κs = omega (arith, c .before .before .before .before .before .before .loop .inv .0, c .before .before .before .before .before .loop-test .taken)
+put-nonzero-requires c κs =
+    let c6 = c .before .before .before .before .before .before in
+    omega (arith, c6 .loop .inv .0, c .before .before .before .before .before .loop-test .taken)
 
 add-n : tie.Need-add-n Inv-loop μ-loop
-add-n c = omega (arith, c .before .before .before .before .before .before .before .before .loop-test .taken)
+add-n c =
+    let c8 = c .before .before .before .before .before .before .before .before in
+    omega (arith, c8 .loop-test .taken)
 
 loop-less : tie.Need-loop-less Inv-loop μ-loop
-loop-less c = omega (arith, c .before .before .before .before .before .before .before .before .loop-test .taken)
+loop-less c =
+    let c8 = c .before .before .before .before .before .before .before .before in
+    omega (arith, c8 .loop-test .taken)
 
 loop-again : tie.Need-loop-again Inv-loop μ-loop
-loop-again c = let s = c .before .before .before .before .before .before .before .before .before .before .before .before in
-    let turn = c .before .before .before .before .before .before .before .before .before .loop in
+loop-again c =
+    let c6 = c .before .before .before .before .before .before in
+    let c7 = c6 .before in
+    let c8 = c7 .before in
+    let c9 = c8 .before in
+    let c12 = c9 .before .before .before in
+    let s = c12 in
+    let turn = c9 .loop in
     let made = c .before .before .put-nonzero in
-    let bits = bits-told {v = c .before .before .before .before .before .before .before .value .result} (record { sfits = c .before .before .before .before .before .before .before .value .ok }) (c .before .before .before .before .before .before .unsigned64 .ensures) (c .before .before .before .before .before .before .before .value .ensures) in
+    let bits = bits-told {v = c7 .value .result} (record { sfits = c7 .value .ok }) (c6 .unsigned64 .ensures) (c7 .value .ensures) in
     let part = cell-told (s .args .keys .now) (s .args .cells .now) (turn .n) (c .before .before .before .before .before .word .ensures) (c .before .before .before .before .word2 .ensures) bits in (
-      omega (arith, turn .inv .0, made .ensures .1, cell-within (c .before .before .before .before .before .word .result) (c .before .before .before .before .word2 .result) (c .before .before .before .before .before .before .unsigned64 .result)),
-      storing-more (cellRecords (s .args .keys .now) (s .args .cells .now)) (cellPart (s .args .keys .now) (s .args .cells .now)) (cells-none (s .args .keys .now) (s .args .cells .now)) (cells-turn (s .args .keys .now) (s .args .cells .now)) (s .args .count) (s .args .output .now) 0 (turn .output) (turn .at) (turn .n) (turn .inv .1) (c .before .before .before .before .before .before .before .before .loop-test .taken)
+      omega (arith, turn .inv .0, made .ensures .1, sheet-cell-within (c .before .before .before .before .before .word .result) (c .before .before .before .before .word2 .result) (c6 .unsigned64 .result)),
+      storing-more (cellRecords (s .args .keys .now) (s .args .cells .now)) (cellPart (s .args .keys .now) (s .args .cells .now)) (cells-none (s .args .keys .now) (s .args .cells .now)) (cells-turn (s .args .keys .now) (s .args .cells .now)) (s .args .count) (s .args .output .now) 0 (turn .output) (turn .at) (turn .n) (turn .inv .1) (c8 .loop-test .taken)
           (made .ensures .0 ∙ ap (stored (turn .output) (turn .at)) part) (made .ensures .1 ∙ ap (λ l. turn .at + length l) part),
     )
 

@@ -1,9 +1,9 @@
--- `closing::records::put_head` meets its contract: the kind is stored behind the length. Assumes nothing.
+-- `closing::records::put_head` meets its contract: the kind is stored behind the length.
 use borrow.Author.Needs.{needs}
 use native.Mathlib.Omega.{arith}
 use Rattle.wire.specs.Bytes.{bytesOf}
-use Rattle.wire.specs.Laws.{bytesOf-length}
-use Rattle.closing.proofs.Storing.{behind}
+use Rattle.wire.proofs.BytesLaws.{bytesOf-length}
+use Rattle.closing.proofs.Storing.{stored-joined}
 use Rattle.closing.proofs.records.put_head.Statement.{statement}
 use Rattle.closing.proofs.records.put_head.Tie as tie
 
@@ -20,7 +20,10 @@ same-length : tie.Need-same-length
 same-length c = search needs
 
 returns : tie.Need-returns
-returns c = let s = c .before .before .before .before .before .before .before .before .before in behind (s .args .output .now) (s .args .at) (bytesOf 2 (s .args .size)) (bytesOf 2 (s .args .kind)) (omega (arith, bytesOf-length 2 (s .args .size))) (c .before .before .before .before .before .before .put16 .ensures) (c .before .before .put162 .ensures)
+returns c =
+    let c6 = c .before .before .before .before .before .before in
+    let c9 = c6 .before .before .before in
+    let s = c9 in stored-joined (s .args .output .now) (s .args .at) (bytesOf 2 (s .args .size)) (bytesOf 2 (s .args .kind)) (omega (arith, bytesOf-length 2 (s .args .size))) (c6 .put16 .ensures) (c .before .before .put162 .ensures)
 
 pub put-head-spec : {M : Type 1} → statement M
 put-head-spec =

@@ -1,4 +1,4 @@
--- `closing::records::put_key` meets its contract: its four parts are stored one behind the other. Assumes nothing.
+-- `closing::records::put_key` meets its contract: its four parts are stored one behind the other.
 use borrow.Author.Needs.{needs}
 use Rattle.closing.proofs.Storing.{key-behind}
 use Rattle.closing.proofs.records.put_key.Statement.{statement}
@@ -29,7 +29,12 @@ same-length : tie.Need-same-length
 same-length c = search needs
 
 returns : tie.Need-returns
-returns c = let s = c .before .before .before .before .before .before .before .before .before .before .before .before .before .before .before .before .before in key-behind (s .args .output .now) (s .args .at) (s .args .high) (s .args .low) (c .before .before .before .before .before .before .before .before .before .before .before .before .before .before .put16 .ensures) (c .before .before .before .before .before .before .before .before .before .before .put162 .ensures) (c .before .before .before .before .before .before .put32 .ensures) (c .before .before .put322 .ensures)
+returns c =
+    let c6 = c .before .before .before .before .before .before in
+    let c10 = c6 .before .before .before .before in
+    let c14 = c10 .before .before .before .before in
+    let c17 = c14 .before .before .before in
+    let s = c17 in key-behind (s .args .output .now) (s .args .at) (s .args .high) (s .args .low) (c14 .put16 .ensures) (c10 .put162 .ensures) (c6 .put32 .ensures) (c .before .before .put322 .ensures)
 
 pub put-key-spec : {M : Type 1} → statement M
 put-key-spec =

@@ -1,4 +1,4 @@
--- `closing::records::put_receipt` meets its contract: a head, and behind it the outcome and the count. Assumes nothing.
+-- `closing::records::put_receipt` meets its contract: a head, and behind it the outcome and the count.
 use borrow.Author.Needs.{needs}
 use native.Mathlib.Omega.{arith}
 use Prim.Native.Nat.{_+_}
@@ -6,10 +6,10 @@ use mathlib.Core.Path.{_≡_}
 use mathlib.Core.List.{_++_}
 use lib.ListN.{length}
 use Rattle.wire.specs.Bytes.{bytesOf}
-use Rattle.wire.specs.Laws.{bytesOf-length}
+use Rattle.wire.proofs.BytesLaws.{bytesOf-length}
 use Rattle.block.specs.Record.{receiptKind}
-use Rattle.closing.proofs.Storing.{behind, record-behind}
-use Rattle.closing.proofs.Sizes.{receipt-body}
+use Rattle.closing.proofs.Storing.{stored-joined, record-behind}
+use Rattle.closing.proofs.SheetSizes.{receipt-body}
 use Rattle.closing.proofs.records.put_receipt.Statement.{statement}
 use Rattle.closing.proofs.records.put_receipt.Tie as tie
 
@@ -32,12 +32,16 @@ same-length : tie.Need-same-length
 same-length c = search needs
 
 returns : tie.Need-returns
-returns c = let s = c .before .before .before .before .before .before .before .before .before .before .before .before .before in
+returns c =
+    let c6 = c .before .before .before .before .before .before in
+    let c10 = c6 .before .before .before .before in
+    let c13 = c10 .before .before .before in
+    let s = c13 in
     let outcome = bytesOf 2 (s .args .outcome) in
     let count = bytesOf 2 (s .args .count) in
     let two : s .args .at + 6 ≡ s .args .at + 4 + length (bytesOf 2 (s .args .outcome)) = omega (arith, bytesOf-length 2 (s .args .outcome)) in
-    let body = behind _ (s .args .at + 4) outcome count two (c .before .before .before .before .before .before .put16 .ensures) (c .before .before .put162 .ensures) in
-    record-behind (s .args .output .now) (s .args .at) receiptKind 4 (outcome ++ count) (receipt-body (s .args .outcome) (s .args .count)) (c .before .before .before .before .before .before .before .before .before .before .put-head .ensures) body
+    let body = stored-joined _ (s .args .at + 4) outcome count two (c6 .put16 .ensures) (c .before .before .put162 .ensures) in
+    record-behind (s .args .output .now) (s .args .at) receiptKind 4 (outcome ++ count) (receipt-body (s .args .outcome) (s .args .count)) (c10 .put-head .ensures) body
 
 pub put-receipt-spec : {M : Type 1} → statement M
 put-receipt-spec =

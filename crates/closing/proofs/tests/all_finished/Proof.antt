@@ -1,4 +1,4 @@
--- `closing::tests::all_finished` meets its contract: the states are compared from the last one down. Assumes nothing.
+-- `closing::tests::all_finished` meets its contract: the states are compared from the last one down.
 use native.Mathlib.Omega.{arith}
 use mathlib.Core.Path.{sym, ap, _∙_}
 use Prim.Native.Nat.{ℕ}

@@ -1,4 +1,4 @@
--- `closing::tests::states_allowed` meets its contract: the states are tested from the last one down. Assumes nothing.
+-- `closing::tests::states_allowed` meets its contract: the states are tested from the last one down.
 use native.Mathlib.Omega.{arith}
 use mathlib.Core.Path.{sym, ap, _∙_}
 use borrow.Author.Tests.{lt-leb, le-leb}

@@ -1,9 +1,9 @@
--- `closing::write::nonzero_cells` meets its contract: each turn counts one cell, if it is not zero. Assumes nothing.
+-- `closing::write::nonzero_cells` meets its contract: each turn counts one cell, if it is not zero.
 use borrow.Author.Needs.{needs}
 use native.Mathlib.Omega.{arith}
 use Prim.Native.Nat.{_-_}
 use mathlib.Core.Logic.{⊎-elim}
-use Rattle.closing.proofs.Sizes.{Counted, counted-none, counted-one, counted-zero, counted-all, bits-told}
+use Rattle.closing.proofs.SheetSizes.{Counted, counted-none, counted-one, counted-zero, counted-all, bits-told}
 use Rattle.closing.proofs.write.nonzero_cells.Statement.{statement}
 use Rattle.closing.proofs.write.nonzero_cells.Tie as tie
 

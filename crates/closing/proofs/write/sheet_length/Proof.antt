@@ -1,4 +1,4 @@
--- `closing::write::sheet_length` meets its contract: the sum of the lengths of the records. Assumes nothing.
+-- `closing::write::sheet_length` meets its contract: the sum of the lengths of the records.
 use borrow.Author.Needs.{needs}
 use native.Mathlib.Omega.{arith}
 use Rattle.closing.proofs.write.sheet_length.Statement.{statement}

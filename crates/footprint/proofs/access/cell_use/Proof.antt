@@ -1,4 +1,4 @@
--- `footprint::access::cell_use` meets its contract: the key has the parts that the sources give. Assumes nothing.
+-- `footprint::access::cell_use` meets its contract: the key has the parts that the sources give.
 use borrow.Author.Needs.{needs}
 use Rattle.footprint.proofs.access.cell_use.Statement.{statement}
 use Rattle.footprint.proofs.access.cell_use.Tie as tie

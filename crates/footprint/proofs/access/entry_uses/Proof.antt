@@ -1,4 +1,4 @@
--- `footprint::access::entry_uses` meets its contract: the test of the value is the definition's, and both balances are used as it says. Assumes nothing.
+-- `footprint::access::entry_uses` meets its contract: the test of the value is the definition's, and both balances are used as it says.
 use borrow.Author.Needs.{needs}
 use mathlib.Core.Path.{_∙_}
 use Rattle.footprint.specs.Access.{entryAccesses}
@@ -19,7 +19,9 @@ two-requires c κs = search needs
 returns : tie.Need-returns
 unfolding usesOf entryAccesses
 returns c =
-    simp (value-test (c .before .before .before .before .before .before .before .before .args .c .value) (c .before .before .before .before .before .before .struct-told .given .1 .1 .1 .0 .1) (c .before .before .before .before .before .if1 .taken))
+    let c6 = c .before .before .before .before .before .before in
+    let c8 = c6 .before .before in
+    simp (value-test (c8 .args .c .value) (c6 .struct-told .given .1 .1 .1 .0 .1) (c .before .before .before .before .before .if1 .taken))
     (c .two .ensures ∙ (λ i. record { count = 2; first = c .before .before .balance-use .ensures i; second = c .before .balance-use2 .ensures i }))
 
 none-requires : tie.Need-none-requires

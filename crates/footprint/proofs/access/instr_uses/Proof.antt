@@ -1,4 +1,4 @@
--- `footprint::access::instr_uses` meets its contract: each arm of the match is a clause of the definition, and the instructions of the last arm have no accesses. Assumes nothing.
+-- `footprint::access::instr_uses` meets its contract: each arm of the match is a clause of the definition, and the instructions of the last arm have no accesses.
 use borrow.Author.Needs.{needs}
 use mathlib.Core.Path.{sym, ap, _∙_}
 use Rattle.block.specs.Key.{payeeOf}
@@ -66,9 +66,10 @@ returns-3 c = simp (c .before .before .enum-told .given .1) (c .one3 .ensures �
 returns-4 : tie.Need-returns-4
 unfolding usesOf accesses
 returns-4 c =
+    let c7 = c .before .before .before .before .before .before .before in
     simp (c .before .before .before .before .i3 .given .1)
     (c .pay-uses .ensures
-    ∙ ap (λ (p : Payee). usesOf (payAccesses (c .before .before .before .before .before .before .before .args .c) p))
+    ∙ ap (λ (p : Payee). usesOf (payAccesses (c7 .args .c) p))
     (c .before .payee-of .ensures ∙ ap payeeOf (c .before .before .source-value .ensures)))
 
 returns-5 : tie.Need-returns-5

@@ -1,4 +1,4 @@
--- `footprint::access::key_use` meets its contract: the parts of a key fit its two words. Assumes nothing.
+-- `footprint::access::key_use` meets its contract: the parts of a key fit its two words.
 use borrow.Author.Needs.{needs}
 use Rattle.block.specs.Key.{addressNumber}
 use Rattle.footprint.proofs.AccessLaws.{key-words}

@@ -1,4 +1,4 @@
--- `footprint::access::none` meets its contract: there are no uses. Assumes nothing.
+-- `footprint::access::none` meets its contract: there are no uses.
 use borrow.Author.Needs.{needs}
 use Rattle.footprint.proofs.access.none.Statement.{statement}
 use Rattle.footprint.proofs.access.none.Tie as tie

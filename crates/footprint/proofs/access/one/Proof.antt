@@ -1,4 +1,4 @@
--- `footprint::access::one` meets its contract: there is one use. Assumes nothing.
+-- `footprint::access::one` meets its contract: there is one use.
 use borrow.Author.Needs.{needs}
 use Rattle.footprint.proofs.access.one.Statement.{statement}
 use Rattle.footprint.proofs.access.one.Tie as tie

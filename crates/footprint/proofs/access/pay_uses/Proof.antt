@@ -1,4 +1,4 @@
--- `footprint::access::pay_uses` meets its contract: both arms use the contract's balance, and the first the account's too. Assumes nothing.
+-- `footprint::access::pay_uses` meets its contract: both arms use the contract's balance, and the first the account's too.
 use borrow.Author.Needs.{needs}
 use mathlib.Core.Path.{_∙_}
 use Rattle.footprint.specs.Access.{payAccesses}

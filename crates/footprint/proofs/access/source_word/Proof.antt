@@ -1,11 +1,12 @@
--- `footprint::access::source_word` meets its contract: each arm is a clause of the definition, and the four arguments fit 32 bits. Assumes nothing.
+-- `footprint::access::source_word` meets its contract: each arm is a clause of the definition, and the four arguments fit 32 bits.
 use borrow.Author.Needs.{needs}
 use Prim.Native.Nat.{_^_, _<_}
 use native.Mathlib.Omega.{arith}
 use Rattle.block.specs.Record.{argument}
 use Rattle.block.specs.declared.Call.{Call}
-use Rattle.footprint.specs.Access.{sourceValue}
-use Rattle.footprint.specs.AccessLaws.{InRanges, argument-below}
+use Rattle.block.specs.Naming.{sourceValue}
+use Rattle.footprint.proofs.SetAccessLaws.{argument-below}
+use Rattle.footprint.specs.SafeSets.{InRanges}
 use Rattle.footprint.proofs.access.source_word.Statement.{statement}
 use Rattle.footprint.proofs.access.source_word.Tie as tie
 

@@ -1,4 +1,4 @@
--- `machine::numbers::answer_number` meets its contract: each arm is a clause of the definition. Assumes nothing.
+-- `machine::numbers::answer_number` meets its contract: each arm is a clause of the definition.
 use borrow.Author.Needs.{needs}
 use Rattle.machine.specs.Answer.{answerNumber}
 use Rattle.machine.proofs.numbers.answer_number.Statement.{statement}

@@ -1,4 +1,4 @@
--- `moves::begin::begin` meets its contract: the tests of the worker and of the head answer, or the call's tests and the change do. Assumes nothing.
+-- `moves::begin::begin` meets its contract: the tests of the worker and of the head answer, or the call's tests and the change do.
 use borrow.Author.Needs.{needs}
 use native.Mathlib.Omega.{arith}
 use mathlib.Core.Path.{sym, _∙_}
@@ -19,8 +19,9 @@ enum-known-answer c = search needs
 
 returns : tie.Need-returns
 returns c =
-    let a = c .before .before .before .before .before .before .before .before .args in
-    begin-refused (a .head) (a .worker) (a .call) (a .plan .now) (a .keys .now) (a .status .now) (a .cells .now) (a .olds .now) (c .before .before .before .before .large-enough .ensures) (c .before .before .before .worker-tested .ensures) (c .before .answer .given .1)
+    let c8 = c .before .before .before .before .before .before .before .before in
+    let a = c8 .args in
+    begin-refused (a .head) (a .worker) (a .call) (a .plan .now) (a .keys .now) (a .status .now) (a .cells .now) (a .saved .now) (c .before .before .before .before .large-enough .ensures) (c .before .before .before .worker-tested .ensures) (c .before .answer .given .1)
 
 enum-told : tie.Need-enum-told
 enum-told c = search needs
@@ -45,27 +46,30 @@ returns-2 c =
     let a = s .args in
     let own = seat-read (a .head) (a .worker) _ (sym (length-map (a .head .seats) _) ∙ s .good .0 .1 .1 .1 .1 .1 .1 .0 .1 .0 .1) (passed-worker _ _ _ (sym (e .enum-told .given .1) ∙ t .worker-tested .ensures)) in
     behind-stop _ _ (c .before .answer2 .given .1)
-    (begin-seated (a .head) (a .worker) (a .call) (a .plan .now) (a .keys .now) (a .status .now) (a .cells .now) (a .olds .now) (t .before .large-enough .ensures) (t .worker-tested .ensures) (e .enum-told .given .1) own (c .before .before .before .head-tested .ensures))
+    (begin-seated (a .head) (a .worker) (a .call) (a .plan .now) (a .keys .now) (a .status .now) (a .cells .now) (a .saved .now) (t .before .large-enough .ensures) (t .worker-tested .ensures) (e .enum-told .given .1) own (c .before .before .before .head-tested .ensures))
 
 enum-told-2 : tie.Need-enum-told-2
 enum-told-2 c = search needs
 
 begin-call-requires : tie.Need-begin-call-requires
 begin-call-requires c κs =
-    let e = c .before .before .before .before .before .before in
+    let c6 = c .before .before .before .before .before .before in
+    let e = c6 in
     let t = e .before .before in
     let passed = sym (e .enum-told .given .1) ∙ t .worker-tested .ensures in
     (head-passed _ _ _ (c .before .before .before .before .head-tested .ensures) (c .before .before .enum-told2 .given .1), (passed-worker _ _ _ passed, large-plan _ (sym (passed-large _ _ _ passed) ∙ t .before .large-enough .ensures)))
 
 mul-seat-2 : tie.Need-mul-seat-2
 mul-seat-2 c =
-    let e = c .before .before .before .before .before .before .before .before .before .before .before in
+    let c11 = c .before .before .before .before .before .before .before .before .before .before .before in
+    let e = c11 in
     let t = e .before .before in
     omega (arith, passed-worker _ _ _ (sym (e .enum-told .given .1) ∙ t .worker-tested .ensures))
 
 element-set-from-seat : tie.Need-element-set-from-seat
 element-set-from-seat c =
-    let e = c .before .before .before .before .before .before .before .before .before .before .before in
+    let c11 = c .before .before .before .before .before .before .before .before .before .before .before in
+    let e = c11 in
     let t = e .before .before in
     passed-worker _ _ _ (sym (e .enum-told .given .1) ∙ t .worker-tested .ensures)
 
@@ -77,13 +81,16 @@ same-length-2 c = search needs
 
 returns-3 : tie.Need-returns-3
 returns-3 c =
-    let e = c .before .before .before .before .before .before .before .before .before .before .before in
+    let c7 = c .before .before .before .before .before .before .before in
+    let c9 = c7 .before .before in
+    let c11 = c9 .before .before in
+    let e = c11 in
     let t = e .before .before in
     let s = t .before .before .before .before .before in
     let a = s .args in
     let own = seat-read (a .head) (a .worker) _ (sym (length-map (a .head .seats) _) ∙ s .good .0 .1 .1 .1 .1 .1 .1 .0 .1 .0 .1) (passed-worker _ _ _ (sym (e .enum-told .given .1) ∙ t .worker-tested .ensures)) in
-    behind-on _ _ (c .before .before .before .before .before .before .before .enum-told2 .given .1)
-    (begin-seated (a .head) (a .worker) (a .call) (a .plan .now) (a .keys .now) (a .status .now) (a .cells .now) (a .olds .now) (t .before .large-enough .ensures) (t .worker-tested .ensures) (e .enum-told .given .1) own (c .before .before .before .before .before .before .before .before .before .head-tested .ensures))
+    behind-on _ _ (c7 .enum-told2 .given .1)
+    (begin-seated (a .head) (a .worker) (a .call) (a .plan .now) (a .keys .now) (a .status .now) (a .cells .now) (a .saved .now) (t .before .large-enough .ensures) (t .worker-tested .ensures) (e .enum-told .given .1) own (c9 .head-tested .ensures))
     (c .before .before .before .before .begin-call .ensures (a .head) (a .keys .now) own)
 
 pub begin-spec : {M : Type 1} → statement M

@@ -1,9 +1,8 @@
 -- `moves::begin::begin_call` meets its contract: behind the call's tests the old values, the state and the seat are the change of the definition.
--- Assumes nothing.
 use borrow.Author.Needs.{needs}
 use native.Mathlib.Omega.{arith}
 use Rattle.moves.proofs.HeldLaws.{seat-kept}
-use Rattle.moves.proofs.BeginLaws.{behind-stop, behind-on, few-keys, begun}
+use Rattle.moves.proofs.BeginLaws.{behind-stop, behind-on, few-keys, begin-done}
 use Rattle.moves.proofs.begin.begin_call.Statement.{statement}
 use Rattle.moves.proofs.begin.begin_call.Tie as tie
 
@@ -18,9 +17,10 @@ same-length c = search needs
 
 returns : tie.Need-returns
 returns c =
-    let a = c .before .before .before .before .before .before .before .args in
-    λ head keys own. seat-kept head (a .worker) (a .plan .now) keys (a .status .now) (a .cells .now) (a .olds .now) own
-    (behind-stop _ _ (c .before .answer .given .1) (c .before .before .before .call-tested .ensures .0 head keys (a .cells .now) (a .olds .now) (a .worker)))
+    let c7 = c .before .before .before .before .before .before .before in
+    let a = c7 .args in
+    λ head keys own. seat-kept head (a .worker) (a .plan .now) keys (a .status .now) (a .cells .now) (a .saved .now) own
+    (behind-stop _ _ (c .before .answer .given .1) (c .before .before .before .call-tested .ensures .0 head keys (a .cells .now) (a .saved .now) (a .worker)))
 
 enum-told : tie.Need-enum-told
 enum-told c = search needs
@@ -30,7 +30,8 @@ key-count-requires c κs = search needs
 
 save-requires : tie.Need-save-requires
 save-requires c κs =
-    let s = c .before .before .before .before .before .before .before .before in
+    let c8 = c .before .before .before .before .before .before .before .before in
+    let s = c8 in
     let few = few-keys {n = c .before .key-count .result} (c .before .before .enum-told .given .1) (c .before .before .before .before .call-tested .ensures .1) (c .before .key-count .ensures) in
     omega (arith, few, s .pre)
 
@@ -51,9 +52,13 @@ same-length-3 c = search needs
 
 returns-2 : tie.Need-returns-2
 returns-2 c =
-    let a = c .before .before .before .before .before .before .before .before .before .before .before .before .before .before .args in
-    λ head keys own. behind-on _ _ (c .before .before .before .before .before .before .before .before .enum-told .given .1) (c .before .before .before .before .before .before .before .before .before .before .call-tested .ensures .0 head keys (a .cells .now) (a .olds .now) (a .worker))
-    (begun head (a .plan .now) keys (a .status .now) (a .cells .now) (a .olds .now) (a .worker) (a .call) (c .before .before .before .before .before .before .before .key-count .ensures) (c .before .before .before .before .before .save .ensures) (c .before .before .put-word .ensures))
+    let c7 = c .before .before .before .before .before .before .before in
+    let c8 = c7 .before in
+    let c10 = c8 .before .before in
+    let c14 = c10 .before .before .before .before in
+    let a = c14 .args in
+    λ head keys own. behind-on _ _ (c8 .enum-told .given .1) (c10 .call-tested .ensures .0 head keys (a .cells .now) (a .saved .now) (a .worker))
+    (begin-done head (a .plan .now) keys (a .status .now) (a .cells .now) (a .saved .now) (a .worker) (a .call) (c7 .key-count .ensures) (c .before .before .before .before .before .save .ensures) (c .before .before .put-word .ensures))
 
 pub begin-call-spec : {M : Type 1} → statement M
 begin-call-spec =

@@ -1,5 +1,4 @@
 -- `moves::begin::earlier` meets its contract: every state before the loop's place is one, and the flag says whether one of them is not finished.
--- Assumes nothing.
 use borrow.Author.Needs.{needs}
 use native.Mathlib.Omega.{arith}
 use Prim.Native.Nat.{_≤_, _-_}
@@ -34,7 +33,8 @@ state-of-requires c κs = omega arith
 
 returns-2 : tie.Need-returns-2 Inv-loop μ-loop
 returns-2 c =
-    let s = c .before .before .before .before .before .before .before in
+    let c7 = c .before .before .before .before .before .before .before in
+    let s = c7 in
     let l = c .before .before .before .before .before .loop in
     walked-off _ _ (l .inv .1) (c .before .before .before .row-next .ensures) (s .args .call) (omega arith) (c .before .before .before .before .loop-test .taken) (c .before .before .if1 .left) (c .before .state-of .ensures) (c .if2 .taken)
 
@@ -43,13 +43,15 @@ add-from c = omega arith
 
 loop-less : tie.Need-loop-less Inv-loop μ-loop
 loop-less c =
-    let s = c .before .before .before .before .before .before .before in
+    let c7 = c .before .before .before .before .before .before .before in
+    let s = c7 in
     let l = c .before .before .before .before .before .loop in
     omega (arith, next-up _ _ (l .inv .1) (c .before .before .before .row-next .ensures) (s .args .call) (omega arith) (c .before .before .before .before .loop-test .taken) (c .before .before .if1 .left) (c .before .state-of .ensures))
 
 loop-again : tie.Need-loop-again Inv-loop μ-loop
 loop-again c =
-    let s = c .before .before .before .before .before .before .before in
+    let c7 = c .before .before .before .before .before .before .before in
+    let s = c7 in
     let l = c .before .before .before .before .before .loop in
     (omega arith, walked-on _ _ (l .inv .1) (c .before .before .before .row-next .ensures) (s .args .call) (omega arith) (c .before .before .before .before .loop-test .taken) (c .before .before .if1 .left) (c .before .state-of .ensures) (c .if2 .left))
 

@@ -1,4 +1,4 @@
--- `moves::begin::head_tested` meets its contract: its five returns are the cases of the definition. Assumes nothing.
+-- `moves::begin::head_tested` meets its contract: its five returns are the cases of the definition.
 use Rattle.moves.proofs.BeginLaws.{head-many, head-past, head-lost, head-busy, head-free}
 use Rattle.moves.proofs.begin.head_tested.Statement.{statement}
 use Rattle.moves.proofs.begin.head_tested.Tie as tie

@@ -1,4 +1,4 @@
--- `moves::begin::row_of` meets its contract: the four words that are read are the call's row. Assumes nothing.
+-- `moves::begin::row_of` meets its contract: the four words that are read are the call's row.
 use borrow.Author.Needs.{needs}
 use native.Mathlib.Omega.{arith}
 use Prim.Native.Nat.{_+_, _*_}

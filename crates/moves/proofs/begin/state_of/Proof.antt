@@ -1,4 +1,4 @@
--- `moves::begin::state_of` meets its contract: the state is the first of the call's words. Assumes nothing.
+-- `moves::begin::state_of` meets its contract: the state is the first of the call's words.
 use borrow.Author.Needs.{needs}
 use mathlib.Core.Path.{_∙_}
 use Rattle.moves.proofs.EarlierLaws.{state-at}

@@ -1,4 +1,4 @@
--- `moves::cancel::cancel_held` meets its contract: entries that cannot be restored are the only refusal. Assumes nothing.
+-- `moves::cancel::cancel_held` meets its contract: entries that cannot be restored are the only refusal.
 use borrow.Author.Needs.{needs}
 use borrow.Author.Tests.{not-true, not-false}
 use native.Mathlib.Omega.{arith}
@@ -17,11 +17,12 @@ restorable-requires c κs = search needs
 returns : tie.Need-returns
 returns c =
     let a = c .before .before .before .before .before .args in
-    λ head keys own. cancel-damaged head (a .worker) (a .plan .now) keys (a .status .now) (a .cells .now) (a .olds .now) (a .c) (c .before .before .key-count .ensures) own (sym (not-true _ (c .if1 .taken)) ∙ c .before .restorable .ensures)
+    λ head keys own. cancel-damaged head (a .worker) (a .plan .now) keys (a .status .now) (a .cells .now) (a .saved .now) (a .call) (c .before .before .key-count .ensures) own (sym (not-true _ (c .if1 .taken)) ∙ c .before .restorable .ensures)
 
 restore-requires : tie.Need-restore-requires
 restore-requires c κs =
-    let s = c .before .before .before .before .before .before in
+    let c6 = c .before .before .before .before .before .before in
+    let s = c6 in
     let few = restorable-few (c .before .before .before .key-count .result) _ (sym (not-false _ (c .before .if1 .left)) ∙ c .before .before .restorable .ensures) in
     omega (arith, few, s .pre)
 
@@ -42,10 +43,14 @@ same-length-2 c = search needs
 
 returns-2 : tie.Need-returns-2
 returns-2 c =
-    let a = c .before .before .before .before .before .before .before .before .before .before .before .before .before .args in
-    let r = c .before .before .before .before .before .before .before .before .before in
-    λ head keys own. cancel-done head (a .worker) (a .plan .now) keys (a .status .now) (a .cells .now) (a .olds .now) (a .c) (r .before .key-count .ensures) (sym (not-false _ (c .before .before .before .before .before .before .before .before .if1 .left)) ∙ r .restorable .ensures)
-    (c .before .before .before .before .before .before .restore .ensures) (c .before .before .before .put-word .ensures) (c .idle-seat .ensures)
+    let c6 = c .before .before .before .before .before .before in
+    let c8 = c6 .before .before in
+    let c9 = c8 .before in
+    let c13 = c9 .before .before .before .before in
+    let a = c13 .args in
+    let r = c9 in
+    λ head keys own. cancel-done head (a .worker) (a .plan .now) keys (a .status .now) (a .cells .now) (a .saved .now) (a .call) (r .before .key-count .ensures) (sym (not-false _ (c8 .if1 .left)) ∙ r .restorable .ensures)
+    (c6 .restore .ensures) (c .before .before .before .put-word .ensures) (c .idle-seat .ensures)
 
 pub cancel-held-spec : {M : Type 1} → statement M
 cancel-held-spec =

@@ -1,4 +1,4 @@
--- `moves::entries::entry_allowed` meets its contract: no flag, only read, and written are the three cases. Assumes nothing.
+-- `moves::entries::entry_allowed` meets its contract: no flag, only read, and written are the three cases.
 use Rattle.moves.proofs.EntryLaws.{allowed-bare, allowed-read, allowed-written}
 use Rattle.moves.proofs.entries.entry_allowed.Statement.{statement}
 use Rattle.moves.proofs.entries.entry_allowed.Tie as tie

@@ -1,4 +1,4 @@
--- `moves::entries::old_value` meets its contract: the flags say whether the cell's value is kept. Assumes nothing.
+-- `moves::entries::old_value` meets its contract: the flags say whether the cell's value is kept.
 use borrow.Author.Needs.{needs}
 use borrow.Author.Tests.{le-leb, lt-leb}
 use mathlib.Core.Path.{_∙_}

@@ -1,10 +1,10 @@
--- `moves::entries::put_back` meets its contract: the flags say whether the value is stored. Assumes nothing.
+-- `moves::entries::put_back` meets its contract: the flags say whether the value is stored.
 use borrow.Author.Needs.{needs}
 use borrow.Author.Tests.{le-leb, lt-leb}
 use mathlib.Core.Path.{ap, _∙_}
 use mir.Facts.{toZ-ofZ}
 use lib.ListN.{set}
-use Rattle.machine.specs.Run.{entryCell}
+use Rattle.footprint.specs.Plan.{entryCell}
 use Rattle.moves.proofs.entries.put_back.Statement.{statement}
 use Rattle.moves.proofs.entries.put_back.Tie as tie
 

@@ -1,4 +1,4 @@
--- `moves::entries::restorable` meets its contract: the entries that are left decide as all of them do. Assumes nothing.
+-- `moves::entries::restorable` meets its contract: the entries that are left decide as all of them do.
 use borrow.Author.Needs.{needs}
 use borrow.Author.Tests.{not-true, not-false}
 use native.Mathlib.Omega.{arith}
@@ -12,10 +12,10 @@ use Rattle.moves.proofs.entries.restorable.Statement.{statement}
 use Rattle.moves.proofs.entries.restorable.Tie as tie
 
 abbrev Inv-loop : tie.InvT-loop
-Inv-loop plan c n first k₀ k = (k ≤ n) × (entriesAllowed (entriesOf plan c n) ≡ entriesAllowed (drop k (entriesOf plan c n)))
+Inv-loop plan call n first k₀ k = (k ≤ n) × (entriesAllowed (entriesOf plan call n) ≡ entriesAllowed (drop k (entriesOf plan call n)))
 
 abbrev μ-loop : tie.MeasureT-loop
-μ-loop plan c n first k₀ k = n - k
+μ-loop plan call n first k₀ k = n - k
 
 returns : tie.Need-returns Inv-loop μ-loop
 returns c = restorable-over (c .before .before .args .n) _ (c .if1 .taken)
@@ -43,9 +43,10 @@ entry-allowed-requires c κs = search needs
 
 returns-2 : tie.Need-returns-2 Inv-loop μ-loop
 returns-2 c =
-    let s = c .before .before .before .before .before .before .before in
+    let c7 = c .before .before .before .before .before .before .before in
+    let s = c7 in
     let l = c .before .before .before .before .loop in
-    restorable-failed (s .args .plan .now) (32 * s .args .c + 3) (s .args .n) (omega arith) (l .k) (l .inv .1) (c .before .before .before .loop-test .taken)
+    restorable-failed (s .args .plan .now) (32 * s .args .call + 3) (s .args .n) (omega arith) (l .k) (l .inv .1) (c .before .before .before .loop-test .taken)
     (sym (not-true _ (c .if2 .taken)) ∙ c .before .entry-allowed .ensures)
 
 add-k : tie.Need-add-k Inv-loop μ-loop
@@ -56,10 +57,11 @@ loop-less c = omega arith
 
 loop-again : tie.Need-loop-again Inv-loop μ-loop
 loop-again c =
-    let s = c .before .before .before .before .before .before .before in
+    let c7 = c .before .before .before .before .before .before .before in
+    let s = c7 in
     let l = c .before .before .before .before .loop in (
       omega arith,
-      restorable-next (s .args .plan .now) (32 * s .args .c + 3) (s .args .n) (omega arith) (l .k) (l .inv .1) (c .before .before .before .loop-test .taken)
+      restorable-next (s .args .plan .now) (32 * s .args .call + 3) (s .args .n) (omega arith) (l .k) (l .inv .1) (c .before .before .before .loop-test .taken)
           (sym (not-false _ (c .if2 .left)) ∙ c .before .entry-allowed .ensures),
     )
 
@@ -67,7 +69,7 @@ returns-3 : tie.Need-returns-3 Inv-loop μ-loop
 returns-3 c =
     let s = c .before .before .before .before in
     let l = c .before .loop in
-    restorable-end (s .args .plan .now) (32 * s .args .c + 3) (s .args .n) (omega arith) (l .k) (l .inv .1) (c .before .before .if1 .left) (c .loop-test .left)
+    restorable-end (s .args .plan .now) (32 * s .args .call + 3) (s .args .n) (omega arith) (l .k) (l .inv .1) (c .before .before .if1 .left) (c .loop-test .left)
 
 pub restorable-spec : {M : Type 1} → statement M
 restorable-spec =

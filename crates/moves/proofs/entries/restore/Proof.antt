@@ -1,4 +1,4 @@
--- `moves::entries::restore` meets its contract: the cells so far, with the entries that are left restored, stay the cells with all restored. Assumes nothing.
+-- `moves::entries::restore` meets its contract: the cells so far, with the entries that are left restored, stay the cells with all restored.
 use borrow.Author.Needs.{needs}
 use native.Mathlib.Omega.{arith}
 use Prim.Native.Nat.{_+_, _*_, _≤_, _-_}
@@ -8,18 +8,18 @@ use mir.Syntax.{w64}
 use mir.Facts.{toZ-ofZ}
 use Rattle.machine.specs.Run.{entriesOf}
 use Rattle.machine.specs.Step.{restored}
-use Rattle.machine.specs.Moves.{oldsOf}
+use Rattle.machine.specs.Moves.{savedIn}
 use Rattle.moves.proofs.EntryLaws.{restore-turn, restore-end}
 use Rattle.moves.proofs.entries.restore.Statement.{statement}
 use Rattle.moves.proofs.entries.restore.Tie as tie
 
 abbrev Inv-loop : tie.InvT-loop
-Inv-loop plan c n olds w cells₀ first base k₀ cells k =
+Inv-loop plan call n saved worker cells₀ first base k₀ cells k =
     (k ≤ n) × (length cells ≡ length cells₀)
-    × (restored (entriesOf plan c n) (oldsOf olds w n) cells₀ ≡ restored (drop k (entriesOf plan c n)) (drop k (oldsOf olds w n)) cells)
+    × (restored (entriesOf plan call n) (savedIn saved worker n) cells₀ ≡ restored (drop k (entriesOf plan call n)) (drop k (savedIn saved worker n)) cells)
 
 abbrev μ-loop : tie.MeasureT-loop
-μ-loop plan c n olds w cells₀ first base k₀ cells k = n - k
+μ-loop plan call n saved worker cells₀ first base k₀ cells k = n - k
 
 mul-first : tie.Need-mul-first Inv-loop μ-loop
 mul-first c = omega arith
@@ -59,14 +59,16 @@ loop-less c = omega arith
 
 loop-again : tie.Need-loop-again Inv-loop μ-loop
 loop-again c =
-    let s = c .before .before .before .before .before .before .before .before in
-    let l = c .before .before .before .before .before .before .loop in
+    let c6 = c .before .before .before .before .before .before in
+    let c8 = c6 .before .before in
+    let s = c8 in
+    let l = c6 .loop in
     let made = c .before .put-back in
     let old = c .before .before .before .before .value in (
       omega arith,
       made .kept .0 ∙ l .inv .1,
       l .inv .2
-          ∙ restore-turn (s .args .plan .now) (32 * s .args .c + 3) (s .args .n) (omega arith) (s .args .olds .now) (24 * s .args .w) (omega arith) (l .k)
+          ∙ restore-turn (s .args .plan .now) (32 * s .args .call + 3) (s .args .n) (omega arith) (s .args .saved .now) (24 * s .args .worker) (omega arith) (l .k)
           (c .before .before .before .before .before .loop-test .taken) _ _ _ (toZ-ofZ {w = w64} {z = old .result} (search needs) ∙ old .ensures) (made .ensures),
     )
 
@@ -77,7 +79,7 @@ returns : tie.Need-returns Inv-loop μ-loop
 returns c =
     let s = c .before .before .before in
     let l = c .before .loop in
-    sym (l .inv .2 ∙ restore-end (s .args .plan .now) (32 * s .args .c + 3) (s .args .n) (omega arith) (s .args .olds .now) (24 * s .args .w) (omega arith) (l .k) (c .loop-test .left) _)
+    sym (l .inv .2 ∙ restore-end (s .args .plan .now) (32 * s .args .call + 3) (s .args .n) (omega arith) (s .args .saved .now) (24 * s .args .worker) (omega arith) (l .k) (c .loop-test .left) _)
 
 pub restore-spec : {M : Type 1} → statement M
 restore-spec =

@@ -1,4 +1,4 @@
--- `moves::entries::save` meets its contract: the list so far, with the values that are left stored, stays the list with all of them. Assumes nothing.
+-- `moves::entries::save` meets its contract: the list so far, with the values that are left stored, stays the list with all of them.
 use borrow.Author.Needs.{needs}
 use native.Mathlib.Nat.{add-zero}
 use native.Mathlib.Omega.{arith}
@@ -15,12 +15,12 @@ use Rattle.moves.proofs.entries.save.Statement.{statement}
 use Rattle.moves.proofs.entries.save.Tie as tie
 
 abbrev Inv-loop : tie.InvT-loop
-Inv-loop plan c n cells olds₀ w first base k₀ olds k =
-    (k ≤ n) × (length olds ≡ length olds₀)
-    × (stored olds₀ (24 * w) (savedOf (entriesOf plan c n) cells) ≡ stored olds (24 * w + k) (savedOf (drop k (entriesOf plan c n)) cells))
+Inv-loop plan call n cells saved₀ worker first base k₀ saved k =
+    (k ≤ n) × (length saved ≡ length saved₀)
+    × (stored saved₀ (24 * worker) (savedOf (entriesOf plan call n) cells) ≡ stored saved (24 * worker + k) (savedOf (drop k (entriesOf plan call n)) cells))
 
 abbrev μ-loop : tie.MeasureT-loop
-μ-loop plan c n cells olds₀ w first base k₀ olds k = n - k
+μ-loop plan call n cells saved₀ worker first base k₀ saved k = n - k
 
 mul-first : tie.Need-mul-first Inv-loop μ-loop
 mul-first c = omega arith
@@ -60,14 +60,16 @@ loop-less c = omega arith
 
 loop-again : tie.Need-loop-again Inv-loop μ-loop
 loop-again c =
-    let s = c .before .before .before .before .before .before .before .before in
-    let l = c .before .before .before .before .before .before .loop in
+    let c6 = c .before .before .before .before .before .before in
+    let c8 = c6 .before .before in
+    let s = c8 in
+    let l = c6 .loop in
     let old = c .before .before .before .old-value in
     let made = c .before .put-value in (
       omega arith,
       made .kept .0 ∙ l .inv .1,
       l .inv .2
-          ∙ save-turn (s .args .plan .now) (32 * s .args .c + 3) (s .args .n) (omega arith) (s .args .cells .now) (24 * s .args .w) (l .k)
+          ∙ save-turn (s .args .plan .now) (32 * s .args .call + 3) (s .args .n) (omega arith) (s .args .cells .now) (24 * s .args .worker) (l .k)
           (c .before .before .before .before .before .loop-test .taken) _ _ _ (toZ-ofZ {w = w64} {z = old .result} (search needs) ∙ old .ensures) (made .ensures),
     )
 
@@ -78,7 +80,7 @@ returns : tie.Need-returns Inv-loop μ-loop
 returns c =
     let s = c .before .before .before in
     let l = c .before .loop in
-    sym (l .inv .2 ∙ save-end (s .args .plan .now) (32 * s .args .c + 3) (s .args .n) (omega arith) (s .args .cells .now) (24 * s .args .w) (l .k) (c .loop-test .left) _)
+    sym (l .inv .2 ∙ save-end (s .args .plan .now) (32 * s .args .call + 3) (s .args .n) (omega arith) (s .args .cells .now) (24 * s .args .worker) (l .k) (c .loop-test .left) _)
 
 pub save-spec : {M : Type 1} → statement M
 save-spec =

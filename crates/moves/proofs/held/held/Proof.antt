@@ -1,4 +1,4 @@
--- `moves::held::held` meets its contract: its four returns are the cases of the definition. Assumes nothing.
+-- `moves::held::held` meets its contract: its four returns are the cases of the definition.
 use borrow.Author.Needs.{needs}
 use native.Mathlib.Omega.{arith}
 use Rattle.moves.proofs.HeldLaws.{held-idle, held-many, held-past, held-holds}

@@ -1,4 +1,4 @@
--- `moves::held::worker_tested` meets its contract: its five returns are the cases of the definition. Assumes nothing.
+-- `moves::held::worker_tested` meets its contract: its five returns are the cases of the definition.
 use borrow.Author.Tests.{not-true, not-false}
 use Rattle.moves.proofs.HeldLaws.{worker-small, worker-none, worker-many, worker-past, worker-good}
 use Rattle.moves.proofs.held.worker_tested.Statement.{statement}

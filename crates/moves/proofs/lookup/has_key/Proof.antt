@@ -1,6 +1,6 @@
--- `moves::lookup::has_key` meets its contract: a key is the cell's if both its words are. Assumes nothing.
+-- `moves::lookup::has_key` meets its contract: a key is the cell's if both its words are.
 use borrow.Author.Needs.{needs}
-use Rattle.moves.proofs.LookupLaws.{key-words}
+use Rattle.moves.proofs.LookupCodeLaws.{use-words}
 use Rattle.moves.proofs.lookup.has_key.Statement.{statement}
 use Rattle.moves.proofs.lookup.has_key.Tie as tie
 
@@ -20,7 +20,7 @@ word-requires-2 : tie.Need-word-requires-2
 word-requires-2 c κs = search needs
 
 returns : tie.Need-returns
-returns c = key-words (c .before .before .before .before .before .args .keys .now) (c .before .before .before .before .before .args .n) (c .before .before .before .before .before .args .u) (c .before .before .before .before .before .pre .1) (c .before .before .before .word .ensures) (c .before .before .word2 .ensures)
+returns c = use-words (c .before .before .before .before .before .args .keys .now) (c .before .before .before .before .before .args .n) (c .before .before .before .before .before .args .u) (c .before .before .before .before .before .pre .1) (c .before .before .before .word .ensures) (c .before .before .word2 .ensures)
 
 pub has-key-spec : {M : Type 1} → statement M
 has-key-spec =

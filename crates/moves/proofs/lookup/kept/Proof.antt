@@ -1,4 +1,4 @@
--- `moves::lookup::kept` meets its contract: the test of the flags is the definition's. Assumes nothing.
+-- `moves::lookup::kept` meets its contract: the test of the flags is the definition's.
 use borrow.Author.Needs.{needs}
 use mathlib.Core.Path.{sym, _∙_}
 use Rattle.moves.proofs.lookup.kept.Statement.{statement}

@@ -1,4 +1,4 @@
--- `moves::perform::deposit` meets its contract: the second cell is nowhere, or the amount reaches it. Assumes nothing.
+-- `moves::perform::deposit` meets its contract: the second cell is nowhere, or the amount reaches it.
 use borrow.Author.Needs.{needs}
 use mathlib.Core.Path.{sym, _∙_}
 use Rattle.moves.proofs.PerformLaws.{deposit-nowhere, deposit-found}
@@ -22,17 +22,20 @@ pay-into-requires c κs = search needs
 
 returns : tie.Need-returns
 returns c =
-    let a = c .before .before .before .before .before .before .args in
-    deposit-nowhere (a .place) (a .count) (a .regs) (a .amount) (a .n) (a .cells .now) (sym (c .before .before .before .lookup .ensures) ∙ c .before .enum-told .given .1) (c .damaged .ensures)
+    let c6 = c .before .before .before .before .before .before in
+    let a = c6 .args in
+    deposit-nowhere (a .site .place) (a .site .count) (a .regs) (a .amount) (a .n) (a .cells .now) (sym (c .before .before .before .lookup .ensures) ∙ c .before .enum-told .given .1) (c .damaged .ensures)
 
 same-length : tie.Need-same-length
 same-length c = search needs
 
 returns-2 : tie.Need-returns-2
 returns-2 c =
-    let s = c .before .before .before .before .before .before .before .before .before in
+    let c6 = c .before .before .before .before .before .before in
+    let c9 = c6 .before .before .before in
+    let s = c9 in
     let a = s .args in
-    deposit-found (a .place) (a .count) (a .regs) (s .fits .amount) (a .n) (a .cells .now) _ (sym (c .before .before .before .before .before .before .lookup .ensures) ∙ c .before .before .before .before .m .given .1) (c .before .pay-into .ensures)
+    deposit-found (a .site .place) (a .site .count) (a .regs) (s .fits .amount) (a .n) (a .cells .now) _ (sym (c6 .lookup .ensures) ∙ c .before .before .before .before .m .given .1) (c .before .pay-into .ensures)
 
 pub deposit-spec : {M : Type 1} → statement M
 deposit-spec =

@@ -1,4 +1,4 @@
--- `moves::perform::is_balance` meets its contract: the field stands in the key's high word. Assumes nothing.
+-- `moves::perform::is_balance` meets its contract: the field stands in the key's high word.
 use Rattle.moves.proofs.PerformLaws.{balance-words}
 use Rattle.moves.proofs.perform.is_balance.Statement.{statement}
 use Rattle.moves.proofs.perform.is_balance.Tie as tie

@@ -1,4 +1,4 @@
--- `moves::perform::load` meets its contract: where the cell is found, the test of a balance is the definition's. Assumes nothing.
+-- `moves::perform::load` meets its contract: where the cell is found, the test of a balance is the definition's.
 use borrow.Author.Needs.{needs}
 use mathlib.Core.Path.{sym, _∙_}
 use Rattle.moves.proofs.PerformLaws.{load-nowhere, load-damaged, load-done}
@@ -29,8 +29,10 @@ damaged-requires-2 c κs = search needs
 
 returns : tie.Need-returns
 returns c =
-    let a = c .before .before .before .before .before .before .before .before .before .before .args in
-    load-damaged (a .place) (a .count) (a .regs) (a .x) (accessOf (a .u)) (a .cells .now) (c .before .before .before .value .result) (record { sfits = c .before .before .before .value .ok }) (sym (c .before .before .before .before .before .before .before .lookup .ensures) ∙ c .before .before .before .before .before .n .given .1) (c .before .before .before .value .ensures) (c .before .before .is-balance .ensures) (c .before .if1 .taken) (c .damaged2 .ensures)
+    let c7 = c .before .before .before .before .before .before .before in
+    let c10 = c7 .before .before .before in
+    let a = c10 .args in
+    load-damaged (a .site .place) (a .site .count) (a .regs) (a .x) (accessOf (a .u)) (a .cells .now) (c .before .before .before .value .result) (record { sfits = c .before .before .before .value .ok }) (sym (c7 .lookup .ensures) ∙ c .before .before .before .before .before .n .given .1) (c .before .before .before .value .ensures) (c .before .before .is-balance .ensures) (c .before .if1 .taken) (c .damaged2 .ensures)
 
 add-go-on : tie.Need-add-go-on
 add-go-on c = search needs
@@ -43,13 +45,17 @@ go-on-requires c κs = search needs
 
 returns-2 : tie.Need-returns-2
 returns-2 c =
-    let a = c .before .before .before .before .before .before .args in
-    load-nowhere (a .place) (a .count) (a .regs) (a .x) (accessOf (a .u)) (a .cells .now) (sym (c .before .before .before .lookup .ensures) ∙ c .before .enum-told .given .1) (c .damaged .ensures)
+    let c6 = c .before .before .before .before .before .before in
+    let a = c6 .args in
+    load-nowhere (a .site .place) (a .site .count) (a .regs) (a .x) (accessOf (a .u)) (a .cells .now) (sym (c .before .before .before .lookup .ensures) ∙ c .before .enum-told .given .1) (c .damaged .ensures)
 
 returns-3 : tie.Need-returns-3
 returns-3 c =
-    let a = c .before .before .before .before .before .before .before .before .before .before .before .args in
-    load-done (a .place) (a .count) (a .regs) (a .x) (accessOf (a .u)) (a .cells .now) (c .before .before .before .before .value .result) (record { sfits = c .before .before .before .before .value .ok }) (sym (c .before .before .before .before .before .before .before .before .lookup .ensures) ∙ c .before .before .before .before .before .before .n .given .1) (c .before .before .before .before .value .ensures) (c .before .before .before .is-balance .ensures) (c .before .before .if1 .left) (c .before .loaded .ensures) (c .go-on .ensures)
+    let c7 = c .before .before .before .before .before .before .before in
+    let c9 = c7 .before .before in
+    let c12 = c9 .before .before .before in
+    let a = c12 .args in
+    load-done (a .site .place) (a .site .count) (a .regs) (a .x) (accessOf (a .u)) (a .cells .now) (c .before .before .before .before .before .value .result) (record { sfits = c .before .before .before .before .before .value .ok }) (sym (c9 .lookup .ensures) ∙ c7 .n .given .1) (c .before .before .before .before .before .value .ensures) (c .before .before .before .before .is-balance .ensures) (c .before .before .before .if1 .left) (c .before .loaded .ensures) (c .go-on .ensures)
 
 pub load-spec : {M : Type 1} → statement M
 load-spec =

@@ -1,8 +1,8 @@
--- `moves::perform::perform` meets its contract: each arm is a clause of the definition. Assumes nothing.
+-- `moves::perform::perform` meets its contract: each arm is a clause of the definition.
 use borrow.Author.Needs.{needs}
 use mathlib.Core.Path.{refl}
 use Rattle.moves.proofs.PerformLaws.{perform-go, perform-end, perform-load, perform-store, perform-transfer, payable, still-nonneg}
-use Rattle.moves.specs.Turn.{ownOlds}
+use Rattle.moves.specs.Turn.{workerSaved}
 use Rattle.moves.proofs.perform.perform.Statement.{statement}
 use Rattle.moves.proofs.perform.perform.Tie as tie
 
@@ -35,51 +35,57 @@ enum-known-next-5 c = search needs
 
 transfer-requires : tie.Need-transfer-requires
 transfer-requires c κs =
-    let s = c .before .before .before .before .before .before .before in
+    let c7 = c .before .before .before .before .before .before .before in
+    let s = c7 in
     let p = s .pre in
     (p .0, (p .1 .early, (p .1 .first, (p .1 .second, still-nonneg {amount = c .before .before .next5 .given .0 .0} (record { sfits = c .before .known-told5 .given .0 .1 }) (payable {amount = c .before .before .next5 .given .0 .0} (c .before .before .next5 .given .1) (p .1 .payable))))))
 
 returns : tie.Need-returns
 returns c =
-    let s = c .before .before .before .before .before .before .before in
+    let c7 = c .before .before .before .before .before .before .before in
+    let s = c7 in
     let a = s .args in
-    perform-go (a .plan .now) (a .keys .now) (a .c) (a .place) (ownOlds (a .plan .now) (a .olds .now) (a .w) (a .c)) (a .count) (a .us) (a .a .regs) (a .cells .now) (c .before .before .next .given .1) (c .go-on .ensures) refl
+    perform-go (a .plan .now) (a .keys .now) (a .site .call) (a .site .place) (workerSaved (a .plan .now) (a .saved .now) (a .site .worker) (a .site .call)) (a .site .count) (a .uses) (a .action .regs) (a .cells .now) (c .before .before .next .given .1) (c .go-on .ensures) refl
 
 same-length : tie.Need-same-length
 same-length c = search needs
 
 returns-2 : tie.Need-returns-2
 returns-2 c =
-    let s = c .before .before .before .before .before .before .before .before .before in
+    let c9 = c .before .before .before .before .before .before .before .before .before in
+    let s = c9 in
     let a = s .args in
-    perform-end (a .plan .now) (a .keys .now) (a .c) (a .place) (ownOlds (a .plan .now) (a .olds .now) (a .w) (a .c)) (a .count) (a .us) (a .a .regs) (a .cells .now) (c .before .before .before .before .next2 .given .1) (c .before .finish .ensures)
+    perform-end (a .plan .now) (a .keys .now) (a .site .call) (a .site .place) (workerSaved (a .plan .now) (a .saved .now) (a .site .worker) (a .site .call)) (a .site .count) (a .uses) (a .action .regs) (a .cells .now) (c .before .before .before .before .next2 .given .1) (c .before .finish .ensures)
 
 same-length-2 : tie.Need-same-length-2
 same-length-2 c = search needs
 
 returns-3 : tie.Need-returns-3
 returns-3 c =
-    let s = c .before .before .before .before .before .before .before .before in
+    let c8 = c .before .before .before .before .before .before .before .before in
+    let s = c8 in
     let a = s .args in
-    perform-load (a .plan .now) (a .keys .now) (a .c) (a .place) (ownOlds (a .plan .now) (a .olds .now) (a .w) (a .c)) (a .count) (a .us) (a .a .regs) (a .cells .now) (c .before .before .before .next3 .given .1) (c .load .ensures)
+    perform-load (a .plan .now) (a .keys .now) (a .site .call) (a .site .place) (workerSaved (a .plan .now) (a .saved .now) (a .site .worker) (a .site .call)) (a .site .count) (a .uses) (a .action .regs) (a .cells .now) (c .before .before .before .next3 .given .1) (c .load .ensures)
 
 same-length-3 : tie.Need-same-length-3
 same-length-3 c = search needs
 
 returns-4 : tie.Need-returns-4
 returns-4 c =
-    let s = c .before .before .before .before .before .before .before .before .before in
+    let c9 = c .before .before .before .before .before .before .before .before .before in
+    let s = c9 in
     let a = s .args in
-    perform-store (a .plan .now) (a .keys .now) (a .c) (a .place) (ownOlds (a .plan .now) (a .olds .now) (a .w) (a .c)) (a .count) (a .us) (a .a .regs) (a .cells .now) (record { sfits = c .before .before .before .known-told4 .given .0 .1 }) (c .before .before .before .before .next4 .given .1) (c .before .store .ensures)
+    perform-store (a .plan .now) (a .keys .now) (a .site .call) (a .site .place) (workerSaved (a .plan .now) (a .saved .now) (a .site .worker) (a .site .call)) (a .site .count) (a .uses) (a .action .regs) (a .cells .now) (record { sfits = c .before .before .before .known-told4 .given .0 .1 }) (c .before .before .before .before .next4 .given .1) (c .before .store .ensures)
 
 same-length-4 : tie.Need-same-length-4
 same-length-4 c = search needs
 
 returns-5 : tie.Need-returns-5
 returns-5 c =
-    let s = c .before .before .before .before .before .before .before .before .before in
+    let c9 = c .before .before .before .before .before .before .before .before .before in
+    let s = c9 in
     let a = s .args in
-    perform-transfer (a .plan .now) (a .keys .now) (a .c) (a .place) (ownOlds (a .plan .now) (a .olds .now) (a .w) (a .c)) (a .count) (a .us) (a .a .regs) (a .cells .now) (record { sfits = c .before .before .before .known-told5 .given .0 .1 }) (c .before .before .before .before .next5 .given .1) (c .before .transfer .ensures)
+    perform-transfer (a .plan .now) (a .keys .now) (a .site .call) (a .site .place) (workerSaved (a .plan .now) (a .saved .now) (a .site .worker) (a .site .call)) (a .site .count) (a .uses) (a .action .regs) (a .cells .now) (record { sfits = c .before .before .before .known-told5 .given .0 .1 }) (c .before .before .before .before .next5 .given .1) (c .before .transfer .ensures)
 
 pub perform-spec : {M : Type 1} → statement M
 perform-spec =

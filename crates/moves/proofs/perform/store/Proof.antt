@@ -1,4 +1,4 @@
--- `moves::perform::store` meets its contract: where the cell is found, it takes the value. Assumes nothing.
+-- `moves::perform::store` meets its contract: where the cell is found, it takes the value.
 use borrow.Author.Needs.{needs}
 use mathlib.Core.Path.{sym, _∙_}
 use Rattle.moves.proofs.PerformLaws.{store-nowhere, store-done}
@@ -28,16 +28,20 @@ go-on-requires c κs = search needs
 
 returns : tie.Need-returns
 returns c =
-    let a = c .before .before .before .before .before .before .args in
-    store-nowhere (a .place) (a .count) (a .regs) (a .v) (a .cells .now) (sym (c .before .before .before .lookup .ensures) ∙ c .before .enum-told .given .1) (c .damaged .ensures)
+    let c6 = c .before .before .before .before .before .before in
+    let a = c6 .args in
+    store-nowhere (a .site .place) (a .site .count) (a .regs) (a .v) (a .cells .now) (sym (c .before .before .before .lookup .ensures) ∙ c .before .enum-told .given .1) (c .damaged .ensures)
 
 same-length : tie.Need-same-length
 same-length c = search needs
 
 returns-2 : tie.Need-returns-2
 returns-2 c =
-    let a = c .before .before .before .before .before .before .before .before .before .before .args in
-    store-done (a .place) (a .count) (a .regs) (a .v) (a .cells .now) (c .before .before .before .before .before .before .before .before .before .before .fits .v) (sym (c .before .before .before .before .before .before .before .lookup .ensures) ∙ c .before .before .before .before .before .n .given .1) (c .before .before .put-value .ensures) (c .go-on .ensures)
+    let c6 = c .before .before .before .before .before .before in
+    let c8 = c6 .before .before in
+    let c11 = c8 .before .before .before in
+    let a = c11 .args in
+    store-done (a .site .place) (a .site .count) (a .regs) (a .v) (a .cells .now) (c11 .fits .v) (sym (c8 .lookup .ensures) ∙ c6 .n .given .1) (c .before .before .before .put-value .ensures) (c .go-on .ensures)
 
 pub store-spec : {M : Type 1} → statement M
 store-spec =

@@ -1,6 +1,6 @@
--- `moves::step::put_receipt` meets its contract: the state and the two words behind it are stored. Assumes nothing.
+-- `moves::step::put_receipt` meets its contract: the state and the two words behind it are stored.
 use borrow.Author.Needs.{needs}
-use Rattle.moves.proofs.RunLaws.{receipt}
+use Rattle.moves.proofs.LentRunLaws.{receipt}
 use Rattle.moves.proofs.step.put_receipt.Statement.{statement}
 use Rattle.moves.proofs.step.put_receipt.Tie as tie
 
@@ -26,7 +26,11 @@ same-length : tie.Need-same-length
 same-length c = search needs
 
 returns : tie.Need-returns
-returns c = receipt (c .before .before .before .before .before .before .before .before .before .before .before .before .before .args .status .now) (c .before .before .before .before .before .before .before .before .before .before .before .before .before .args .c) (c .before .before .before .before .before .before .before .before .before .before .before .before .before .args .outcome) (c .before .before .before .before .before .before .before .before .before .before .before .before .before .args .count) (c .before .before .before .before .before .before .before .before .before .before .put-word .ensures) (c .before .before .before .before .before .before .put-word2 .ensures) (c .before .before .put-word3 .ensures)
+returns c =
+    let c6 = c .before .before .before .before .before .before in
+    let c10 = c6 .before .before .before .before in
+    let c13 = c10 .before .before .before in
+    receipt (c13 .args .status .now) (c13 .args .call) (c13 .args .outcome) (c13 .args .count) (c10 .put-word .ensures) (c6 .put-word2 .ensures) (c .before .before .put-word3 .ensures)
 
 pub put-receipt-spec : {M : Type 1} → statement M
 put-receipt-spec =

@@ -1,9 +1,9 @@
--- `moves::step::step_held` meets its contract: its tests are the definition's, and the record that is read is stepped. Assumes nothing.
+-- `moves::step::step_held` meets its contract: its tests are the definition's, and the record that is read is stepped.
 use borrow.Author.Needs.{needs}
 use borrow.Author.Tests.{not-true, not-false}
 use lib.ListN.{length}
 use native.Mathlib.Omega.{arith}
-use Rattle.moves.proofs.RunLaws.{broken-stays, held-unseated, held-cut, held-broken, held-stepped, in-place, record-inside, record-stepped}
+use Rattle.moves.proofs.LentRunLaws.{broken-stays, held-unseated, held-cut, held-broken, held-stepped, in-place, record-inside, record-stepped}
 use Rattle.moves.proofs.step.step_held.Statement.{statement}
 use Rattle.moves.proofs.step.step_held.Tie as tie
 
@@ -15,8 +15,9 @@ damaged-requires c κs = search needs
 
 returns : tie.Need-returns
 returns c =
-    let a = c .before .before .before .before .before .before .args in
-    λ head status own starts. broken-stays head (a .block .now) (a .plan .now) (a .keys .now) (a .cells .now) status (a .olds .now) (a .w) (a .c) (c .damaged .ensures) (held-unseated head (a .block .now) (a .plan .now) (a .keys .now) (a .cells .now) status (a .olds .now) (a .w) (a .c) own (c .before .before .in-range .ensures) (not-true _ (c .before .if1 .taken)))
+    let c6 = c .before .before .before .before .before .before in
+    let a = c6 .args in
+    λ head status own starts. broken-stays head (a .block .now) (a .plan .now) (a .keys .now) (a .cells .now) status (a .saved .now) (a .worker) (a .call) (c .damaged .ensures) (held-unseated head (a .block .now) (a .plan .now) (a .keys .now) (a .cells .now) status (a .saved .now) (a .worker) (a .call) own (c .before .before .in-range .ensures) (not-true _ (c .before .if1 .taken)))
 
 has-record-requires : tie.Need-has-record-requires
 has-record-requires c κs = search needs
@@ -26,28 +27,31 @@ damaged-requires-2 c κs = search needs
 
 returns-2 : tie.Need-returns-2
 returns-2 c =
-    let a = c .before .before .before .before .before .before .before .before .args in
-    λ head status own starts. broken-stays head (a .block .now) (a .plan .now) (a .keys .now) (a .cells .now) status (a .olds .now) (a .w) (a .c) (c .damaged2 .ensures)
-    (held-cut head (a .block .now) (a .plan .now) (a .keys .now) (a .cells .now) status (a .olds .now) (a .w) (a .c) own (c .before .before .before .before .in-range .ensures) (not-false _ (c .before .before .before .if1 .left)) starts (c .before .before .has-record .ensures) (not-true _ (c .before .if2 .taken)))
+    let c8 = c .before .before .before .before .before .before .before .before in
+    let a = c8 .args in
+    λ head status own starts. broken-stays head (a .block .now) (a .plan .now) (a .keys .now) (a .cells .now) status (a .saved .now) (a .worker) (a .call) (c .damaged2 .ensures)
+    (held-cut head (a .block .now) (a .plan .now) (a .keys .now) (a .cells .now) status (a .saved .now) (a .worker) (a .call) own (c .before .before .before .before .in-range .ensures) (not-false _ (c .before .before .before .if1 .left)) starts (c .before .before .has-record .ensures) (not-true _ (c .before .if2 .taken)))
 
 mul-call-at : tie.Need-mul-call-at
 mul-call-at c = search needs
 
 add-call-at : tie.Need-add-call-at
 add-call-at c =
-    let a = c .before .before .before .before .before .before .before .args in
-    omega (arith, record-inside (length (a .block .now)) (a .first) (a .c) (c .before .has-record .ensures) (not-false _ (c .if2 .left)))
+    let c7 = c .before .before .before .before .before .before .before in
+    let a = c7 .args in
+    omega (arith, record-inside (length (a .block .now)) (a .start) (a .call) (c .before .has-record .ensures) (not-false _ (c .if2 .left)))
 
 add-call-at-2 : tie.Need-add-call-at-2
 add-call-at-2 c =
-    let a = c .before .before .before .before .before .before .before .args in
-    omega (arith, record-inside (length (a .block .now)) (a .first) (a .c) (c .before .has-record .ensures) (not-false _ (c .if2 .left)))
+    let c7 = c .before .before .before .before .before .before .before in
+    let a = c7 .args in
+    omega (arith, record-inside (length (a .block .now)) (a .start) (a .call) (c .before .has-record .ensures) (not-false _ (c .if2 .left)))
 
 call-at-requires : tie.Need-call-at-requires
 call-at-requires c κs = search needs
 
-enum-known-call : tie.Need-enum-known-call
-enum-known-call c = search needs
+enum-known-body : tie.Need-enum-known-body
+enum-known-body c = search needs
 
 enum-told : tie.Need-enum-told
 enum-told c = search needs
@@ -57,25 +61,37 @@ damaged-requires-3 c κs = search needs
 
 returns-3 : tie.Need-returns-3
 returns-3 c =
-    let a = c .before .before .before .before .before .before .before .before .before .before .before .args in
-    λ head status own starts. broken-stays head (a .block .now) (a .plan .now) (a .keys .now) (a .cells .now) status (a .olds .now) (a .w) (a .c) (c .damaged3 .ensures)
-    (held-broken head (a .block .now) (a .plan .now) (a .keys .now) (a .cells .now) status (a .olds .now) (a .w) (a .c) own (c .before .before .before .before .before .before .before .in-range .ensures) (not-false _ (c .before .before .before .before .before .before .if1 .left)) starts (c .before .before .before .before .before .has-record .ensures) (not-false _ (c .before .before .before .before .if2 .left)) (c .before .before .before .call-at .ensures) (c .before .enum-told .given .1))
+    let c6 = c .before .before .before .before .before .before in
+    let c7 = c6 .before in
+    let c11 = c7 .before .before .before .before in
+    let a = c11 .args in
+    λ head status own starts. broken-stays head (a .block .now) (a .plan .now) (a .keys .now) (a .cells .now) status (a .saved .now) (a .worker) (a .call) (c .damaged3 .ensures)
+    (held-broken head (a .block .now) (a .plan .now) (a .keys .now) (a .cells .now) status (a .saved .now) (a .worker) (a .call) own (c7 .in-range .ensures) (not-false _ (c6 .if1 .left)) starts (c .before .before .before .before .before .has-record .ensures) (not-false _ (c .before .before .before .before .if2 .left)) (c .before .before .before .call-at .ensures) (c .before .enum-told .given .1))
 
 step-call-requires : tie.Need-step-call-requires
 step-call-requires c κs =
-    let s = c .before .before .before .before .before .before .before .before .before .before .before .before in
+    let c7 = c .before .before .before .before .before .before .before in
+    let c8 = c7 .before in
+    let c12 = c8 .before .before .before .before in
+    let s = c12 in
     let a = s .args in
-    (s .pre, in-place (a .plan .now) (a .c) (a .seat) (c .before .before .before .before .before .before .before .before .in-range .ensures) (not-false _ (c .before .before .before .before .before .before .before .if1 .left)))
+    (s .pre, in-place (a .plan .now) (a .call) (a .seat) (c8 .in-range .ensures) (not-false _ (c7 .if1 .left)))
 
 same-length : tie.Need-same-length
 same-length c = search needs
 
 returns-4 : tie.Need-returns-4
 returns-4 c =
-    let a = c .before .before .before .before .before .before .before .before .before .before .before .before .before .before .args in
-    λ head status own starts. held-stepped head (a .block .now) (a .plan .now) (a .keys .now) (a .cells .now) status (a .olds .now) (a .w) (a .c) own (c .before .before .before .before .before .before .before .before .before .before .in-range .ensures) (not-false _ (c .before .before .before .before .before .before .before .before .before .if1 .left)) starts (c .before .before .before .before .before .before .before .before .has-record .ensures) (not-false _ (c .before .before .before .before .before .before .before .if2 .left))
-    (c .before .before .before .before .before .before .call-at .ensures) (c .before .before .before .before .call .given .1)
-    (record-stepped head (a .block .now) (a .plan .now) (a .keys .now) (a .cells .now) status (a .olds .now) (a .w) (a .c) (c .before .before .before .before .call .given .0 .0) own (c .before .step-call .ensures))
+    let c6 = c .before .before .before .before .before .before in
+    let c7 = c6 .before in
+    let c8 = c7 .before in
+    let c9 = c8 .before in
+    let c10 = c9 .before in
+    let c14 = c10 .before .before .before .before in
+    let a = c14 .args in
+    λ head status own starts. held-stepped head (a .block .now) (a .plan .now) (a .keys .now) (a .cells .now) status (a .saved .now) (a .worker) (a .call) own (c10 .in-range .ensures) (not-false _ (c9 .if1 .left)) starts (c8 .has-record .ensures) (not-false _ (c7 .if2 .left))
+    (c6 .call-at .ensures) (c .before .before .before .before .body .given .1)
+    (record-stepped head (a .block .now) (a .plan .now) (a .keys .now) (a .cells .now) status (a .saved .now) (a .worker) (a .call) (c .before .before .before .before .body .given .0 .0) own (c .before .step-call .ensures))
 
 pub step-held-spec : {M : Type 1} → statement M
 step-held-spec =
@@ -91,7 +107,7 @@ step-held-spec =
     add-call-at
     add-call-at-2
     call-at-requires
-    enum-known-call
+    enum-known-body
     enum-told
     damaged-requires-3
     returns-3

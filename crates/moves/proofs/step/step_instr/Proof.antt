@@ -1,8 +1,8 @@
--- `moves::step::step_instr` meets its contract: a code stretch past the block's end is damage, and else the instruction is decoded in it. Assumes nothing.
+-- `moves::step::step_instr` meets its contract: a code stretch past the block's end is damage, and else the instruction is decoded in it.
 use borrow.Author.Needs.{needs}
 use native.Mathlib.Omega.{arith}
-use Rattle.moves.proofs.StepLaws.{instr-outside, instr-inside}
-use Rattle.moves.specs.Turn.{ownOlds}
+use Rattle.moves.proofs.StepCodeLaws.{instr-outside, instr-inside}
+use Rattle.moves.specs.Turn.{workerSaved}
 use Rattle.moves.proofs.step.step_instr.Statement.{statement}
 use Rattle.moves.proofs.step.step_instr.Tie as tie
 
@@ -23,9 +23,10 @@ damaged-requires c κs = search needs
 
 returns : tie.Need-returns
 returns c =
-    let s = c .before .before .before .before .before .before .before in
+    let c7 = c .before .before .before .before .before .before .before in
+    let s = c7 in
     let a = s .args in
-    instr-outside (a .block .now) (a .plan .now) (a .keys .now) (a .c) (a .call) (a .seat) (ownOlds (a .plan .now) (a .olds .now) (a .w) (a .c)) (a .cells .now) (c .before .before .before .plan-word .ensures) (c .before .before .plan-word2 .ensures) (omega arith) (c .damaged .ensures)
+    instr-outside (a .block .now) (a .plan .now) (a .keys .now) (a .call) (a .body) (a .seat) (workerSaved (a .plan .now) (a .saved .now) (a .worker) (a .call)) (a .cells .now) (c .before .before .before .plan-word .ensures) (c .before .before .plan-word2 .ensures) (omega arith) (c .damaged .ensures)
 
 sub-if2 : tie.Need-sub-if2
 sub-if2 c = search needs
@@ -35,9 +36,10 @@ damaged-requires-2 c κs = search needs
 
 returns-2 : tie.Need-returns-2
 returns-2 c =
-    let s = c .before .before .before .before .before .before .before .before in
+    let c8 = c .before .before .before .before .before .before .before .before in
+    let s = c8 in
     let a = s .args in
-    instr-outside (a .block .now) (a .plan .now) (a .keys .now) (a .c) (a .call) (a .seat) (ownOlds (a .plan .now) (a .olds .now) (a .w) (a .c)) (a .cells .now) (c .before .before .before .before .plan-word .ensures) (c .before .before .before .plan-word2 .ensures) (omega arith) (c .damaged2 .ensures)
+    instr-outside (a .block .now) (a .plan .now) (a .keys .now) (a .call) (a .body) (a .seat) (workerSaved (a .plan .now) (a .saved .now) (a .worker) (a .call)) (a .cells .now) (c .before .before .before .before .plan-word .ensures) (c .before .before .before .plan-word2 .ensures) (omega arith) (c .damaged2 .ensures)
 
 code-at-requires : tie.Need-code-at-requires
 code-at-requires c κs = search needs
@@ -53,9 +55,12 @@ same-length c = search needs
 
 returns-3 : tie.Need-returns-3
 returns-3 c =
-    let s = c .before .before .before .before .before .before .before .before .before .before .before in
+    let c6 = c .before .before .before .before .before .before in
+    let c7 = c6 .before in
+    let c11 = c7 .before .before .before .before in
+    let s = c11 in
     let a = s .args in
-    instr-inside (a .block .now) (a .plan .now) (a .keys .now) (a .c) (a .call) (a .seat) (ownOlds (a .plan .now) (a .olds .now) (a .w) (a .c)) (a .cells .now) (c .before .before .before .before .before .before .before .plan-word .ensures) (c .before .before .before .before .before .before .plan-word2 .ensures) (omega arith) (omega arith) (c .before .before .before .code-at .ensures) (c .before .step-decoded .ensures (a .block .now))
+    instr-inside (a .block .now) (a .plan .now) (a .keys .now) (a .call) (a .body) (a .seat) (workerSaved (a .plan .now) (a .saved .now) (a .worker) (a .call)) (a .cells .now) (c7 .plan-word .ensures) (c6 .plan-word2 .ensures) (omega (arith, c .before .before .before .before .before .if1 .left, c .before .before .before .before .if2 .left)) (omega arith) (c .before .before .before .code-at .ensures) (c .before .step-decoded .ensures (a .block .now))
 
 pub step-instr-spec : {M : Type 1} → statement M
 step-instr-spec =

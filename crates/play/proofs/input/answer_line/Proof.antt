@@ -1,4 +1,4 @@
--- `play::input::answer_line` meets its contract: an accepted move has no text, and every other answer that of a refused move. Assumes nothing.
+-- `play::input::answer_line` meets its contract: an accepted move has no text, and every other answer that of a refused move.
 use borrow.Author.Needs.{needs}
 use Rattle.play.proofs.AnswerLaws.{answer-none, answer-some}
 use Rattle.play.proofs.input.answer_line.Statement.{statement}

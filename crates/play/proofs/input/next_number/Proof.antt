@@ -1,4 +1,4 @@
--- `play::input::next_number` meets its contract: its test is that of the definition. Assumes nothing.
+-- `play::input::next_number` meets its contract: its test is that of the definition.
 use borrow.Author.Needs.{needs}
 use borrow.Author.Tests.{lt-ltb, le-ltb}
 use Rattle.console.specs.Register.{nextNumber}

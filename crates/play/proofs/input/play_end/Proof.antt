@@ -1,4 +1,4 @@
--- `play::input::play_end` meets its contract: an empty rest is no line, and every other is played. Assumes nothing.
+-- `play::input::play_end` meets its contract: an empty rest is no line, and every other is played.
 use borrow.Author.Needs.{needs}
 use Rattle.play.proofs.AnswerLaws.{end-empty, end-line}
 use Rattle.play.proofs.input.play_end.Statement.{statement}
@@ -8,7 +8,9 @@ enum-told : tie.Need-enum-told
 enum-told c = search needs
 
 returns : tie.Need-returns
-returns c = let a = c .before .before .before .before .before .before .before .before .args in end-empty (a .block .now) (a .s .number) (a .s .line) _ _ (c .enum-told .given .1)
+returns c =
+    let c8 = c .before .before .before .before .before .before .before .before in
+    let a = c8 .args in end-empty (a .block .now) (a .s .number) (a .s .line) _ _ (c .enum-told .given .1)
 
 play-line-requires : tie.Need-play-line-requires
 play-line-requires c κs = search needs
@@ -26,7 +28,11 @@ same-length-4 : tie.Need-same-length-4
 same-length-4 c = search needs
 
 returns-2 : tie.Need-returns-2
-returns-2 c = let a = c .before .before .before .before .before .before .before .before .before .before .before .before .before .before .before .before .before .before .before .args in end-line (a .block .now) (a .s .number) (a .s .line) _ _ (c .before .before .before .before .before .before .before .before .before .before .before .before .match .keys2) (c .before .before .before .before .before .before .before .play-line .ensures)
+returns-2 c =
+    let c7 = c .before .before .before .before .before .before .before in
+    let c12 = c7 .before .before .before .before .before in
+    let c19 = c12 .before .before .before .before .before .before .before in
+    let a = c19 .args in end-line (a .block .now) (a .s .number) (a .s .line) _ _ (c12 .match .keys2) (c7 .play-line .ensures)
 
 pub play-end-spec : {M : Type 1} → statement M
 play-end-spec =

@@ -1,4 +1,4 @@
--- `play::input::play_line` meets its contract: the line names a move, which is made and answered, or none. Assumes nothing.
+-- `play::input::play_line` meets its contract: the line names a move, which is made and answered, or none.
 use borrow.Author.Needs.{needs}
 use Rattle.moves.specs.Lent.{lent}
 use Rattle.machine.specs.declared.Head.{Head}
@@ -20,8 +20,8 @@ play-malformed-requires c κs = search needs
 enum-known-m : tie.Need-enum-known-m
 enum-known-m c = search needs
 
-make-requires : tie.Need-make-requires
-make-requires c κs = search needs
+apply-move-requires : tie.Need-apply-move-requires
+apply-move-requires c κs = search needs
 
 answer-line-requires : tie.Need-answer-line-requires
 answer-line-requires c κs = search needs
@@ -33,7 +33,10 @@ same-length : tie.Need-same-length
 same-length c = search needs
 
 returns : tie.Need-returns
-returns c = let a = c .before .before .before .before .before .before .before .before .before .before .before .before .args in line-none (a .block .now) (a .number) (a .line) _ _ _ _ _ (ap asMove (sym (c .before .before .before .before .enum-told .given .1)) ∙ c .before .before .before .before .before .before .line-move .ensures) (c .before .before .play-malformed .ensures .0) (ap (λ (h : Head). lent h (a .plan .now) (a .keys .now) (a .cells .now) (a .status .now) (a .olds .now)) (c .before .before .play-malformed .ensures .1 .0)) (c .before .before .play-malformed .ensures .1 .1)
+returns c =
+    let c6 = c .before .before .before .before .before .before in
+    let c12 = c6 .before .before .before .before .before .before in
+    let a = c12 .args in line-none (a .block .now) (a .number) (a .line) _ _ _ _ _ (ap asMove (sym (c .before .before .before .before .enum-told .given .1)) ∙ c6 .line-move .ensures) (c .before .before .play-malformed .ensures .0) (ap (λ (h : Head). lent h (a .plan .now) (a .keys .now) (a .cells .now) (a .status .now) (a .saved .now)) (c .before .before .play-malformed .ensures .1 .0)) (c .before .before .play-malformed .ensures .1 .1)
 
 same-length-2 : tie.Need-same-length-2
 same-length-2 c = search needs
@@ -48,7 +51,12 @@ same-length-5 : tie.Need-same-length-5
 same-length-5 c = search needs
 
 returns-2 : tie.Need-returns-2
-returns-2 c = let a = c .before .before .before .before .before .before .before .before .before .before .before .before .before .before .before .before .before .before .before .before .before .before .before .args in line-some (a .block .now) (a .number) (a .line) _ _ _ _ _ (c .before .before .before .before .before .before .before .before .before .before .before .before .before .before .before .m .given .0 .0) (ap asMove (sym (c .before .before .before .before .before .before .before .before .before .before .before .before .before .before .before .m .given .1)) ∙ c .before .before .before .before .before .before .before .before .before .before .before .before .before .before .before .before .before .line-move .ensures) (c .next-number .ensures) (c .before .before .before .before .before .before .before .before .before .before .make .ensures) (c .before .before .before .answer-line .ensures)
+returns-2 c =
+    let c10 = c .before .before .before .before .before .before .before .before .before .before in
+    let c15 = c10 .before .before .before .before .before in
+    let c17 = c15 .before .before in
+    let c23 = c17 .before .before .before .before .before .before in
+    let a = c23 .args in line-some (a .block .now) (a .number) (a .line) _ _ _ _ _ (c15 .m .given .0 .0) (ap asMove (sym (c15 .m .given .1)) ∙ c17 .line-move .ensures) (c .next-number .ensures) (c10 .apply-move .ensures) (c .before .before .before .answer-line .ensures)
 
 pub play-line-spec : {M : Type 1} → statement M
 play-line-spec =
@@ -58,7 +66,7 @@ play-line-spec =
     enum-told
     play-malformed-requires
     enum-known-m
-    make-requires
+    apply-move-requires
     answer-line-requires
     next-number-requires
     same-length

@@ -1,4 +1,4 @@
--- `play::input::play_malformed` meets its contract: the line of a refused move is written, and the number is raised. Assumes nothing.
+-- `play::input::play_malformed` meets its contract: the line of a refused move is written, and the number is raised.
 use borrow.Author.Needs.{needs}
 use mathlib.Core.Path.{refl}
 use Rattle.play.proofs.input.play_malformed.Statement.{statement}

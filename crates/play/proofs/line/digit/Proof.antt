@@ -1,4 +1,4 @@
--- `play::line::digit` meets its contract: a digit is at least the character 0. Assumes nothing.
+-- `play::line::digit` meets its contract: a digit is at least the character 0.
 use borrow.Author.Needs.{needs}
 use native.Mathlib.Omega.{arith}
 use Rattle.play.proofs.LineLaws.{digit-known}

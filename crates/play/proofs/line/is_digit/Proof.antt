@@ -1,4 +1,4 @@
--- `play::line::is_digit` meets its contract: its two tests are those of the definition. Assumes nothing.
+-- `play::line::is_digit` meets its contract: its two tests are those of the definition.
 use Rattle.play.proofs.line.is_digit.Statement.{statement}
 use borrow.Author.Tests.{lt-leb, le-leb}
 use Rattle.play.proofs.line.is_digit.Tie as tie

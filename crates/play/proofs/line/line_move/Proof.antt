@@ -1,4 +1,4 @@
--- `play::line::line_move` meets its contract: each arm is a clause of the definition. Assumes nothing.
+-- `play::line::line_move` meets its contract: each arm is a clause of the definition.
 use borrow.Author.Needs.{needs}
 use Rattle.console.specs.Line.{lineMove}
 use Rattle.play.proofs.line.line_move.Statement.{statement}

@@ -1,4 +1,4 @@
--- `play::line::move_for` meets its contract: each arm is a clause of the definition. Assumes nothing.
+-- `play::line::move_for` meets its contract: each arm is a clause of the definition.
 use borrow.Author.Needs.{needs}
 use Rattle.console.specs.Line.{moveFor}
 use Rattle.play.proofs.line.move_for.Statement.{statement}

@@ -1,4 +1,4 @@
--- `play::line::read_byte` meets its contract: each arm is a clause of the definition. Assumes nothing.
+-- `play::line::read_byte` meets its contract: each arm is a clause of the definition.
 use borrow.Author.Needs.{needs}
 use Rattle.console.specs.Line.{readByte}
 use Rattle.play.proofs.line.read_byte.Statement.{statement}

@@ -1,4 +1,4 @@
--- `play::line::read_gap` meets its contract: each arm is a clause of the definition. Assumes nothing.
+-- `play::line::read_gap` meets its contract: each arm is a clause of the definition.
 use borrow.Author.Needs.{needs}
 use Rattle.console.specs.Line.{readGap}
 use Rattle.play.proofs.line.read_gap.Statement.{statement}

@@ -1,4 +1,4 @@
--- `play::line::read_last` meets its contract: a further digit of the second number is within the limits. Assumes nothing.
+-- `play::line::read_last` meets its contract: a further digit of the second number is within the limits.
 use borrow.Author.Needs.{needs}
 use borrow.Author.Tests.{not-true, not-false}
 use native.Mathlib.Omega.{arith}

@@ -1,4 +1,4 @@
--- `play::line::read_letter` meets its contract: the letters are tried in the order of the definition. Assumes nothing.
+-- `play::line::read_letter` meets its contract: the letters are tried in the order of the definition.
 use Rattle.play.proofs.line.read_letter.Statement.{statement}
 use borrow.Author.Tests.{eq-eqb, ne-eqb}
 use Rattle.console.specs.Line.{readLetter}

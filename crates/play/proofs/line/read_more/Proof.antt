@@ -1,4 +1,4 @@
--- `play::line::read_more` meets its contract: a further digit of the first number is within the limits. Assumes nothing.
+-- `play::line::read_more` meets its contract: a further digit of the first number is within the limits.
 use borrow.Author.Needs.{needs}
 use borrow.Author.Tests.{eq-eqb, ne-eqb}
 use native.Mathlib.Omega.{arith}

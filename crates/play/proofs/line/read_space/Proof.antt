@@ -1,4 +1,4 @@
--- `play::line::read_space` meets its contract: only a space follows the letter. Assumes nothing.
+-- `play::line::read_space` meets its contract: only a space follows the letter.
 use Rattle.play.proofs.line.read_space.Statement.{statement}
 use borrow.Author.Tests.{eq-eqb, ne-eqb}
 use Rattle.console.specs.Line.{readByte}

@@ -1,4 +1,4 @@
--- `play::line::takes_digit` meets its contract: its three tests are those of the definition. Assumes nothing.
+-- `play::line::takes_digit` meets its contract: its three tests are those of the definition.
 use borrow.Author.Needs.{needs}
 use Rattle.play.proofs.LineLaws.{takes-other, takes-many, takes-last}
 use Rattle.play.proofs.line.takes_digit.Statement.{statement}

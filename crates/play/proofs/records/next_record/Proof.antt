@@ -1,4 +1,4 @@
--- `play::records::next_record` meets its contract: each kind of record is one of the definition. Assumes nothing.
+-- `play::records::next_record` meets its contract: each kind of record is one of the definition.
 use borrow.Author.Needs.{needs}
 use Rattle.play.proofs.RecordLaws.{size-small, next-cell, next-receipt, next-other}
 use native.Mathlib.Omega.{arith}
@@ -33,10 +33,16 @@ same-length : tie.Need-same-length
 same-length c = search needs
 
 returns : tie.Need-returns
-returns c = next-cell (c .before .before .before .before .before .before .before .before .before .args .sheet .now) (c .before .before .before .before .before .before .before .before .before .args .p) _ (c .before .before .before .before .before .before .before .before .before .pre .1 .1) (c .before .before .before .before .before .before .before .before .before .pre .0) (c .before .before .before .before .before .before .get16 .ensures) (size-small (c .before .before .before .before .before .before .before .before .before .args .sheet .now) (c .before .before .before .before .before .before .before .before .before .args .p .at) (c .before .before .before .before .before .before .get16 .ensures) (λ i. c .before .before .before .before .before .before .before .before .shared-slice-known .given i .fits)) (c .before .before .before .before .before .get162 .ensures) (c .before .before .before .before .if1 .taken) (c .before .before .put-cell .ensures)
+returns c =
+    let c6 = c .before .before .before .before .before .before in
+    let c8 = c6 .before .before in
+    let c9 = c8 .before in
+    next-cell (c9 .args .sheet .now) (c9 .args .p) _ (c9 .pre .1 .1) (c9 .pre .0) (c6 .get16 .ensures) (size-small (c9 .args .sheet .now) (c9 .args .p .at) (c6 .get16 .ensures) (λ i. c8 .shared-slice-known .given i .fits)) (c .before .before .before .before .before .get162 .ensures) (c .before .before .before .before .if1 .taken) (c .before .before .put-cell .ensures)
 
 add-t20 : tie.Need-add-t20
-add-t20 c = omega (arith, c .before .before .before .before .before .before .pre .1 .0, c .before .before .before .before .before .before .pre .1 .1 .all, c .before .before .before .before .before .before .pre .1 .1 .place, c .before .before .before .before .before .before .pre .1 .1 .text, c .before .before .before .before .before .before .pre .1 .1 .calls, (size-small (c .before .before .before .before .before .before .args .sheet .now) (c .before .before .before .before .before .before .args .p .at) (c .before .before .before .get16 .ensures) (λ i. c .before .before .before .before .before .shared-slice-known .given i .fits)))
+add-t20 c =
+    let c6 = c .before .before .before .before .before .before in
+    omega (arith, c6 .pre .1 .0, c6 .pre .1 .1 .all, c6 .pre .1 .1 .place, c6 .pre .1 .1 .text, c6 .pre .1 .1 .calls, (size-small (c6 .args .sheet .now) (c6 .args .p .at) (c .before .before .before .get16 .ensures) (λ i. c .before .before .before .before .before .shared-slice-known .given i .fits)))
 
 add-t21 : tie.Need-add-t21
 add-t21 c = search needs
@@ -54,10 +60,17 @@ same-length-2 : tie.Need-same-length-2
 same-length-2 c = search needs
 
 returns-2 : tie.Need-returns-2
-returns-2 c = next-receipt (c .before .before .before .before .before .before .before .before .before .before .args .sheet .now) (c .before .before .before .before .before .before .before .before .before .before .args .p) _ (c .before .before .before .before .before .before .before .before .before .before .pre .1 .1) (c .before .before .before .before .before .before .before .before .before .before .pre .0) (c .before .before .before .before .before .before .before .get16 .ensures) (size-small (c .before .before .before .before .before .before .before .before .before .before .args .sheet .now) (c .before .before .before .before .before .before .before .before .before .before .args .p .at) (c .before .before .before .before .before .before .before .get16 .ensures) (λ i. c .before .before .before .before .before .before .before .before .before .shared-slice-known .given i .fits)) (c .before .before .before .before .before .before .get162 .ensures) (c .before .before .before .before .if2 .taken) (c .before .before .put-receipt .ensures)
+returns-2 c =
+    let c6 = c .before .before .before .before .before .before in
+    let c7 = c6 .before in
+    let c9 = c7 .before .before in
+    let c10 = c9 .before in
+    next-receipt (c10 .args .sheet .now) (c10 .args .p) _ (c10 .pre .1 .1) (c10 .pre .0) (c7 .get16 .ensures) (size-small (c10 .args .sheet .now) (c10 .args .p .at) (c7 .get16 .ensures) (λ i. c9 .shared-slice-known .given i .fits)) (c6 .get162 .ensures) (c .before .before .before .before .if2 .taken) (c .before .before .put-receipt .ensures)
 
 returns-3 : tie.Need-returns-3
-returns-3 c = next-other (c .before .before .before .before .before .before .args .sheet .now) (c .before .before .before .before .before .before .args .p) _ (c .before .before .before .before .before .before .pre .1 .1) (c .before .before .before .before .before .before .pre .0) (c .before .before .before .get16 .ensures) (size-small (c .before .before .before .before .before .before .args .sheet .now) (c .before .before .before .before .before .before .args .p .at) (c .before .before .before .get16 .ensures) (λ i. c .before .before .before .before .before .shared-slice-known .given i .fits)) (c .before .before .get162 .ensures) (c .before .if1 .left) (c .if2 .left)
+returns-3 c =
+    let c6 = c .before .before .before .before .before .before in
+    next-other (c6 .args .sheet .now) (c6 .args .p) _ (c6 .pre .1 .1) (c6 .pre .0) (c .before .before .before .get16 .ensures) (size-small (c6 .args .sheet .now) (c6 .args .p .at) (c .before .before .before .get16 .ensures) (λ i. c .before .before .before .before .before .shared-slice-known .given i .fits)) (c .before .before .get162 .ensures) (c .before .if1 .left) (c .if2 .left)
 
 pub next-record-spec : {M : Type 1} → statement M
 next-record-spec =

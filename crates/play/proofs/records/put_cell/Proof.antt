@@ -1,6 +1,6 @@
--- `play::records::put_cell` meets its contract: the numbers of the line are those of the body. Assumes nothing.
+-- `play::records::put_cell` meets its contract: the numbers of the line are those of the body.
 use borrow.Author.Needs.{needs}
-use Rattle.arith.proofs.Laws.{back}
+use Rattle.arith.proofs.Laws.{read-back}
 use mathlib.Core.Path.{_∙_}
 use Rattle.play.proofs.RecordLaws.{cell-put}
 use Rattle.play.proofs.records.put_cell.Statement.{statement}
@@ -40,7 +40,12 @@ same-length : tie.Need-same-length
 same-length c = search needs
 
 returns : tie.Need-returns
-returns c = cell-put (c .before .before .before .before .before .before .before .before .before .before .before .args .sheet .now) (c .before .before .before .before .before .before .before .before .before .before .before .args .body) (c .before .before .before .before .before .before .before .before .get16 .ensures) (c .before .before .before .before .before .before .before .get162 .ensures) (c .before .before .before .before .before .before .get32 .ensures) (c .before .before .before .before .before .get322 .ensures) (back (record { sfits = c .before .before .before .before .get-i64 .ok }) ∙ c .before .before .before .before .get-i64 .ensures) (c .before .before .cell-line .ensures)
+returns c =
+    let c6 = c .before .before .before .before .before .before in
+    let c7 = c6 .before in
+    let c8 = c7 .before in
+    let c11 = c8 .before .before .before in
+    cell-put (c11 .args .sheet .now) (c11 .args .body) (c8 .get16 .ensures) (c7 .get162 .ensures) (c6 .get32 .ensures) (c .before .before .before .before .before .get322 .ensures) (read-back (record { sfits = c .before .before .before .before .get-i64 .ok }) ∙ c .before .before .before .before .get-i64 .ensures) (c .before .before .cell-line .ensures)
 
 pub put-cell-spec : {M : Type 1} → statement M
 put-cell-spec =

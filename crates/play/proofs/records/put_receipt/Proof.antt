@@ -1,4 +1,4 @@
--- `play::records::put_receipt` meets its contract: the numbers of the line are those of the body. Assumes nothing.
+-- `play::records::put_receipt` meets its contract: the numbers of the line are those of the body.
 use borrow.Author.Needs.{needs}
 use Rattle.play.proofs.RecordLaws.{receipt-put}
 use Rattle.play.proofs.records.put_receipt.Statement.{statement}
@@ -20,7 +20,9 @@ same-length : tie.Need-same-length
 same-length c = search needs
 
 returns : tie.Need-returns
-returns c = receipt-put (c .before .before .before .before .before .before .before .before .args .sheet .now) (c .before .before .before .before .before .before .before .before .args .body) (c .before .before .before .before .before .before .before .before .args .call) (c .before .before .before .before .before .get16 .ensures) (c .before .before .before .before .get162 .ensures) (c .before .before .receipt-line .ensures)
+returns c =
+    let c8 = c .before .before .before .before .before .before .before .before in
+    receipt-put (c8 .args .sheet .now) (c8 .args .body) (c8 .args .call) (c .before .before .before .before .before .get16 .ensures) (c .before .before .before .before .get162 .ensures) (c .before .before .receipt-line .ensures)
 
 pub put-receipt-spec : {M : Type 1} → statement M
 put-receipt-spec =

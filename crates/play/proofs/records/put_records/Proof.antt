@@ -1,4 +1,4 @@
--- `play::records::put_records` meets its contract: what is written and what is left make up the whole text at every turn. Assumes nothing.
+-- `play::records::put_records` meets its contract: what is written and what is left make up the whole text at every turn.
 use Rattle.play.proofs.records.put_records.Statement.{statement}
 use borrow.Author.Needs.{needs}
 use lib.ListN.{length}
@@ -16,13 +16,17 @@ loop-holds : tie.Need-loop-holds Inv-loop μ-loop
 loop-holds c = (printing-start _ _, refl)
 
 next-record-requires : tie.Need-next-record-requires Inv-loop μ-loop
-next-record-requires c κs = (c .before .if1 .taken, (c .before .before .before .before .before .before .pre, c .before .before .before .loop .inv .0 .within))
+next-record-requires c κs =
+    let c6 = c .before .before .before .before .before .before in
+    (c .before .if1 .taken, (c6 .pre, c .before .before .before .loop .inv .0 .within))
 
 loop-less : tie.Need-loop-less Inv-loop μ-loop
 loop-less c = c .before .before .next-record .ensures .less
 
 loop-again : tie.Need-loop-again Inv-loop μ-loop
-loop-again c = (printing-on (c .before .before .before .before .before .before .loop .inv .0) (c .before .before .next-record .ensures), search needs)
+loop-again c =
+    let c6 = c .before .before .before .before .before .before in
+    (printing-on (c6 .loop .inv .0) (c .before .before .next-record .ensures), search needs)
 
 same-length : tie.Need-same-length Inv-loop μ-loop
 same-length c = search needs

@@ -1,8 +1,8 @@
--- `play::records::sheet_text` meets its contract: the records of the first bytes are written. Assumes nothing.
+-- `play::records::sheet_text` meets its contract: the records of the first bytes are written.
 use borrow.Author.Needs.{needs}
 use Rattle.block.proofs.Laws.{cut-length}
 use native.Mathlib.Omega.{arith}
-use Rattle.play.proofs.GoingLaws.{at-most-fits, take-most}
+use Rattle.play.proofs.PlayingLaws.{at-most-fits, take-most}
 use Rattle.play.proofs.records.sheet_text.Statement.{statement}
 use Rattle.play.proofs.records.sheet_text.Tie as tie
 
@@ -19,7 +19,9 @@ same-length : tie.Need-same-length
 same-length c = search needs
 
 returns : tie.Need-returns
-returns c = rw (← take-most (c .before .before .before .before .before .before .before .before .args .sheet .now) (c .before .before .before .before .before .before .before .before .args .n) (c .before .before .before .before .before .at-most .ensures)) (c .before .before .put-records .ensures)
+returns c =
+    let c8 = c .before .before .before .before .before .before .before .before in
+    rw (← take-most (c8 .args .sheet .now) (c8 .args .n) (c .before .before .before .before .before .at-most .ensures)) (c .before .before .put-records .ensures)
 
 pub sheet-text-spec : {M : Type 1} → statement M
 sheet-text-spec =

@@ -1,8 +1,0 @@
--- The reader is exact: it accepts the files of the contents that keep document 01's rules, and no others, each as what it holds. Assumes nothing.
-use Rattle.block.specs.Encoding.{ReaderExact}
-use Rattle.block.specs.ReadsWhole.{reads-whole}
-use Rattle.block.specs.ReadsOnly.{reads-only}
-use Rattle.block.specs.OneFile.{file-one}
-
-pub reader-exact : ReaderExact
-reader-exact = record { whole = reads-whole; only = reads-only; one = file-one }

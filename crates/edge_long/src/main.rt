@@ -1,6 +1,0 @@
-// REGISTER on an edge: a block.bin of 65,537 bytes, which is refused.
-
-fn main() {
-    let mut transcript = [0u8; 0];
-    running::register(&mut transcript);
-}

@@ -1,0 +1,124 @@
+-- Views that differ in their buffers of keys alone, where the buffers have the same word at every place: a step of a call is the same by
+-- both.
+use mathlib.Core.Path.{_≡_, refl, ap, ap₂, _∙_}
+use mathlib.Core.Bool.{Bool, _&&_, _||_, not}
+use mathlib.Core.List.{List, [], _∷_}
+use Prim.Native.Nat.{ℕ, _+_, _-_, _*_}
+use lib.IntN.{ℤ}
+use lib.Signed.{ltZ, nonNeg}
+use lib.Dec.{eqb, leb, ltb}
+use lib.ListN.{length, getD, drop}
+use Rattle.arith.specs.Choice.{if_then_else_}
+use Rattle.block.specs.Limits.{maxCallKeys, maxKeys}
+use Rattle.block.specs.Instruction.{instrBytes, decode}
+use Rattle.block.specs.declared.Decoded.{Decoded}
+use Rattle.block.specs.declared.Decoded.the-variants.{Valid, Invalid}
+use Rattle.footprint.specs.Access.{Access, accesses, entryAccesses}
+use Rattle.footprint.specs.Plan.{highWord, lowWord, entryCell, entryReads, entryWrites}
+use Rattle.machine.specs.Run.{hasKey}
+use Rattle.machine.specs.Action.{instrAction, entryAction}
+use Rattle.block.specs.Outcomes.{ended, unknownFunction}
+use Rattle.machine.specs.Step.{View, Local, Stepped, damaged, done, cellAt, findEntry, lookup, finish, loadCell, storeCell, depositCell, transferCells, accessAt, perform, stepEntry, stepDecoded, stepInstr, stepCall}
+use Rattle.machine.specs.declared.Next.{Next}
+use Rattle.machine.specs.declared.Next.the-variants.{Go, End, Load, Store, Transfer}
+use Rattle.machine.specs.declared.Lookup.{Lookup}
+use Rattle.machine.specs.declared.Lookup.the-variants.{Cell, NoCell}
+
+-- ---- one step
+
+-- The view with other words for its table of keys.
+abbrev pub viewWithKeys : View → List ℕ → View
+viewWithKeys v keys =
+    record {
+      block = v .block;
+      call = v .call;
+      start = v .start;
+      code = v .code;
+      count = v .count;
+      entries = v .entries;
+      keys = keys;
+    }
+
+abbrev pub SameWords : List ℕ → List ℕ → Type 0
+SameWords keys keys′ = (i : ℕ) → getD keys i 0 ≡ getD keys′ i 0
+
+has-same : (keys keys′ : List ℕ) → SameWords keys keys′ → (n k : ℕ) → hasKey keys n k ≡ hasKey keys′ n k
+has-same keys keys′ same n k =
+    ap₂ (λ (high low : ℕ). eqb high (highWord k) && eqb low (lowWord k)) (same (2 * n)) (same (2 * n + 1))
+
+find-same : (keys keys′ : List ℕ) → SameWords keys keys′ → (es : List ℕ) (a : Access) → findEntry keys es a ≡ findEntry keys′ es a
+unfolding findEntry
+find-same keys keys′ same [] a = refl
+find-same keys keys′ same (e ∷ es) a =
+    ap₂
+    (λ (t : Bool) (rest : Lookup).
+    if not (ltb (entryCell e) maxKeys)
+    then NoCell
+    else if t
+    then (if (not (a .reads) || entryReads e) && (not (a .writes) || entryWrites e) then Cell (entryCell e) else NoCell)
+    else rest)
+    (has-same keys keys′ same (entryCell e) (a .key)) (find-same keys keys′ same es a)
+
+module _ (v : View) (keys : List ℕ) (same : SameWords (v .keys) keys) (l : Local) (cells : List ℤ) where
+  abbrev w : View
+  w = viewWithKeys v keys
+
+  lookup-same : (a : Access) → lookup v a ≡ lookup w a
+  unfolding lookup
+  lookup-same a =
+      ap (λ (k : Lookup). if leb (v .count) maxCallKeys then k else NoCell) (find-same (v .keys) keys same (v .entries) a)
+
+  transfer-same : (count : ℕ) (regs : List ℤ) (amount : ℤ) (short : ℕ) (to : Access) (k : Lookup)
+      → transferCells v l count regs amount short to cells k ≡ transferCells w l count regs amount short to cells k
+  unfolding transferCells finish
+  transfer-same count regs amount short to NoCell = refl
+  transfer-same count regs amount short to (Cell n) =
+      ap
+      (λ (k : Lookup).
+      if not (nonNeg (cellAt cells n))
+      then damaged
+      else if ltZ (cellAt cells n) amount
+      then finish v l count short cells
+      else depositCell l count regs amount n cells k)
+      (lookup-same to)
+
+  perform-same : (count : ℕ) (as′ : List Access) (regs : List ℤ) (next : Next)
+      → perform v l count as′ regs next cells ≡ perform w l count as′ regs next cells
+  unfolding perform finish
+  perform-same count as′ regs (Go place) = refl
+  perform-same count as′ regs (End outcome) = refl
+  perform-same count as′ regs (Load x) =
+      ap (loadCell l count regs x (accessAt as′ 0) cells) (lookup-same (accessAt as′ 0))
+  perform-same count as′ regs (Store value) = ap (storeCell l count regs value cells) (lookup-same (accessAt as′ 0))
+  perform-same count as′ regs (Transfer amount short) =
+      ap (transferCells v l count regs amount short (accessAt as′ 1) cells) (lookup-same (accessAt as′ 0))
+      ∙ transfer-same count regs amount short (accessAt as′ 1) (lookup w (accessAt as′ 0))
+
+  entry-same : stepEntry v l cells ≡ stepEntry w l cells
+  unfolding stepEntry
+  entry-same =
+      ap (λ (t : Stepped). if eqb (v .code) 0 then done unknownFunction (l .count) cells else t)
+      (perform-same (l .count) (entryAccesses (v .call)) (entryAction (v .call) (l .regs) .regs) (entryAction (v .call) (l .regs) .next))
+
+  decoded-same : (d : Decoded) → stepDecoded v l cells d ≡ stepDecoded w l cells d
+  unfolding stepDecoded
+  decoded-same Invalid = refl
+  decoded-same (Valid i) =
+      perform-same (l .count + 1) (accesses (v .call) i) (instrAction (v .call) (l .place) (l .regs) i .regs)
+      (instrAction (v .call) (l .place) (l .regs) i .next)
+
+  instr-same : stepInstr v l cells ≡ stepInstr w l cells
+  unfolding stepInstr
+  instr-same =
+      ap (λ (t : Stepped). if leb (v .start + instrBytes * (v .code - 1)) (length (v .block)) then t else damaged)
+      (decoded-same
+      (decode (l .place - 1) (v .code - 1)
+      (drop (v .start + instrBytes * (l .place - 1)) (v .block))))
+
+  pub step-same : stepCall v l cells ≡ stepCall (viewWithKeys v keys) l cells
+  unfolding stepCall
+  step-same =
+      ap₂
+      (λ (first other : Stepped).
+      if eqb (l .place) 0 then first else if eqb (l .place) (v .code) then done ended (l .count) cells else other)
+      entry-same instr-same

@@ -1,0 +1,159 @@
+-- BEGIN on a lent run follows the machine: the tests 20 to 25 answer alike, and an accepted call runs at its entry with its old values kept.
+use mathlib.Core.Path.{_≡_, refl, sym, ap, ap₂, subst⁻¹, _∙_}
+use mathlib.Core.Bool.{Bool, true, false, cond, not, _&&_, _||_}
+use mathlib.Core.List.{List}
+use Prim.Native.Nat.{ℕ, zero, suc, _*_, _≤_, _<_}
+use native.Mathlib.Omega.{arith}
+use borrow.Author.Tests.{leb-false, le-ltb, not-false}
+use lib.Dec.{eqb, leb, ltb}
+use lib.IntN.{ℤ}
+use lib.ListN.{length, take, drop}
+use Rattle.wire.specs.Bytes.{stored}
+use Rattle.wire.proofs.BytesLaws.{stored-length}
+use Rattle.wire.specs.Rows.{inRow}
+use Rattle.block.specs.Limits.{maxCalls, maxCallKeys}
+use Rattle.schedule.proofs.RunLaws.{one-answer}
+use Rattle.schedule.specs.Tally as tally
+use Rattle.schedule.specs.Tally.{blocked, refusal}
+use Rattle.schedule.specs.declared.Move.the-variants.{Begin}
+use Rattle.schedule.specs.Machine as schedule
+use Rattle.schedule.specs.Machine.{active, isReady, isEnded, Machine}
+use Rattle.machine.specs.Run.{Run, seatOf, stateOf, isState, rowIn, withState, running, finished}
+use Rattle.machine.specs.Step.{savedOf}
+use Rattle.machine.specs.Moves.{Moved, callKeyCount, ownEntries, earlierBroken, earlierFinished, beginCall, beginChecked, beginOf}
+use Rattle.machine.specs.Answer.{answerNumber}
+use Rattle.machine.specs.declared.Answer.the-variants.{NoWorker, NoCall, WorkerBusy, NotWaiting, EarlierUnfinished}
+use Rattle.guarantees.proofs.CallsOfRun.ViewCalls.{atEntry}
+use Rattle.guarantees.proofs.FollowingMachine.RunMatches.{seatAt, Base, callsIn, Matches}
+use Rattle.guarantees.proofs.FollowingMachine.BufferLaws.{state-here, state-there, state-length, saved-length, saved-own, saved-other}
+use Rattle.guarantees.proofs.FollowingMachine.ChangeMatches.{changed, CallChange, change-matches, call-few-keys}
+use Rattle.guarantees.proofs.FollowingMachine.Follows.{Follows, refused, passes, tests, large, sized, SeatRead, follows-seat, StateRead, call-read, can-restore}
+
+-- ---- the states of the earlier conflicting calls
+
+none-broken : (row status : List ℕ) (k : ℕ) → ((i : ℕ) → i < k → isState (stateOf status i) ≡ true) → earlierBroken row status k ≡ false
+unfolding earlierBroken
+none-broken row status zero h = refl
+none-broken row status (suc k) h = rw (h k (omega arith)) (go (inRow row k) (none-broken row status k (λ i l. h i (omega arith))))
+  where
+    go : (b : Bool) → earlierBroken row status k ≡ false → ((b && not true) || earlierBroken row status k) ≡ false
+    go true e = e
+    go false e = e
+
+-- One earlier call more: all are finished unless it is one to wait for and is not.
+one-more : (a d f : Bool) → not ((not a || d) && f) ≡ ((a && not d) || not f)
+one-more true true f = refl
+one-more true false f = refl
+one-more false d f = refl
+
+finished-blocked : (row status : List ℕ) (before : ℕ → ℕ → Bool) (done : ℕ → Bool) (c k : ℕ)
+    → ((i : ℕ) → i < k → inRow row i ≡ before i c) → ((i : ℕ) → i < k → eqb (stateOf status i) finished ≡ done i)
+    → not (earlierFinished row status k) ≡ blocked before done c k
+unfolding earlierFinished blocked
+finished-blocked row status before done c zero f g = refl
+finished-blocked row status before done c (suc k) f g =
+    one-more (inRow row k) (eqb (stateOf status k) finished) (earlierFinished row status k)
+    ∙ ap₂ (λ (b t : Bool). b || t) (ap₂ (λ (a d : Bool). a && not d) (f k (omega arith)) (g k (omega arith)))
+    (finished-blocked row status before done c k (λ i l. f i (omega arith)) (λ i l. g i (omega arith)))
+
+module _ (file : List ℕ) (workers n : ℕ) (before : ℕ → ℕ → Bool) (r₀ : Run) (base : Base file workers n before r₀)
+    (M : Machine (callsIn file n before r₀)) (r : Run) (m : Matches file workers n before r₀ M r) (w c : ℕ) where
+  -- The old values that are kept.
+  abbrev own-saved : List ℤ
+  own-saved = savedOf (ownEntries (r₀ .plan) c) (M .cells)
+
+  abbrev saved : List ℤ
+  saved = stored (r .saved) (maxCallKeys * w) own-saved
+
+  module _ (worker : w < workers) (call : c < n) (free : tally.isIdle (M .seat w) ≡ true) (waits : isReady (M .call c) ≡ true) where
+    saved-size : length own-saved ≡ callKeyCount (r₀ .plan) c
+    saved-size = saved-length (ownEntries (r₀ .plan) c) (M .cells) ∙ sym (base .tidy c call .count)
+
+    few-saved : length own-saved ≤ maxCallKeys
+    few-saved = omega (arith, saved-size, call-few-keys file workers n before r₀ base c call)
+
+    change : CallChange file workers n before r₀ base M r w c (active atEntry own-saved) (seatAt c atEntry) (M .cells) (withState (r .status) c running) saved
+    change =
+        record {
+          worker = worker;
+          call = call;
+          mine = λ d e. one-answer free (ap tally.isIdle e);
+          sole = λ u e. one-answer waits (ap isReady (m .holds u c e .runs));
+          cellLength = ap length (sym (m .cells));
+          statusLength = state-length (r .status) c running;
+          oldLength = stored-length own-saved (r .saved) (maxCallKeys * w);
+          stands =
+              let room : 256 * 4 ≤ length (r .status) = large file workers n before r₀ base M r m .status in
+              let few : n ≤ 256 = base .fewCalls in
+              state-here (r .status) c running (omega arith);
+          others = λ d k x l. state-there (r .status) c running d k x l;
+          seated =
+              record {
+                seated = refl;
+                old =
+                    let room : 8 * 24 ≤ length (r .saved) = large file workers n before r₀ base M r m .saved in
+                    let few : workers ≤ 8 = base .fewWorkers in
+                    ap (λ (k : ℕ). take k (drop (24 * w) saved)) (sym saved-size) ∙ saved-own (r .saved) w own-saved (omega (arith, few-saved));
+                within = omega arith;
+                counted = omega arith;
+              };
+          elsewhere = λ u k x l. saved-other (r .saved) w own-saved few-saved u k x l;
+        }
+
+    -- The lent run's own cells and plan are those of the machine.
+    begun : Matches file workers n before r₀ (schedule.machineBegin (callsIn file n before r₀) M w c) (beginCall r w c)
+    unfolding schedule.machineBegin beginCall
+    begun =
+        subst⁻¹ (Matches file workers n before r₀ (schedule.settleCall (callsIn file n before r₀) M w c (M .cells) (active atEntry own-saved)))
+        (λ i. changed r w (seatAt c atEntry) (m .cells i) (withState (r .status) c running)
+        (stored (r .saved) (maxCallKeys * w) (savedOf (ownEntries (m .plan i) c) (m .cells i))))
+        (change-matches file workers n before r₀ base M r m w c (active atEntry own-saved) (seatAt c atEntry) (M .cells) (withState (r .status) c running) saved
+        change)
+
+  abbrev after : Machine (callsIn file n before r₀)
+  after = schedule.machineBegin (callsIn file n before r₀) M w c
+
+  abbrev Follow : ℕ → Moved → Type 0
+  Follow = Follows file workers n before r₀ M after
+
+  abbrev done : ℕ → Bool
+  done i = isEnded (M .call i)
+
+  checked : w < workers → c < n → tally.isIdle (M .seat w) ≡ true
+      → Follow (cond (not (isReady (M .call c))) 24 (cond (blocked before done c c) 25 0)) (beginChecked r w c)
+  unfolding beginChecked answerNumber
+  checked worker call free =
+      let state : StateRead (stateOf (r .status) c) (M .call c) = call-read file workers n before r₀ base M r m c call in
+      passes file workers n before r₀ _ _ _ (ap not (state .known))
+      (tests file workers n before r₀ 24 _ _ _ _ (not (isReady (M .call c))) (ap not (state .waits))
+      (λ e. refused file workers n before r₀ m NotWaiting 23 refl)
+      (λ e.
+      passes file workers n before r₀ _ _ _
+      (none-broken (rowIn (r .plan) c) (r .status) c (λ i l. call-read file workers n before r₀ base M r m i (omega arith) .known))
+      (tests file workers n before r₀ 25 0 _ _ _ (blocked before done c c)
+      (finished-blocked (rowIn (r .plan) c) (r .status) before done c c
+      (λ i l. ap (λ (plan : List ℕ). inRow (rowIn plan c) i) (m .plan) ∙ base .row i c l call)
+      (λ i l. call-read file workers n before r₀ base M r m i (omega arith) .ends))
+      (λ f. refused file workers n before r₀ m EarlierUnfinished 24 refl)
+      (λ f.
+      passes file workers n before r₀ _ _ _ (ap not (can-restore file workers n before r₀ base M r m c call))
+      (record { same = refl; run = begun worker call free (not-false (isReady (M .call c)) e) })))))
+
+  pub begin-follows : Follow (refusal workers n before (λ i. isReady (M .call i)) done (M .seat) (Begin w c)) (beginOf r w c)
+  unfolding refusal beginOf answerNumber
+  begin-follows =
+      passes file workers n before r₀ _ _ _ (sized file workers n before r₀ base M r m)
+      (tests file workers n before r₀ 21 _ _ _ _ (leb workers w) (ap (λ (k : ℕ). leb k w) (m .workerCount))
+      (λ e. refused file workers n before r₀ m NoWorker 20 refl)
+      (λ e.
+      let worker : w < workers = leb-false workers w e in
+      let seat : SeatRead file workers n before r₀ base M r m w = follows-seat file workers n before r₀ base M r m w worker in
+      passes file workers n before r₀ _ _ _ (ap (ltb maxCalls) (m .callCount) ∙ le-ltb maxCalls n (base .fewCalls))
+      (tests file workers n before r₀ 22 _ _ _ _ (leb n c) (ap (λ (k : ℕ). leb k c) (m .callCount))
+      (λ f. refused file workers n before r₀ m NoCall 21 refl)
+      (λ f.
+      passes file workers n before r₀ _ _ _
+      (ap (λ (k : ℕ). ltb k (seatOf (r .head) w .call)) (m .callCount) ∙ le-ltb n (seatOf (r .head) w .call) (seat .known))
+      (tests file workers n before r₀ 23 _ _ _ _ (not (tally.isIdle (M .seat w))) (ap not (seat .free))
+      (λ g. refused file workers n before r₀ m WorkerBusy 22 refl)
+      (λ g. checked worker (leb-false n c f) (not-false (tally.isIdle (M .seat w)) g)))))))

@@ -1,0 +1,110 @@
+-- When a lent run stands for a state of the worker machine over the calls of an opened block.
+use mathlib.Core.Path.{_≡_}
+use mathlib.Core.Bool.{Bool, true}
+use mathlib.Core.List.{List}
+use Prim.Native.Nat.{ℕ, _+_, _-_, _*_, _≤_, _<_}
+use lib.IntN.{ℤ}
+use lib.ListN.{length, drop}
+use Rattle.wire.specs.Rows.{inRow}
+use Rattle.block.specs.Limits.{maxCalls, maxWorkers}
+use Rattle.block.specs.Record.{headBytes, callBytes, callOf}
+use Rattle.block.specs.declared.Call.{Call}
+use Rattle.block.specs.declared.CallBody.the-variants.{InRange}
+use Rattle.schedule.specs.Calls.{Calls}
+use Rattle.schedule.specs.Tally as tally
+use Rattle.schedule.specs.declared.Move.{Move}
+use Rattle.schedule.specs.declared.Move.the-variants.{Begin, Step, Cancel}
+use Rattle.schedule.specs.Machine.{Activity, ready, active, ended, Machine}
+use Rattle.machine.specs.Run.{Run, sizesOf, largeEnough, seatOf, idleSeat, planWord, rowIn, stateOf, statusWord, waiting, running, finished}
+use Rattle.machine.specs.Step.{damaged, stepCall}
+use Rattle.machine.specs.Moves.{callKeyCount, savedIn}
+use Rattle.machine.specs.declared.Seat.{Seat}
+use Rattle.guarantees.proofs.CallsOfRun.ViewCalls.{Place, placeWithSaved, Receipt, broken, receipt, viewCalls, Tidy, runView}
+
+-- What the machine has of a call.
+abbrev pub CallState : Type 0
+CallState = Activity Place (List ℤ) Receipt
+
+-- The status words of call c say it; no call is broken.
+abbrev pub StatusSays : List ℕ → ℕ → CallState → Type 0
+StatusSays status c ready = stateOf status c ≡ waiting
+StatusSays status c (active l saved) = stateOf status c ≡ running
+StatusSays status c (ended broken) = ⊥
+StatusSays status c (ended (receipt outcome count)) =
+    (stateOf status c ≡ finished) × (statusWord status c 1 ≡ outcome) × (statusWord status c 2 ≡ count)
+
+-- The seat of a worker that holds call c at that place.
+abbrev pub seatAt : ℕ → Place → Seat
+seatAt c l = record { call = c + 1; place = l .place; count = l .count; regs = l .regs }
+
+-- Worker w's seat and old values are those of the running call c, whose count is below its place. `r₀` is the run as it was opened.
+pub record RunningSeat (r₀ : Run) (saved : List ℤ) (seat : Seat) (w c : ℕ) (l : Place) (kept : List ℤ) : Type 0 where
+  pub seated : seat ≡ seatAt c l
+  pub old : savedIn saved w (callKeyCount (r₀ .plan) c) ≡ kept
+  pub within : l .place ≤ planWord (r₀ .plan) c 1
+  pub counted : l .count ≤ l .place - 1
+
+-- "A finished or cancelled call frees its worker": the seat of the worker of a call in that state.
+abbrev pub Seated : Run → List ℤ → Seat → ℕ → ℕ → CallState → Type 0
+Seated r₀ saved seat w c ready = seat ≡ idleSeat
+Seated r₀ saved seat w c (active l kept) = RunningSeat r₀ saved seat w c l kept
+Seated r₀ saved seat w c (ended r) = seat ≡ idleSeat
+
+-- A run r₀ as an opening leaves it for that many workers: its sizes, its n calls with their records, entries and code, and in
+-- each call's row the calls that are before it.
+pub record Base (file : List ℕ) (workers n : ℕ) (before : ℕ → ℕ → Bool) (r₀ : Run) : Type 0 where
+  pub large : largeEnough (sizesOf r₀) ≡ true
+  pub someWorkers : 0 < workers
+  pub fewWorkers : workers ≤ maxWorkers
+  pub fewCalls : n ≤ maxCalls
+  pub tidy : (c : ℕ) → c < n → Tidy (runView file r₀ c)
+  pub body : (c : ℕ) → c < n → (call : Call) × (callOf (drop (r₀ .head .«first_call» + (headBytes + callBytes) * c + headBytes) file) ≡ InRange call)
+  pub inside : (c : ℕ) → c < n → r₀ .head .«first_call» + (headBytes + callBytes) * c + (headBytes + callBytes) ≤ length file
+  pub row : (i c : ℕ) → i < c → c < n → inRow (rowIn (r₀ .plan) c) i ≡ before i c
+
+-- The calls of the run.
+abbrev pub callsIn : (file : List ℕ) (n : ℕ) (before : ℕ → ℕ → Bool) (r₀ : Run) → Calls
+callsIn file n before r₀ = viewCalls (runView file r₀) n before
+
+module _ (file : List ℕ) (n : ℕ) (before : ℕ → ℕ → Bool) (r₀ : Run) (M : Machine (callsIn file n before r₀)) where
+  -- The next step of the call that worker w holds does not find the run damaged.
+  abbrev pub StepWhole : ℕ → Type 0
+  StepWhole w =
+      (c : ℕ) (l : Place) (kept : List ℤ) → M .seat w ≡ tally.holds c → M .call c ≡ active l kept
+      → stepCall (runView file r₀ c) (placeWithSaved l kept) (M .cells) ≡ damaged → ⊥
+
+  -- The same of the step that a move makes, if it makes one.
+  abbrev pub UndamagedMove : Move → Type 0
+  UndamagedMove (Begin w c) = Unit {0}
+  UndamagedMove (Step w) = StepWhole w
+  UndamagedMove (Cancel w) = Unit {0}
+
+module _ (file : List ℕ) (workers n : ℕ) (before : ℕ → ℕ → Bool) (r₀ : Run) where
+  -- Worker w holds call c, which runs.
+  pub record HoldsRunning (M : Machine (callsIn file n before r₀)) (r : Run) (w c : ℕ) : Type 0 where
+    pub worker : w < workers
+    pub call : c < n
+    pub local : Place
+    pub kept : List ℤ
+    pub runs : M .call c ≡ active local kept
+    pub own : RunningSeat r₀ (r .saved) (seatOf (r .head) w) w c local kept
+
+  -- The run r stands for the machine's state M.
+  pub record Matches (M : Machine (callsIn file n before r₀)) (r : Run) : Type 0 where
+    -- what no move changes
+    pub plan : r .plan ≡ r₀ .plan
+    pub keys : r .keys ≡ r₀ .keys
+    pub workerCount : r .head .workers ≡ workers
+    pub callCount : r .head .calls ≡ n
+    pub cellCount : r .head .cells ≡ r₀ .head .cells
+    pub first : r .head .«first_call» ≡ r₀ .head .«first_call»
+    pub sizes : sizesOf r ≡ sizesOf r₀
+    pub seats : length (r .head .seats) ≡ maxWorkers
+    -- the cells, and each call
+    pub cells : r .cells ≡ M .cells
+    pub calls : (c : ℕ) → c < n → StatusSays (r .status) c (M .call c)
+    -- each worker: it is free or holds a running call, which no other holds; and each running call is held
+    pub idle : (w : ℕ) → w < workers → M .seat w ≡ tally.idle → seatOf (r .head) w ≡ idleSeat
+    pub holds : (w c : ℕ) → M .seat w ≡ tally.holds c → HoldsRunning M r w c
+    pub sole : (w u c : ℕ) → M .seat w ≡ tally.holds c → M .seat u ≡ tally.holds c → w ≡ u
+    pub worker : (c : ℕ) (l : Place) (kept : List ℤ) → M .call c ≡ active l kept → (w : ℕ) × (M .seat w ≡ tally.holds c)

@@ -1,0 +1,168 @@
+-- STEP on a lent run follows the machine: place, count and record pass the tests, and what the step leaves is what the machine's call leaves.
+use mathlib.Core.Path.{_≡_, refl, sym, ap, subst, subst⁻¹, _∙_}
+use mathlib.Core.Bool.{Bool, false, _||_}
+use mathlib.Core.List.{List}
+use Prim.Native.Nat.{ℕ, _+_, _-_, _*_, _≤_, _<_}
+use native.Mathlib.Omega.{arith}
+use borrow.Author.Tests.{le-ltb}
+use lib.Dec.{ltb}
+use lib.IntN.{ℤ}
+use lib.ListN.{length, drop}
+use Rattle.block.specs.Limits.{maxCode}
+use Rattle.block.specs.Record.{headBytes, callBytes, callOf}
+use Rattle.block.specs.declared.Call.{Call}
+use Rattle.block.specs.declared.CallBody.the-variants.{InRange}
+use Rattle.schedule.specs.Tally as tally
+use Rattle.schedule.specs.Tally.{refusal}
+use Rattle.schedule.specs.declared.Move.the-variants.{Step}
+use Rattle.schedule.specs.Machine as schedule
+use Rattle.schedule.specs.Machine.{active, ended, isReady, isEnded, activity, Machine, settleCall, stepWorker}
+use Rattle.analysis.proofs.GatheredLaws.{if-false}
+use Rattle.machine.specs.Run.{Run, seatOf, idleSeat, planWord, withReceipt}
+use Rattle.machine.specs.Step.{Local, Stepped, damaged, more, done, stepCall}
+use Rattle.machine.specs.Moves.{callKeyCount, ownEntries, savedIn, viewOf, localOf, stepped, stepRecord, stepHeld, stepFor, stepOf}
+use Rattle.machine.specs.Answer.{answerNumber}
+use Rattle.guarantees.proofs.CallsOfRun.ViewCalls.{placeWithSaved, receipt, pointOf, runView}
+use Rattle.guarantees.proofs.FollowingMachine.RunMatches.{StatusSays, Base, callsIn, StepWhole, HoldsRunning, Matches}
+use Rattle.guarantees.proofs.FollowingMachine.BufferLaws.{receipt-here, receipt-there, status-length}
+use Rattle.guarantees.proofs.FollowingMachine.StepKeeps.{PlaceKept, StepKept, broken, on, over, step-kept}
+use Rattle.guarantees.proofs.FollowingMachine.ChangeMatches.{CallChange, change-matches}
+use Rattle.guarantees.proofs.FollowingMachine.Follows.{Follows, large}
+use Rattle.guarantees.proofs.FollowingMachine.HeldMatches.{held-follows}
+use Rattle.guarantees.specs.RuleRun.{bodyCall}
+
+in-code : (code place : ℕ) → code ≤ maxCode + 1 → place ≤ code → (ltb (maxCode + 1) code || ltb code place) ≡ false
+in-code code place few within = rw (le-ltb (maxCode + 1) code few, le-ltb code place within)
+
+module _ (file : List ℕ) (workers n : ℕ) (before : ℕ → ℕ → Bool) (r₀ : Run) (base : Base file workers n before r₀)
+    (M : Machine (callsIn file n before r₀)) (r : Run) (m : Matches file workers n before r₀ M r) (w : ℕ) where
+  module _ (c : ℕ) (e : M .seat w ≡ tally.holds c) (k : HoldsRunning file workers n before r₀ M r w c) where
+    -- What the step leaves: of the machine's call and cells.
+    abbrev result : Stepped
+    result = stepCall (runView file r₀ c) (placeWithSaved (k .local) (k .kept)) (M .cells)
+
+    abbrev after : Machine (callsIn file n before r₀)
+    after = stepWorker (callsIn file n before r₀) M w (M .seat w)
+
+    abbrev settled : Stepped → Machine (callsIn file n before r₀)
+    settled x =
+        settleCall (callsIn file n before r₀) M w c (pointOf (M .cells) x .state) (activity (k .kept) (pointOf (M .cells) x .course))
+
+    machine-steps : after ≡ settled result
+    unfolding stepWorker schedule.machineStep
+    machine-steps =
+        ap (stepWorker (callsIn file n before r₀) M w) e ∙ ap (schedule.machineStep (callsIn file n before r₀) M w c) (k .runs)
+
+    -- The change, for a call that goes on and for one that ends.
+    mine : (d : ℕ) → M .seat w ≡ tally.holds d → d ≡ c
+    mine d f = let z : tally.holds c ≡ tally.holds d = sym e ∙ f in cc
+
+    more-change : (l : Local) (cells : List ℤ) → PlaceKept (runView file r₀ c .code) (l .place) (l .count) → length cells ≡ length (M .cells)
+        → CallChange file workers n before r₀ base M r w c (active (record { place = l .place; count = l .count; regs = l .regs }) (k .kept))
+        (record { call = c + 1; place = l .place; count = l .count; regs = l .regs }) cells (r .status) (r .saved)
+    more-change l cells kept size =
+        record {
+          worker = k .worker;
+          call = k .call;
+          mine = mine;
+          sole = λ u f. m .sole u w c f e;
+          cellLength = size ∙ ap length (sym (m .cells));
+          statusLength = refl;
+          oldLength = refl;
+          stands = subst (StatusSays (r .status) c) (k .runs) (m .calls c (k .call));
+          others = λ d j x less. refl;
+          seated = record { seated = refl; old = k .own .old; within = kept .within; counted = kept .counted };
+          elsewhere = λ u j x less. refl;
+        }
+
+    done-change : (outcome count : ℕ) (cells : List ℤ) → length cells ≡ length (M .cells)
+        → CallChange file workers n before r₀ base M r w c (ended (receipt outcome count)) idleSeat cells (withReceipt (r .status) c outcome count) (r .saved)
+    done-change outcome count cells size =
+        record {
+          worker = k .worker;
+          call = k .call;
+          mine = mine;
+          sole = λ u f. m .sole u w c f e;
+          cellLength = size ∙ ap length (sym (m .cells));
+          statusLength = status-length (r .status) c outcome count;
+          oldLength = refl;
+          stands =
+              let room : 256 * 4 ≤ length (r .status) = large file workers n before r₀ base M r m .status in
+              let few : n ≤ 256 = base .fewCalls in
+              let below : c < n = k .call in
+              receipt-here (r .status) c outcome count (omega arith);
+          others = λ d j x less. receipt-there (r .status) c outcome count d j x less;
+          seated = refl;
+          elsewhere = λ u j x less. refl;
+        }
+
+    -- By what the step leaves.
+    stepped-matches : (result ≡ damaged → ⊥) → (x : Stepped) → result ≡ x → StepKept (runView file r₀ c .code) (length (M .cells)) x
+        → Follows file workers n before r₀ M (settled x) 0 (stepped r w c x)
+    unfolding stepped pointOf answerNumber
+    stepped-matches whole damaged q broken = absurd (whole q)
+    stepped-matches whole (more l cells) q (on kept size) =
+        record { same = refl; run = change-matches file workers n before r₀ base M r m w c _ _ cells (r .status) (r .saved) (more-change l cells kept size) }
+    stepped-matches whole (done outcome count cells) q (over size) =
+        record {
+          same = refl;
+          run = change-matches file workers n before r₀ base M r m w c _ idleSeat cells _ (r .saved) (done-change outcome count cells size);
+        }
+
+    -- The lent run's view, local state and cells are those of the machine.
+    view-same : (call : Call) → callOf (drop (r₀ .head .«first_call» + (headBytes + callBytes) * c + headBytes) file) ≡ InRange call
+        → viewOf file r c call ≡ runView file r₀ c
+    unfolding bodyCall
+    view-same call body =
+        λ i. record {
+          block = file;
+          call = sym (ap bodyCall body) i;
+          start = planWord (m .plan i) c 0;
+          code = planWord (m .plan i) c 1;
+          count = callKeyCount (m .plan i) c;
+          entries = ownEntries (m .plan i) c;
+          keys = m .keys i;
+        }
+
+    old : savedIn (r .saved) w (callKeyCount (r .plan) c) ≡ k .kept
+    old = ap (λ (plan : List ℕ). savedIn (r .saved) w (callKeyCount plan c)) (m .plan) ∙ k .own .old
+
+    local-same : localOf r w c ≡ placeWithSaved (k .local) (k .kept)
+    local-same =
+        λ i. record { place = k .own .seated i .place; count = k .own .seated i .count; regs = k .own .seated i .regs; saved = old i }
+
+    -- The tests of a held call.
+    abbrev at : Run → ℕ
+    at s = s .head .«first_call» + (headBytes + callBytes) * c
+
+    held-steps : stepHeld file r w c ≡ stepped r w c result
+    unfolding stepHeld stepRecord
+    held-steps =
+        let body = base .body c (k .call) in
+        let code : planWord (r .plan) c 1 ≡ planWord (r₀ .plan) c 1 = ap (λ (plan : List ℕ). planWord plan c 1) (m .plan) in
+        let few : planWord (r₀ .plan) c 1 ≤ 65 = base .tidy c (k .call) .code in
+        let place : seatOf (r .head) w .place ≡ k .local .place = ap (λ s. s .place) (k .own .seated) in
+        let count : seatOf (r .head) w .count ≡ k .local .count = ap (λ s. s .count) (k .own .seated) in
+        let within : k .local .place ≤ planWord (r₀ .plan) c 1 = k .own .within in
+        let counted : k .local .count ≤ k .local .place - 1 = k .own .counted in
+        let inside : r₀ .head .«first_call» + 34 * c + 34 ≤ length file = base .inside c (k .call) in
+        let first : r .head .«first_call» ≡ r₀ .head .«first_call» = m .first in
+        if-false _ _ (in-code (planWord (r .plan) c 1) (seatOf (r .head) w .place) (omega arith) (omega arith))
+        ∙ if-false _ _ (le-ltb maxCode (seatOf (r .head) w .count) (omega arith))
+        ∙ if-false _ _ (le-ltb (length file) (at r + (headBytes + callBytes)) (omega arith))
+        ∙ ap (stepRecord file r w c) (ap (λ (s : ℕ). callOf (drop (s + 34 * c + 4) file)) first ∙ body .1)
+        ∙ (λ i. stepped r w c (stepCall (view-same (body .0) (body .1) i) (local-same i) (m .cells i)))
+
+    steps : (result ≡ damaged → ⊥) → Follows file workers n before r₀ M after 0 (stepHeld file r w c)
+    steps whole =
+        subst⁻¹ (Follows file workers n before r₀ M after 0) held-steps
+        (subst⁻¹ (λ (a : Machine (callsIn file n before r₀)). Follows file workers n before r₀ M a 0 (stepped r w c result)) machine-steps
+        (stepped-matches whole result refl
+        (step-kept (runView file r₀ c) (placeWithSaved (k .local) (k .kept)) (M .cells) (record { within = k .own .within; counted = k .own .counted }))))
+
+  pub step-follows : StepWhole file n before r₀ M w → Follows file workers n before r₀ M (stepWorker (callsIn file n before r₀) M w (M .seat w))
+      (refusal workers n before (λ i. isReady (M .call i)) (λ i. isEnded (M .call i)) (M .seat) (Step w)) (stepOf file r w)
+  unfolding refusal stepFor
+  step-follows whole =
+      held-follows file workers n before r₀ base M r m w (stepWorker (callsIn file n before r₀) M w (M .seat w)) (stepFor file r w) (λ a. refl)
+      (λ c e. let k : HoldsRunning file workers n before r₀ M r w c = m .holds w c e in steps c e k (whole c (k .local) (k .kept) e (k .runs)))

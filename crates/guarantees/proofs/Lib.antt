@@ -1,0 +1,20 @@
+-- The proofs of the statements in specs/: a room for each part of the way, then the theorems. Which rooms lead to which theorem:
+--   Demand1Proof          AcceptedOpening, NumbersByCondition
+--   Demand2Proof          CallsOfRun, AcceptedOpening, FollowingMachine, SerialAndRule, RunAndTally
+--   Demand3Proof          those of Demand2Proof, ClosingSheet
+--   RegisterByTallyProof  Demand3Proof, ClosingSheet, RegisterOutput
+--   ClosedOpensProof      Demand2Proof, Demand3Proof, TheNextDay
+mod CallsOfRun
+mod AcceptedOpening
+mod FollowingMachine
+mod SerialAndRule
+mod NumbersByCondition
+mod RunAndTally
+mod ClosingSheet
+mod RegisterOutput
+mod TheNextDay
+mod Demand1Proof
+mod Demand2Proof
+mod Demand3Proof
+mod RegisterByTallyProof
+mod ClosedOpensProof

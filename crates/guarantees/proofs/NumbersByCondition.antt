@@ -1,0 +1,8 @@
+-- The numbers of document 01, each exactly under its condition: moves, sheet, opening.
+pub mod ExactTests
+pub mod BeginNumbers
+pub mod HeldNumbers
+pub mod SheetNumbers
+pub mod OpeningExact
+pub mod ReaderNumbers
+pub mod OpeningNumbers

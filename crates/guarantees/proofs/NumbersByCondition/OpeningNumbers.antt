@@ -1,0 +1,342 @@
+-- The number and offset of a refused opening, each exactly under its condition; those of records are the reader's.
+use mathlib.Core.Path.{_≡_, refl, sym, ap, subst, subst⁻¹, _∙_}
+use mathlib.Core.Bool.{Bool, true, false, _||_, not, false≢true}
+use mathlib.Core.List.{List, [], _∷_, _++_, map}
+use Prim.Native.Nat.{ℕ, zero, suc, _+_, _*_, _≤_, _<_}
+use native.Mathlib.Omega.{arith}
+use borrow.Author.Tests.{ltb-true, ltb-false, lt-ltb, le-ltb, eqb-false, ne-eqb, not-true, not-false}
+use lib.Dec.{eqb, ltb}
+use lib.ListN.{length, getD, take, length-map}
+use Rattle.arith.proofs.ChoiceLaws.{if-all, neither}
+use Rattle.block.specs.Limits.{maxCallKeys, maxKeys, maxWorkers}
+use Rattle.block.specs.Record.{Function, Block}
+use Rattle.block.specs.Reader.{Read, accepted, refused, readBlock}
+use Rattle.block.proofs.ReaderLaws.{accepted-laws}
+use Rattle.block.specs.declared.Call.{Call}
+use Rattle.block.specs.declared.Refusal.{Refusal}
+use Rattle.block.specs.declared.Refusal.the-variants.{InputTooLong, Missing, Kind, Length, Field, NotRising, BeyondLimit, Behind, Balances, Code, CallKeys, AllKeys, Workers, Buffers}
+use Rattle.block.specs.declared.Verdict.{Verdict}
+use Rattle.block.specs.declared.Verdict.the-variants as verdict
+use Rattle.footprint.specs.Access.{Access}
+use Rattle.footprint.specs.Sets.{setsOf}
+use Rattle.footprint.specs.Plan.{Prepared, unprepared, prepareAnalysed, prepareRead}
+use Rattle.footprint.specs.Table as table
+use Rattle.footprint.specs.Table.{Analysis, analyse, insertKeys}
+use Rattle.analysis.specs.LayoutOfBlock.{allSets, openingKeys, analysisOf}
+use Rattle.analysis.proofs.CollectedLaws.{analyse-over, analyse-full, analyse-next}
+use Rattle.machine.specs.Run.{Sizes, roomIn, largeEnough}
+use Rattle.machine.specs.Opening.{Opened, refusedRun, openPrepared, openingOf}
+use Rattle.guarantees.specs.Demand1.{Exactly, Large, keysTogether, KeysBefore, Over24, Over1024, Before1, OpeningRefuses}
+use Rattle.guarantees.proofs.AcceptedOpening.OpeningPassed.{large-sizes, sizes-large}
+use Rattle.guarantees.proofs.NumbersByCondition.OpeningExact.{together-grows}
+use Rattle.guarantees.proofs.NumbersByCondition.ReaderNumbers.{file-too-long, only-too-long, reader-refuses}
+
+-- ---- the first call over a limit
+
+-- What holds of the sets of the first n calls holds with one more in front of them.
+each-later : (es : List Access) (sets : List (List Access)) (n : ℕ) → length es ≤ maxCallKeys
+    → ((i : ℕ) → i < n → length (getD sets i []) ≤ maxCallKeys) → (i : ℕ) → i < suc n → length (getD (es ∷ sets) i []) ≤ maxCallKeys
+each-later es sets n short each zero l = short
+each-later es sets n short each (suc i) l = each i (omega arith)
+
+module _ (es : List Access) (sets : List (List Access)) (keys : List ℕ) (first : ℕ) where
+  before-none : length keys ≤ maxKeys → KeysBefore (es ∷ sets) keys 0
+  unfolding keysTogether
+  before-none few = record { each = λ i l. absurd (omega arith); together = few }
+
+  before-later : (n : ℕ) → length es ≤ maxCallKeys → KeysBefore sets (insertKeys keys es) n → KeysBefore (es ∷ sets) keys (suc n)
+  unfolding keysTogether
+  before-later n short b = record { each = each-later es sets n short (b .each); together = b .together }
+
+  first-24 : length keys ≤ maxKeys → maxCallKeys < length es → Over24 (es ∷ sets) keys first first
+  first-24 few over = record { call = 0; there = omega arith; offset = omega arith; before = before-none few; over = over }
+
+  first-1024 : length keys ≤ maxKeys → length es ≤ maxCallKeys → maxKeys < length (insertKeys keys es) → Over1024 (es ∷ sets) keys first first
+  unfolding keysTogether
+  first-1024 few short over =
+      record { call = 0; there = omega arith; offset = omega arith; before = before-none few; own = short; over = over }
+
+  later-24 : (at : ℕ) → length es ≤ maxCallKeys → Over24 sets (insertKeys keys es) (first + 34) at → Over24 (es ∷ sets) keys first at
+  later-24 at short o =
+      record {
+        call = suc (o .call);
+        there = omega (arith, o .there);
+        offset = omega (arith, o .offset);
+        before = before-later (o .call) short (o .before);
+        over = o .over;
+      }
+
+  later-1024 : (at : ℕ) → length es ≤ maxCallKeys → Over1024 sets (insertKeys keys es) (first + 34) at → Over1024 (es ∷ sets) keys first at
+  unfolding keysTogether
+  later-1024 at short o =
+      record {
+        call = suc (o .call);
+        there = omega (arith, o .there);
+        offset = omega (arith, o .offset);
+        before = before-later (o .call) short (o .before);
+        own = o .own;
+        over = o .over;
+      }
+
+-- ---- the analysis
+
+-- What it says of sets and opening keys, the first call's record at an offset.
+abbrev Refuses : List (List Access) → List ℕ → (first : ℕ) → Refusal → Type 0
+Refuses sets keys first InputTooLong = ⊥
+Refuses sets keys first (Missing at) = ⊥
+Refuses sets keys first (Kind at) = ⊥
+Refuses sets keys first (Length at) = ⊥
+Refuses sets keys first (Field at) = ⊥
+Refuses sets keys first (NotRising at) = ⊥
+Refuses sets keys first (BeyondLimit at) = ⊥
+Refuses sets keys first (Behind at) = ⊥
+Refuses sets keys first (Balances at) = ⊥
+Refuses sets keys first (Code at) = ⊥
+Refuses sets keys first (CallKeys at) = Over24 sets keys first at
+Refuses sets keys first (AllKeys at) = Over1024 sets keys first at
+Refuses sets keys first Workers = ⊥
+Refuses sets keys first Buffers = ⊥
+
+abbrev Tells : List (List Access) → List ℕ → (first : ℕ) → Analysis → Type 0
+Tells sets keys first (table.analysed all t) = Unit {0}
+Tells sets keys first (table.refused why) = Refuses sets keys first why
+
+refuses-later : (es : List Access) (sets : List (List Access)) (keys : List ℕ) (first : ℕ) → length es ≤ maxCallKeys → (why : Refusal)
+    → Refuses sets (insertKeys keys es) (first + 34) why → Refuses (es ∷ sets) keys first why
+refuses-later es sets keys first short InputTooLong h = h
+refuses-later es sets keys first short (Missing at) h = h
+refuses-later es sets keys first short (Kind at) h = h
+refuses-later es sets keys first short (Length at) h = h
+refuses-later es sets keys first short (Field at) h = h
+refuses-later es sets keys first short (NotRising at) h = h
+refuses-later es sets keys first short (BeyondLimit at) h = h
+refuses-later es sets keys first short (Behind at) h = h
+refuses-later es sets keys first short (Balances at) h = h
+refuses-later es sets keys first short (Code at) h = h
+refuses-later es sets keys first short (CallKeys at) h = later-24 es sets keys first at short h
+refuses-later es sets keys first short (AllKeys at) h = later-1024 es sets keys first at short h
+refuses-later es sets keys first short Workers h = h
+refuses-later es sets keys first short Buffers h = h
+
+tells-later : (es : List Access) (sets : List (List Access)) (keys : List ℕ) (first : ℕ) → length es ≤ maxCallKeys → (a : Analysis)
+    → Tells sets (insertKeys keys es) (first + 34) a → Tells (es ∷ sets) keys first a
+tells-later es sets keys first short (table.analysed all t) h = tt
+tells-later es sets keys first short (table.refused why) h = refuses-later es sets keys first short why h
+
+module _ (file : List ℕ) (functions : List Function) where
+  abbrev own : List Call → List (List Access)
+  own cs = map (setsOf file functions) cs
+
+  tells : (cs : List Call) (at : ℕ) (before : List (List Access)) (keys : List ℕ) → length keys ≤ maxKeys
+      → Tells (own cs) keys at (analyse file functions cs at before keys)
+  unfolding analyse
+  tells [] at before keys few = tt
+  tells (c ∷ cs) at before keys few =
+      go (ltb maxCallKeys (length es)) refl (ltb maxKeys (length next)) refl (tells cs (at + 34) (before ++ (es ∷ [])) next)
+    where
+      es : List Access
+      es = setsOf file functions c
+
+      next : List ℕ
+      next = insertKeys keys es
+
+      go : (t : Bool) → ltb maxCallKeys (length es) ≡ t → (u : Bool) → ltb maxKeys (length next) ≡ u
+          → (length next ≤ maxKeys → Tells (own cs) next (at + 34) (analyse file functions cs (at + 34) (before ++ (es ∷ [])) next))
+          → Tells (own (c ∷ cs)) keys at (analyse file functions (c ∷ cs) at before keys)
+      go true over u g later =
+          subst⁻¹ (Tells (own (c ∷ cs)) keys at) (analyse-over file functions c cs at before keys over)
+          (first-24 es (own cs) keys at few (ltb-true maxCallKeys (length es) over))
+      go false fits true full later =
+          subst⁻¹ (Tells (own (c ∷ cs)) keys at) (analyse-full file functions c cs at before keys fits full)
+          (first-1024 es (own cs) keys at few (ltb-false maxCallKeys (length es) fits) (ltb-true maxKeys (length next) full))
+      go false fits false room later =
+          subst⁻¹ (Tells (own (c ∷ cs)) keys at) (analyse-next file functions c cs at before keys fits room)
+          (tells-later es (own cs) keys at (ltb-false maxCallKeys (length es) fits) (analyse file functions cs (at + 34) (before ++ (es ∷ [])) next)
+          (later (ltb-false maxKeys (length next) room)))
+
+  -- The calls before the first that is over a limit are passed.
+  passed : (why : ℕ → Refusal) (over : List (List Access) → List ℕ → ℕ → Type 0)
+      → ((c : Call) (cs : List Call) (at : ℕ) (before : List (List Access)) (keys : List ℕ) → over (own (c ∷ cs)) keys 0
+      → analyse file functions (c ∷ cs) at before keys ≡ table.refused (why at))
+      → ((es : List Access) (sets : List (List Access)) (keys : List ℕ) (n : ℕ) → over (es ∷ sets) keys (suc n) → over sets (insertKeys keys es) n)
+      → (cs : List Call) (at : ℕ) (before : List (List Access)) (keys : List ℕ) (n : ℕ) → n < length (own cs) → KeysBefore (own cs) keys n
+      → over (own cs) keys n → analyse file functions cs at before keys ≡ table.refused (why (at + 34 * n))
+  unfolding keysTogether
+  passed why over now next [] at before keys n l b o = absurd (omega arith)
+  passed why over now next (c ∷ cs) at before keys zero l b o =
+      let here : at ≡ at + 34 * 0 = omega arith in now c cs at before keys o ∙ ap (λ (n : ℕ). table.refused (why n)) here
+  passed why over now next (c ∷ cs) at before keys (suc n) l b o =
+      let es : List Access = setsOf file functions c in
+      let short : length (setsOf file functions c) ≤ maxCallKeys = b .each 0 (omega arith) in
+      let all : length (keysTogether (insertKeys keys (setsOf file functions c)) (take n (own cs))) ≤ maxKeys = b .together in
+      let room : length (insertKeys keys (setsOf file functions c)) ≤ maxKeys =
+      omega (arith, together-grows (insertKeys keys (setsOf file functions c)) (take n (own cs))) in
+      let there : at + 34 + 34 * n ≡ at + 34 * suc n = omega arith in
+      analyse-next file functions c cs at before keys (le-ltb maxCallKeys (length es) short) (le-ltb maxKeys (length (insertKeys keys es)) room)
+      ∙ passed why over now next cs (at + 34) (before ++ (es ∷ [])) (insertKeys keys es) n (omega arith)
+      (record { each = λ i h. b .each (suc i) (omega arith); together = b .together }) (next es (own cs) keys n o)
+      ∙ ap (λ (k : ℕ). table.refused (why k)) there
+
+  given-24 : (cs : List Call) (first at : ℕ) (keys : List ℕ) → Over24 (own cs) keys first at → analyse file functions cs first [] keys ≡ table.refused (CallKeys at)
+  given-24 cs first at keys o =
+      passed CallKeys (λ sets ks n. maxCallKeys < length (getD sets n []))
+      (λ c rest from before ks h. analyse-over file functions c rest from before ks (lt-ltb maxCallKeys (length (setsOf file functions c)) h))
+      (λ es sets ks n h. h) cs first [] keys (o .call) (o .there) (o .before) (o .over)
+      ∙ ap (λ (k : ℕ). table.refused (CallKeys k)) (sym (o .offset))
+
+  given-1024 : (cs : List Call) (first at : ℕ) (keys : List ℕ) → Over1024 (own cs) keys first at → analyse file functions cs first [] keys ≡ table.refused (AllKeys at)
+  unfolding keysTogether
+  given-1024 cs first at keys o =
+      passed AllKeys (λ sets ks n. (length (getD sets n []) ≤ maxCallKeys) × (maxKeys < length (keysTogether ks (take (suc n) sets))))
+      (λ c rest from before ks h.
+      analyse-full file functions c rest from before ks (le-ltb maxCallKeys (length (setsOf file functions c)) (h .0))
+      (lt-ltb maxKeys (length (insertKeys ks (setsOf file functions c))) (h .1)))
+      (λ es sets ks n h. h) cs first [] keys (o .call) (o .there) (o .before) (o .own, o .over)
+      ∙ ap (λ (k : ℕ). table.refused (AllKeys k)) (sym (o .offset))
+
+-- ---- the opening
+
+-- The answer of an opening whose sizes and workers are right is that of the file.
+prepared-answer : (s : Sizes) (workers : ℕ) (p : Prepared) (v : Verdict) → openPrepared s workers p v .answer ≡ v
+unfolding openPrepared refusedRun
+prepared-answer s workers p verdict.Accepted = refl
+prepared-answer s workers p (verdict.Refused why) = refl
+
+-- The tests of the sizes and of the workers, by their conditions.
+small-sizes : (s : Sizes) → (Large s → ⊥) → largeEnough s ≡ false
+small-sizes s h = go (largeEnough s) refl
+  where
+    go : (t : Bool) → largeEnough s ≡ t → t ≡ false
+    go true e = absurd (h (large-sizes s e))
+    go false e = refl
+
+some-workers : (workers : ℕ) → (1 ≤ workers) × (workers ≤ maxWorkers) → (eqb workers 0 || ltb maxWorkers workers) ≡ false
+some-workers workers h = rw (ne-eqb workers 0 (λ e. omega (arith, h .0)), le-ltb maxWorkers workers (h .1))
+
+few-workers : (workers : ℕ) → ((1 ≤ workers) × (workers ≤ maxWorkers) → ⊥) → (eqb workers 0 || ltb maxWorkers workers) ≡ true
+few-workers workers h = go (eqb workers 0 || ltb maxWorkers workers) refl
+  where
+    go : (t : Bool) → (eqb workers 0 || ltb maxWorkers workers) ≡ t → t ≡ true
+    go true e = refl
+    go false e =
+        let n : (eqb workers 0 ≡ false) × (ltb maxWorkers workers ≡ false) = neither (eqb workers 0) (ltb maxWorkers workers) e in
+        let nonzero : workers ≡ 0 → ⊥ = eqb-false workers 0 (n .0) in
+        absurd (h (omega arith, ltb-false maxWorkers workers (n .1)))
+
+module _ (s : Sizes) (file : List ℕ) (workers : ℕ) where
+  abbrev prepared : Prepared
+  prepared = prepareRead (roomIn s) file (readBlock file)
+
+  file-answers : Before1 s workers → openingOf s file workers .answer ≡ prepared .verdict
+  unfolding openingOf
+  file-answers b =
+      let some : workers ≡ 0 → ⊥ = λ e. omega (arith, b .1 .0) in
+      rw (sizes-large s (b .0), ne-eqb workers 0 some, le-ltb maxWorkers workers (b .1 .1)) (prepared-answer s workers prepared (prepared .verdict))
+
+  -- The file's refusals by the reader, and by the analysis.
+  read-refused : (why : Refusal) → readBlock file ≡ refused why → prepared .verdict ≡ verdict.Refused why
+  unfolding prepareRead unprepared
+  read-refused why e = rw e
+
+  analysis-refused : (b : Block) (why : Refusal) → readBlock file ≡ accepted b → analysisOf file b ≡ table.refused why
+      → prepared .verdict ≡ verdict.Refused why
+  unfolding prepareRead prepareAnalysed unprepared
+  analysis-refused b why e f = rw (e, f)
+
+  -- ---- what refuses it
+
+  given-reader : (why : Refusal) → Before1 s workers × (readBlock file ≡ refused why) → openingOf s file workers .answer ≡ verdict.Refused why
+  given-reader why (b, e) = file-answers b ∙ read-refused why e
+
+  given : (why : Refusal) → OpeningRefuses s file workers why → openingOf s file workers .answer ≡ verdict.Refused why
+  unfolding openingOf refusedRun
+  given Buffers h = rw (small-sizes s h)
+  given Workers (large, h) = rw (sizes-large s large, few-workers workers h)
+  given InputTooLong (b, h) = given-reader InputTooLong (b, file-too-long file h)
+  given (Missing at) h = given-reader (Missing at) h
+  given (Kind at) h = given-reader (Kind at) h
+  given (Length at) h = given-reader (Length at) h
+  given (Field at) h = given-reader (Field at) h
+  given (NotRising at) h = given-reader (NotRising at) h
+  given (BeyondLimit at) h = given-reader (BeyondLimit at) h
+  given (Behind at) h = given-reader (Behind at) h
+  given (Balances at) h = given-reader (Balances at) h
+  given (Code at) h = given-reader (Code at) h
+  given (CallKeys at) (b, (block, e, o)) =
+      file-answers b ∙ analysis-refused block (CallKeys at) e (given-24 file (block .functions) (block .calls) (block .firstCall) at (openingKeys block) o)
+  given (AllKeys at) (b, (block, e, o)) =
+      file-answers b ∙ analysis-refused block (AllKeys at) e (given-1024 file (block .functions) (block .calls) (block .firstCall) at (openingKeys block) o)
+
+  -- ---- what its refusal says
+
+  by-reader : Before1 s workers → (why : Refusal) → readBlock file ≡ refused why → OpeningRefuses s file workers why
+  by-reader b InputTooLong e = (b, only-too-long file e)
+  by-reader b (Missing at) e = (b, e)
+  by-reader b (Kind at) e = (b, e)
+  by-reader b (Length at) e = (b, e)
+  by-reader b (Field at) e = (b, e)
+  by-reader b (NotRising at) e = (b, e)
+  by-reader b (BeyondLimit at) e = (b, e)
+  by-reader b (Behind at) e = (b, e)
+  by-reader b (Balances at) e = (b, e)
+  by-reader b (Code at) e = (b, e)
+  by-reader b (CallKeys at) e = absurd (reader-refuses file (CallKeys at) e (λ f. let z : _≡_ {A = ℕ} 0 1 = cc in omega arith))
+  by-reader b (AllKeys at) e = absurd (reader-refuses file (AllKeys at) e (λ f. let z : _≡_ {A = ℕ} 0 1 = cc in omega arith))
+  by-reader b Workers e = absurd (reader-refuses file Workers e (λ f. let z : _≡_ {A = ℕ} 0 1 = cc in omega arith))
+  by-reader b Buffers e = absurd (reader-refuses file Buffers e (λ f. let z : _≡_ {A = ℕ} 0 1 = cc in omega arith))
+
+  by-analysis : Before1 s workers → (block : Block) → readBlock file ≡ accepted block → (why : Refusal)
+      → Refuses (allSets file block) (openingKeys block) (block .firstCall) why → OpeningRefuses s file workers why
+  by-analysis b block e InputTooLong h = absurd h
+  by-analysis b block e (Missing at) h = absurd h
+  by-analysis b block e (Kind at) h = absurd h
+  by-analysis b block e (Length at) h = absurd h
+  by-analysis b block e (Field at) h = absurd h
+  by-analysis b block e (NotRising at) h = absurd h
+  by-analysis b block e (BeyondLimit at) h = absurd h
+  by-analysis b block e (Behind at) h = absurd h
+  by-analysis b block e (Balances at) h = absurd h
+  by-analysis b block e (Code at) h = absurd h
+  by-analysis b block e (CallKeys at) h = (b, (block, e, h))
+  by-analysis b block e (AllKeys at) h = (b, (block, e, h))
+  by-analysis b block e Workers h = absurd h
+  by-analysis b block e Buffers h = absurd h
+
+  -- What a verdict says of the opening.
+  abbrev Told : Verdict → Type 0
+  Told verdict.Accepted = Unit {0}
+  Told (verdict.Refused why) = OpeningRefuses s file workers why
+
+  analysis-told : Before1 s workers → (block : Block) → readBlock file ≡ accepted block → (a : Analysis)
+      → Tells (allSets file block) (openingKeys block) (block .firstCall) a → Told (prepareAnalysed (roomIn s) block a .verdict)
+  unfolding prepareAnalysed unprepared
+  analysis-told b block e (table.analysed sets keys) h = tt
+  analysis-told b block e (table.refused why) h = by-analysis b block e why h
+
+  read-told : Before1 s workers → (r : Read) → readBlock file ≡ r → Told (prepareRead (roomIn s) file r .verdict)
+  unfolding prepareRead unprepared
+  read-told b (refused why) e = by-reader b why e
+  read-told b (accepted block) e =
+      let few : length (openingKeys block) ≤ maxKeys = simp length-map (accepted-laws file block e .laws .cellLimit) in
+      analysis-told b block e (analysisOf file block) (tells file (block .functions) (block .calls) (block .firstCall) [] (openingKeys block) few)
+
+  record OpeningTold (o : Opened) : Type 0 where
+    told : Told (o .answer)
+
+  opening-told : OpeningTold (openingOf s file workers)
+  unfolding openingOf refusedRun
+  opening-told =
+      if-all OpeningTold (not (largeEnough s))
+      (λ e. record { told = λ large. false≢true (sym (not-true (largeEnough s) e) ∙ sizes-large s large) })
+      λ e.
+      let large : Large s = large-sizes s (not-false (largeEnough s) e) in
+      if-all OpeningTold (eqb workers 0 || ltb maxWorkers workers)
+      (λ f. record { told = (large, λ some. false≢true (sym (some-workers workers some) ∙ f)) })
+      λ f.
+      let n : (eqb workers 0 ≡ false) × (ltb maxWorkers workers ≡ false) = neither (eqb workers 0) (ltb maxWorkers workers) f in
+      let nonzero : workers ≡ 0 → ⊥ = eqb-false workers 0 (n .0) in
+      let b : Before1 s workers = (large, (omega arith, ltb-false maxWorkers workers (n .1))) in
+      record { told = subst⁻¹ Told (prepared-answer s workers prepared (prepared .verdict)) (read-told b (readBlock file) refl) }
+
+  pub opens-not : (why : Refusal) → Exactly (openingOf s file workers .answer ≡ verdict.Refused why) (OpeningRefuses s file workers why)
+  opens-not why = (λ e. subst Told e (opening-told .told), given why)

@@ -1,0 +1,200 @@
+-- The number of the sheet: when it is written and which answer refuses it, exactly, and that a refusal leaves the output as it was.
+use mathlib.Core.Path.{_≡_, refl, ap, subst, subst⁻¹, _∙_}
+use mathlib.Core.Bool.{true, _&&_, _||_, not}
+use mathlib.Core.List.{List}
+use Prim.Native.Nat.{ℕ, _≤_, _<_}
+use borrow.Author.Tests.{ltb-true, ltb-false, lt-ltb, le-ltb, not-true, not-false}
+use lib.Dec.{eqb, leb, ltb}
+use lib.IntN.{ℤ}
+use lib.ListN.{length}
+use lib.Signed.{nonNeg}
+use Rattle.arith.specs.Choice.{if_then_else_}
+use Rattle.arith.proofs.ChoiceLaws.{if-all, neither}
+use Rattle.block.specs.Limits.{maxCalls, maxCode, maxKeys}
+use Rattle.block.specs.Outcomes.{notPaid}
+use Rattle.machine.specs.Run.{Run, sizesOf, largeEnough, statusWord, stateOf, isState, finished}
+use Rattle.machine.specs.Step.{cellAt}
+use Rattle.machine.specs.declared.Answer.{Answer}
+use Rattle.machine.specs.declared.Answer.the-variants as answer
+use Rattle.sheet.specs.Sheet.{Closed, fieldOf, sheetBytes, statesAllowed, allFinished, receiptsAllowed, balancesAllowed, unwritten, filled, writtenIf, written, sheetOf}
+use Rattle.sheet.specs.declared.Closing.{Closing}
+use Rattle.sheet.specs.declared.Closing.the-variants.{Written, Refused}
+use Rattle.guarantees.specs.Demand1.{Exactly, CallFinished, Before27, Before28, SheetRefuses, Writable}
+use Rattle.guarantees.proofs.NumbersByCondition.ExactTests.{itself, leb-exact, eqb-exact, both-exact, under-exact, TestsAll, all-exact}
+use Rattle.guarantees.proofs.AcceptedOpening.OpeningPassed.{large-sizes, sizes-large}
+
+-- ---- the tests
+
+-- Of n calls by their status words.
+module _ (status : List ℕ) (n : ℕ) where
+  states-exact : TestsAll (statesAllowed status n) n (λ c. stateOf status c ≤ finished)
+  unfolding statesAllowed
+  states-exact =
+      all-exact (statesAllowed status) (λ c. isState (stateOf status c)) (λ c. stateOf status c ≤ finished) refl (λ m. refl)
+      (λ c. leb-exact (stateOf status c) finished) n
+
+  finished-exact : TestsAll (allFinished status n) n (λ c. stateOf status c ≡ finished)
+  unfolding allFinished
+  finished-exact =
+      all-exact (allFinished status) (λ c. eqb (stateOf status c) finished) (λ c. stateOf status c ≡ finished) refl (λ m. refl)
+      (λ c. eqb-exact (stateOf status c) finished) n
+
+  receipts-exact : TestsAll (receiptsAllowed status n) n (λ c. (statusWord status c 1 ≤ notPaid) × (statusWord status c 2 ≤ maxCode))
+  unfolding receiptsAllowed
+  receipts-exact =
+      all-exact (receiptsAllowed status) (λ c. leb (statusWord status c 1) notPaid && leb (statusWord status c 2) maxCode)
+      (λ c. (statusWord status c 1 ≤ notPaid) × (statusWord status c 2 ≤ maxCode)) refl (λ m. refl)
+      (λ c.
+      both-exact (leb (statusWord status c 1) notPaid) (leb (statusWord status c 2) maxCode) (leb-exact (statusWord status c 1) notPaid)
+      (leb-exact (statusWord status c 2) maxCode))
+      n
+
+-- Of n cells by their keys.
+balances-exact : (keys : List ℕ) (cells : List ℤ) (n : ℕ)
+    → TestsAll (balancesAllowed keys cells n) n (λ x. fieldOf keys x ≡ 0 → nonNeg (cellAt cells x) ≡ true)
+unfolding balancesAllowed
+balances-exact keys cells =
+    all-exact (balancesAllowed keys cells) (λ x. not (eqb (fieldOf keys x) 0) || nonNeg (cellAt cells x))
+    (λ x. fieldOf keys x ≡ 0 → nonNeg (cellAt cells x) ≡ true) refl (λ m. refl)
+    (λ x. under-exact (eqb (fieldOf keys x) 0) (nonNeg (cellAt cells x)) (eqb-exact (fieldOf keys x) 0) itself)
+
+-- ---- the sheet
+
+-- What a closing says, and that a refusal leaves the output.
+abbrev ClosingTold : Run → (output left : List ℕ) → Closing → Type 0
+ClosingTold r output left (Written n) = Writable r output
+ClosingTold r output left (Refused a) = (left ≡ output) × ((a ≡ answer.Damaged → ⊥) → SheetRefuses r output a)
+
+record SheetTold (r : Run) (output : List ℕ) (m : Closed) : Type 0 where
+  told : ClosingTold r output (m .output) (m .answer)
+
+module _ (r : Run) (output : List ℕ) where
+  -- The sheet from each number on.
+  abbrev from28 : Closed
+  from28 = writtenIf (receiptsAllowed (r .status) (r .head .calls)) output (sheetBytes r)
+
+  abbrev from27 : Closed
+  from27 =
+      if not (allFinished (r .status) (r .head .calls))
+      then unwritten output answer.CallUnfinished
+      else if ltb maxKeys (r .head .cells)
+      then unwritten output answer.Damaged
+      else if not (balancesAllowed (r .keys) (r .cells) (r .head .cells))
+      then unwritten output answer.Damaged
+      else from28
+
+  sheet-is : sheetOf r output ≡ (if not (largeEnough (sizesOf r)) || ltb maxCalls (r .head .calls)
+      then unwritten output answer.Damaged
+      else if not (statesAllowed (r .status) (r .head .calls)) then unwritten output answer.Damaged else from27)
+  unfolding sheetOf
+  sheet-is = refl
+
+  sheet-27 : Before27 r → sheetOf r output ≡ from27
+  sheet-27 b =
+      sheet-is
+      ∙ rw (
+        sizes-large (sizesOf r) (b .large),
+        le-ltb maxCalls (r .head .calls) (b .calls),
+        states-exact (r .status) (r .head .calls) .every .1 (b .states),
+      )
+
+  sheet-28 : Before28 r → sheetOf r output ≡ from28
+  sheet-28 b =
+      sheet-27 (b .so-far)
+      ∙ rw (
+        finished-exact (r .status) (r .head .calls) .every .1 (b .finished),
+        le-ltb maxKeys (r .head .cells) (b .cells),
+        balances-exact (r .keys) (r .cells) (r .head .cells) .every .1 (b .balances),
+      )
+
+  of-answer : {m m′ : Closed} → m ≡ m′ → m .answer ≡ m′ .answer
+  of-answer e = ap (λ (m : Closed). m .answer) e
+
+  -- 27 where a call is not finished; and no refusal but 28 where the receipts are in their ranges too.
+  pub sheet-unfinished : Before27 r → ((c : ℕ) × (c < r .head .calls) × (CallFinished r c → ⊥)) → sheetOf r output ≡ unwritten output answer.CallUnfinished
+  sheet-unfinished b u = sheet-27 b ∙ rw (finished-exact (r .status) (r .head .calls) .one .1 u)
+
+  pub sheet-written : Before28 r → ((c : ℕ) → c < r .head .calls → (statusWord (r .status) c 1 ≤ notPaid) × (statusWord (r .status) c 2 ≤ maxCode))
+      → sheetOf r output ≡ written output (sheetBytes r)
+  sheet-written b receipts = sheet-28 b ∙ rw (receipts-exact (r .status) (r .head .calls) .every .1 receipts)
+
+  given : (a : Answer) → SheetRefuses r output a → sheetOf r output .answer ≡ Refused a
+  unfolding writtenIf
+  given answer.Accepted g = absurd g
+  given answer.Damaged g = absurd g
+  given answer.NoWorker g = absurd g
+  given answer.NoCall g = absurd g
+  given answer.WorkerBusy g = absurd g
+  given answer.NotWaiting g = absurd g
+  given answer.EarlierUnfinished g = absurd g
+  given answer.WorkerIdle g = absurd g
+  given answer.CallUnfinished (b, u) = of-answer (sheet-unfinished b u)
+  given answer.SheetTooLong (b, h) = of-answer (sheet-28 b) ∙ rw (lt-ltb (length output) (length (sheetBytes r)) h)
+
+  given-whole : Writable r output → sheetOf r output ≡ filled output (sheetBytes r)
+  unfolding writtenIf
+  given-whole b =
+      sheet-written (b .so-far) (λ c l. (b .outcomes c l, b .counts c l)) ∙ rw (le-ltb (length output) (length (sheetBytes r)) (b .fits))
+
+  -- From each number on, the sheet says what it should.
+  damaged : SheetTold r output (unwritten output answer.Damaged)
+  damaged = record { told = (refl, λ d. absurd (d refl)) }
+
+  told-28 : Before28 r → SheetTold r output from28
+  unfolding writtenIf
+  told-28 b =
+      if-all (SheetTold r output) (ltb (length output) (length (sheetBytes r)))
+      (λ e. record { told = (refl, λ d. (b, ltb-true (length output) (length (sheetBytes r)) e)) })
+      λ e.
+      if-all (SheetTold r output) (receiptsAllowed (r .status) (r .head .calls))
+      (λ f.
+      let receipts = receipts-exact (r .status) (r .head .calls) .every .0 f in
+      record {
+        told =
+            record {
+              so-far = b;
+              fits = ltb-false (length output) (length (sheetBytes r)) e;
+              outcomes = λ c l. receipts c l .0;
+              counts = λ c l. receipts c l .1;
+            };
+      })
+      (λ f. damaged)
+
+  told-27 : Before27 r → SheetTold r output from27
+  told-27 b =
+      if-all (SheetTold r output) (not (allFinished (r .status) (r .head .calls)))
+      (λ e. record { told = (refl, λ d. (b, finished-exact (r .status) (r .head .calls) .one .0 (not-true (allFinished (r .status) (r .head .calls)) e))) })
+      λ e.
+      if-all (SheetTold r output) (ltb maxKeys (r .head .cells)) (λ f. damaged) λ f.
+      if-all (SheetTold r output) (not (balancesAllowed (r .keys) (r .cells) (r .head .cells))) (λ g. damaged) λ g.
+      told-28 record {
+        so-far = b;
+        finished = finished-exact (r .status) (r .head .calls) .every .0 (not-false (allFinished (r .status) (r .head .calls)) e);
+        cells = ltb-false maxKeys (r .head .cells) f;
+        balances = balances-exact (r .keys) (r .cells) (r .head .cells) .every .0 (not-false (balancesAllowed (r .keys) (r .cells) (r .head .cells)) g);
+      }
+
+  sheet-told : SheetTold r output (sheetOf r output)
+  sheet-told =
+      subst⁻¹ (SheetTold r output) sheet-is
+      (if-all (SheetTold r output) (not (largeEnough (sizesOf r)) || ltb maxCalls (r .head .calls)) (λ e. damaged) λ e.
+      let few = neither (not (largeEnough (sizesOf r))) (ltb maxCalls (r .head .calls)) e in
+      if-all (SheetTold r output) (not (statesAllowed (r .status) (r .head .calls))) (λ f. damaged) λ f.
+      told-27 record {
+        large = large-sizes (sizesOf r) (not-false (largeEnough (sizesOf r)) (few .0));
+        calls = ltb-false maxCalls (r .head .calls) (few .1);
+        states = states-exact (r .status) (r .head .calls) .every .0 (not-false (statesAllowed (r .status) (r .head .calls)) f);
+      })
+
+  found : (k : Closing) → sheetOf r output .answer ≡ k → ClosingTold r output (sheetOf r output .output) k
+  found k e = subst (ClosingTold r output (sheetOf r output .output)) e (sheet-told .told)
+
+  pub refuses : (a : Answer) → (a ≡ answer.Damaged → ⊥) → Exactly (sheetOf r output .answer ≡ Refused a) (SheetRefuses r output a)
+  refuses a d = (λ e. found (Refused a) e .1 d, given a)
+
+  pub sheet-writes : Exactly (sheetOf r output ≡ filled output (sheetBytes r)) (Writable r output)
+  sheet-writes = (λ e. found (Written (length (sheetBytes r))) (of-answer e), given-whole)
+
+  -- "a refused .. sheet leaves them unchanged"
+  pub unwritten-left : (a : Answer) → sheetOf r output .answer ≡ Refused a → sheetOf r output .output ≡ output
+  unwritten-left a e = found (Refused a) e .0

@@ -1,0 +1,33 @@
+// One move on a lent run and block.
+use machine::Head;
+use moves::Reply;
+use moves::begin::begin;
+use moves::cancel::cancel;
+use moves::step::step;
+use schedule::Move;
+ghost use mathlib.Core.Path.{_≡_};
+ghost use Rattle.machine.specs.Moves.{moveOf};
+ghost use Rattle.moves.specs.Lent.{lent, moved};
+
+// BEGIN, STEP or CANCEL, by the move's name.
+pub fn apply_move(
+    head: Head,
+    block: &[u8],
+    plan: &[u64],
+    keys: &[u64],
+    cells: &mut [i64],
+    status: &mut [u64],
+    saved: &mut [i64],
+    m: Move,
+) -> Reply
+    ensures { λ r. ⌜ moved (r .answer)
+        (lent (r .head) (now (plan .entry)) (now (keys .entry)) (now (cells .exit)) (now (status .exit)) (now (saved .exit)))
+        ≡ moveOf (now (block .entry))
+        (lent head (now (plan .entry)) (now (keys .entry)) (now (cells .entry)) (now (status .entry)) (now (saved .entry))) m ⌝ }
+{
+    match m {
+        Move::Begin(worker, call) => begin(head, plan, keys, cells, status, saved, worker, call),
+        Move::Step(worker) => step(head, block, plan, keys, cells, status, saved, worker),
+        Move::Cancel(worker) => cancel(head, plan, keys, cells, status, saved, worker),
+    }
+}

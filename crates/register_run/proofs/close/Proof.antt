@@ -1,0 +1,50 @@
+-- `register_run::close` meets its contract: the text fits its buffer, and all of it is handed over.
+use mathlib.Core.Path.{sym}
+use native.Mathlib.Omega.{arith}
+use lib.Seq.{length-take-le}
+use Rattle.moves.specs.Lent.{lent}
+use Rattle.host.proofs.Laws.{front, handed-as}
+use Rattle.register_run.proofs.Laws.{close-fits}
+use borrow.Author.Needs.{needs}
+use Rattle.register_run.proofs.close.Statement.{statement}
+use Rattle.register_run.proofs.close.Tie as tie
+
+slice-aggregate-close-text : tie.Need-slice-aggregate-close-text
+slice-aggregate-close-text c = search needs
+
+close-text-requires : tie.Need-close-text-requires
+close-text-requires c κs = search needs
+
+array-share-prefix-text : tie.Need-array-share-prefix-text
+array-share-prefix-text c =
+    let c7 = c .before .before .before .before .before .before .before in
+    omega (arith, close-fits (lent (c7 .args .head) (c7 .args .plan .now) (c7 .args .keys .now) (c7 .args .cells .now) (c7 .args .status .now) (c7 .args .saved .now)) (c .before .close-text .ensures))
+
+slice-aggregate-print : tie.Need-slice-aggregate-print
+slice-aggregate-print c =
+    let c8 = c .before .before .before .before .before .before .before .before in
+    sym (length-take-le _ _ (omega (arith, close-fits (lent (c8 .args .head) (c8 .args .plan .now) (c8 .args .keys .now) (c8 .args .cells .now) (c8 .args .status .now) (c8 .args .saved .now)) (c .before .before .close-text .ensures))))
+
+print-requires : tie.Need-print-requires
+print-requires c κs = search needs
+
+same-length : tie.Need-same-length
+same-length c = search needs
+
+returns : tie.Need-returns
+returns c =
+    let c6 = c .before .before .before .before .before .before in
+    let c12 = c6 .before .before .before .before .before .before in
+    (handed-as (front (c6 .close-text .ensures) (omega (arith, close-fits (lent (c12 .args .head) (c12 .args .plan .now) (c12 .args .keys .now) (c12 .args .cells .now) (c12 .args .status .now) (c12 .args .saved .now)) (c6 .close-text .ensures)))) (c .before .before .print .ensures .0), c .before .before .print .ensures .1)
+
+pub close-spec : {M : Type 1} → statement M
+close-spec =
+    tie.close
+    (tie.spec
+    slice-aggregate-close-text
+    close-text-requires
+    array-share-prefix-text
+    slice-aggregate-print
+    print-requires
+    same-length
+    returns)

@@ -1,0 +1,93 @@
+-- `register_run::run` meets its contract: a refused block prints its line, an accepted one is run.
+use native.Mathlib.Omega.{arith}
+use Rattle.register_run.proofs.Laws.{runs-accepted, runs-refused}
+use borrow.Author.Needs.{needs}
+use Rattle.register_run.proofs.run.Statement.{statement}
+use Rattle.register_run.proofs.run.Tie as tie
+
+slice-aggregate-open : tie.Need-slice-aggregate-open
+slice-aggregate-open c = search needs
+
+slice-aggregate-open-2 : tie.Need-slice-aggregate-open-2
+slice-aggregate-open-2 c = search needs
+
+slice-aggregate-open-3 : tie.Need-slice-aggregate-open-3
+slice-aggregate-open-3 c = search needs
+
+slice-aggregate-open-4 : tie.Need-slice-aggregate-open-4
+slice-aggregate-open-4 c = search needs
+
+slice-aggregate-open-5 : tie.Need-slice-aggregate-open-5
+slice-aggregate-open-5 c = search needs
+
+open-requires : tie.Need-open-requires
+open-requires c κs = search needs
+
+enum-known-verdict : tie.Need-enum-known-verdict
+enum-known-verdict c = search needs
+
+print-refusal-requires : tie.Need-print-refusal-requires
+print-refusal-requires c κs = search needs
+
+enum-told : tie.Need-enum-told
+enum-told c = search needs
+
+slice-aggregate-run-opened : tie.Need-slice-aggregate-run-opened
+slice-aggregate-run-opened c = search needs
+
+slice-aggregate-run-opened-2 : tie.Need-slice-aggregate-run-opened-2
+slice-aggregate-run-opened-2 c = search needs
+
+slice-aggregate-run-opened-3 : tie.Need-slice-aggregate-run-opened-3
+slice-aggregate-run-opened-3 c = search needs
+
+slice-aggregate-run-opened-4 : tie.Need-slice-aggregate-run-opened-4
+slice-aggregate-run-opened-4 c = search needs
+
+slice-aggregate-run-opened-5 : tie.Need-slice-aggregate-run-opened-5
+slice-aggregate-run-opened-5 c = search needs
+
+run-opened-requires : tie.Need-run-opened-requires
+run-opened-requires c κs = search needs
+
+same-length : tie.Need-same-length
+same-length c = search needs
+
+returns : tie.Need-returns
+returns c =
+    let c13 = c .before .before .before .before .before .before .before .before .before .before .before .before .before in
+    runs-refused (omega arith) (c13 .«open» .ensures .same) (c .before .before .before .before .before .verdict .given .0 .0) (c .before .before .before .before .before .verdict .given .1) (c .before .before .print-refusal .ensures .0) (c .before .before .print-refusal .ensures .1)
+
+same-length-2 : tie.Need-same-length-2
+same-length-2 c = search needs
+
+returns-2 : tie.Need-returns-2
+returns-2 c =
+    let c12 = c .before .before .before .before .before .before .before .before .before .before .before .before in
+    let c20 = c12 .before .before .before .before .before .before .before .before in
+    let c28 = c20 .before .before .before .before .before .before .before .before in
+    runs-accepted (omega (arith, c28 .fits .limit .fits)) (c20 .«open» .ensures .same) (c12 .enum-told .given .1) (c .before .before .before .before .before .run-opened .ensures)
+
+pub run-spec : {M : Type 1} → statement M
+run-spec =
+    tie.close
+    (tie.spec
+    slice-aggregate-open
+    slice-aggregate-open-2
+    slice-aggregate-open-3
+    slice-aggregate-open-4
+    slice-aggregate-open-5
+    open-requires
+    enum-known-verdict
+    print-refusal-requires
+    enum-told
+    slice-aggregate-run-opened
+    slice-aggregate-run-opened-2
+    slice-aggregate-run-opened-3
+    slice-aggregate-run-opened-4
+    slice-aggregate-run-opened-5
+    run-opened-requires
+    same-length
+    returns
+    same-length-2
+    returns-2)

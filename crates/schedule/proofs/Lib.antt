@@ -1,0 +1,12 @@
+-- To read: Confluence is the theorem of Confluent; CallExchange are laws of the order, CalculatorLaws and Example the instance. The others are the
+-- proof, in the order in which they build on each other.
+pub mod RunLaws
+pub mod Expected
+pub mod RefusalLaws
+pub mod Valid
+mod TakenLaws
+pub mod Simulation
+pub mod Confluence
+pub mod CallExchange
+mod CalculatorLaws
+mod Example

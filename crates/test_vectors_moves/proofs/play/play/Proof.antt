@@ -1,0 +1,84 @@
+-- `play::play` is safe: the parts that it lends lie within their buffers.
+use native.Mathlib.Omega.{arith}
+use mathlib.Core.Path.{sym}
+use lib.Seq.{length-take-le}
+use borrow.Author.Needs.{needs}
+use Rattle.test_vectors_moves.proofs.play.play.Statement.{statement}
+use Rattle.test_vectors_moves.proofs.play.play.Tie as tie
+
+returns : tie.Need-returns
+returns c = search needs
+
+returns-2 : tie.Need-returns-2
+returns-2 c = search needs
+
+returns-3 : tie.Need-returns-3
+returns-3 c = search needs
+
+returns-4 : tie.Need-returns-4
+returns-4 c = search needs
+
+slice-aggregate-act-on-two : tie.Need-slice-aggregate-act-on-two
+slice-aggregate-act-on-two c = sym (length-take-le _ _ (omega arith))
+
+slice-relend-prefix-act-on-two : tie.Need-slice-relend-prefix-act-on-two
+slice-relend-prefix-act-on-two c = search needs
+
+slice-aggregate-act-on-two-2 : tie.Need-slice-aggregate-act-on-two-2
+slice-aggregate-act-on-two-2 c = sym (length-take-le _ _ (omega arith))
+
+slice-relend-prefix-act-on-two-2 : tie.Need-slice-relend-prefix-act-on-two-2
+slice-relend-prefix-act-on-two-2 c = search needs
+
+slice-aggregate-act-on-two-3 : tie.Need-slice-aggregate-act-on-two-3
+slice-aggregate-act-on-two-3 c = sym (length-take-le _ _ (omega arith))
+
+slice-relend-prefix-act-on-two-3 : tie.Need-slice-relend-prefix-act-on-two-3
+slice-relend-prefix-act-on-two-3 c = search needs
+
+slice-aggregate-act-on-two-4 : tie.Need-slice-aggregate-act-on-two-4
+slice-aggregate-act-on-two-4 c = sym (length-take-le _ _ (omega arith))
+
+act-on-two-requires : tie.Need-act-on-two-requires
+act-on-two-requires c κs = search needs
+
+same-length : tie.Need-same-length
+same-length c = search needs
+
+same-length-2 : tie.Need-same-length-2
+same-length-2 c = search needs
+
+same-length-3 : tie.Need-same-length-3
+same-length-3 c = search needs
+
+same-length-4 : tie.Need-same-length-4
+same-length-4 c = search needs
+
+same-length-5 : tie.Need-same-length-5
+same-length-5 c = search needs
+
+returns-5 : tie.Need-returns-5
+returns-5 c = search needs
+
+pub play-spec : {M : Type 1} → statement M
+play-spec =
+    tie.close
+    (tie.spec
+    returns
+    returns-2
+    returns-3
+    returns-4
+    slice-aggregate-act-on-two
+    slice-relend-prefix-act-on-two
+    slice-aggregate-act-on-two-2
+    slice-relend-prefix-act-on-two-2
+    slice-aggregate-act-on-two-3
+    slice-relend-prefix-act-on-two-3
+    slice-aggregate-act-on-two-4
+    act-on-two-requires
+    same-length
+    same-length-2
+    same-length-3
+    same-length-4
+    same-length-5
+    returns-5)
