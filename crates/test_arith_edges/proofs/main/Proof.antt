@@ -1,4 +1,4 @@
--- `arith_edges::main` is safe and ends: the loop's number is at most 300, and what is left of that falls.
+-- `test_arith_edges::main` is safe and ends: the loop's number is at most 300, and what is left of that falls.
 use Prim.Native.Nat.{_≤_, _-_}
 use borrow.Author.Needs.{needs}
 use Rattle.test_arith_edges.proofs.main.Statement.{statement}

@@ -1,4 +1,4 @@
--- `examples::main` ends: the number of blocks that may come falls at each turn.
+-- `test_examples::main` ends: the number of blocks that may come falls at each turn.
 use native.Mathlib.Omega.{arith}
 use Rattle.test_examples.proofs.main.Statement.{statement}
 use Rattle.test_examples.proofs.main.Tie as tie

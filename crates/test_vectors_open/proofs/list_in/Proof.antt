@@ -1,4 +1,4 @@
--- `vectors_open::list_in` keeps to its buffer: the part that is lent is no longer than the whole.
+-- `test_vectors_open::list_in` keeps to its buffer: the part that is lent is no longer than the whole.
 use mathlib.Core.Path.{sym}
 use native.Mathlib.Omega.{arith}
 use lib.Seq.{length-take-le}

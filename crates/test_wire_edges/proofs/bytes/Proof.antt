@@ -1,4 +1,4 @@
--- `wire_edges::bytes` ends: the measure is what is left of the slice.
+-- `test_wire_edges::bytes` ends: the measure is what is left of the slice.
 use Prim.Native.Nat.{_≤_, _-_}
 use native.Mathlib.Omega.{arith}
 use borrow.Author.Needs.{needs}

@@ -1,4 +1,4 @@
--- `wire_edges::walk` ends: the next bit from i + 1 on lies above i.
+-- `test_wire_edges::walk` ends: the next bit from i + 1 on lies above i.
 use Prim.Native.Nat.{_+_, _≤_, _-_}
 use native.Mathlib.Omega.{arith}
 use borrow.Author.Needs.{needs}
