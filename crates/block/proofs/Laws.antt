@@ -2,7 +2,7 @@
 use mathlib.Core.Path.{_≡_, refl, sym, ap, _∙_}
 use mathlib.Core.Bool.{true, false}
 use mathlib.Core.List.{List}
-use Prim.Native.Nat.{ℕ, _+_, _*_, _-_, _/_, _^_, _<_, _≤_}
+use Prim.Native.Nat.{ℕ, _+_, _*_, _-_, _/_, _%_, _^_, _<_, _≤_}
 use native.Mathlib.Omega.{arith}
 use lib.IntN.{ℤ, pos, negsuc}
 use lib.ListN.{length, take, drop, getD, length-drop, drop-of-length-le}
@@ -10,10 +10,12 @@ use lib.Seq.{take-all, drop-length, length-take-le}
 use lib.Signed.{ltZ, nonNeg}
 use borrow.Author.Tests.{ltb-true, lt-ltb, le-ltb, le-leb, lt-leb}
 use Rattle.wire.specs.Bytes.{readLe}
-use Rattle.wire.proofs.BytesLaws.{read-one}
+use Rattle.wire.proofs.BytesLaws.{read-suc, read-one}
 use Rattle.arith.specs.Exact.{signed}
 use Rattle.block.specs.Key.{firstContract, addressOf, addressNumber, payeeOf}
 use Rattle.block.proofs.KeyLaws.{number-named, account-below, contract-above}
+use Rattle.block.proofs.EncodingLaws.{bytes-drop}
+use Rattle.block.specs.Encoding.{AreBytes}
 use Rattle.block.specs.Instruction.{decodeParts, decode}
 use Rattle.block.specs.Record.{callOf}
 use Rattle.block.specs.declared.address.Account.{Account}
@@ -53,6 +55,23 @@ pub decode-parts : (index size : ℕ) (s : List ℕ) {op x y z w : ℕ} → op �
     → w ≡ readLe 4 s 4 → decodeParts index size op x y z w ≡ decode index size s
 decode-parts index size s p q r t u =
     simp (p ∙ sym (read-one s 0), q ∙ sym (read-one s 1), r ∙ sym (read-one s 2), t ∙ sym (read-one s 3), u)
+
+-- They stand in the word of the eight bytes at a position, each at its place value.
+pub decode-word : (index size : ℕ) (s : List ℕ) (at : ℕ) {word : ℕ} → AreBytes s → word ≡ readLe 8 s at
+    → decodeParts index size (word % 256) (word / 256 % 256) (word / 65536 % 256) (word / 16777216 % 256) (word / 4294967296)
+    ≡ decode index size (drop at s)
+decode-word index size s at {word} bytes e =
+    let t : List ℕ = drop at s in
+    let small : AreBytes t = bytes-drop at s bytes in
+    let b : getD t 0 0 < 256 = small 0 in
+    let c : getD t 1 0 < 256 = small 1 in
+    let d : getD t 2 0 < 256 = small 2 in
+    let f : getD t 3 0 < 256 = small 3 in
+    let op : word ≡ getD t 0 0 + 256 * readLe 7 t 1 = e ∙ read-suc 7 t 0 in
+    let x : readLe 7 t 1 ≡ getD t 1 0 + 256 * readLe 6 t 2 = read-suc 6 t 1 in
+    let y : readLe 6 t 2 ≡ getD t 2 0 + 256 * readLe 5 t 3 = read-suc 5 t 2 in
+    let z : readLe 5 t 3 ≡ getD t 3 0 + 256 * readLe 4 t 4 = read-suc 4 t 3 in
+    decode-parts index size t (omega arith) (omega arith) (omega arith) (omega arith) (omega arith)
 
 -- What the address of a number that was read is.
 pub address-read : {r x : Address} {n m : ℕ} → r ≡ addressOf n → n ≡ m → r ≡ x → addressOf m ≡ x

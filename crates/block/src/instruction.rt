@@ -3,26 +3,35 @@
 use crate::Decoded;
 use crate::Instr;
 use crate::Source;
-use crate::part::from;
-use crate::part::long;
 ghost use mathlib.Core.Path.{_≡_};
 ghost use lib.ListN.{drop};
 ghost use Rattle.block.specs.Instruction.{sourceOf, allowed, decodeEnd, decodeSet, decodeArg, decodeFact, decodeArith, decodeCell, decodePay, decodeJump, decodeParts, decode, isValid};
 
 // The highest register, argument and source; the source that is the constant.
-const LAST_REGISTER: usize = 7;
+const LAST_REGISTER: u8 = 7;
 
-const LAST_ARGUMENT: usize = 4;
+const LAST_ARGUMENT: u8 = 4;
 
-const LAST_SOURCE: usize = 6;
+const LAST_SOURCE: u8 = 6;
 
-const FROM_CONSTANT: usize = 6;
+const FROM_CONSTANT: u8 = 6;
 
 // w holds the field in its lower half and the constant in its upper one.
 const HALF: u32 = 65536;
 
+// The eight bytes are read as one word: how many numbers a byte holds, and the place values of x, y, z and w in the word.
+const BYTE: u64 = 256;
+
+const PLACE_X: u64 = 256;
+
+const PLACE_Y: u64 = 65536;
+
+const PLACE_Z: u64 = 16777216;
+
+const PLACE_W: u64 = 4294967296;
+
 // Where a part of a key or a target comes from.
-fn source_of(n: usize, w: u32) -> Source
+fn source_of(n: u8, w: u32) -> Source
     ensures { λ r. ⌜ r ≡ sourceOf n w ⌝ }
 {
     if n == 0 {
@@ -48,7 +57,7 @@ fn allowed(rule: bool, i: Instr) -> Decoded
     }
 }
 
-fn decode_end(op: usize, x: usize, y: usize, z: usize, w: u32) -> Decoded
+fn decode_end(op: u8, x: u8, y: u8, z: u8, w: u32) -> Decoded
     ensures { λ r. ⌜ r ≡ decodeEnd op x y z w ⌝ }
 {
     let rule = (x == 0) & (y == 0) & (z == 0) & (w == 0);
@@ -58,7 +67,7 @@ fn decode_end(op: usize, x: usize, y: usize, z: usize, w: u32) -> Decoded
     allowed(rule, Instr::Throw)
 }
 
-fn decode_set(x: usize, y: usize, z: usize, w: u32) -> Decoded
+fn decode_set(x: u8, y: u8, z: u8, w: u32) -> Decoded
     ensures { λ r. ⌜ r ≡ decodeSet x y z w ⌝ }
 {
     let rule = (x <= LAST_REGISTER) & (y == 0) & (z == 0);
@@ -66,21 +75,21 @@ fn decode_set(x: usize, y: usize, z: usize, w: u32) -> Decoded
     allowed(rule, Instr::Set { x, value })
 }
 
-fn decode_arg(x: usize, y: usize, z: usize, w: u32) -> Decoded
+fn decode_arg(x: u8, y: u8, z: u8, w: u32) -> Decoded
     ensures { λ r. ⌜ r ≡ decodeArg x y z w ⌝ }
 {
     let rule = (x <= LAST_REGISTER) & ((1 <= y) & (y <= LAST_ARGUMENT)) & (z == 0) & (w == 0);
     allowed(rule, Instr::Arg { x, argument: y })
 }
 
-fn decode_fact(x: usize, y: usize, z: usize, w: u32, i: Instr) -> Decoded
+fn decode_fact(x: u8, y: u8, z: u8, w: u32, i: Instr) -> Decoded
     ensures { λ r. ⌜ r ≡ decodeFact x y z w i ⌝ }
 {
     let rule = (x <= LAST_REGISTER) & (y == 0) & (z == 0) & (w == 0);
     allowed(rule, i)
 }
 
-fn decode_arith(op: usize, x: usize, y: usize, z: usize, w: u32) -> Decoded
+fn decode_arith(op: u8, x: u8, y: u8, z: u8, w: u32) -> Decoded
     ensures { λ r. ⌜ r ≡ decodeArith op x y z w ⌝ }
 {
     let rule = (x <= LAST_REGISTER) & (y <= LAST_REGISTER) & (z <= LAST_REGISTER) & (w == 0);
@@ -97,7 +106,7 @@ fn decode_arith(op: usize, x: usize, y: usize, z: usize, w: u32) -> Decoded
 }
 
 // The constant in w is zero if no source is the constant.
-fn decode_cell(op: usize, x: usize, y: usize, z: usize, w: u32) -> Decoded
+fn decode_cell(op: u8, x: u8, y: u8, z: u8, w: u32) -> Decoded
     ensures { λ r. ⌜ r ≡ decodeCell op x y z w ⌝ }
 {
     let constant = (y == FROM_CONSTANT) | (z == FROM_CONSTANT) | (w / HALF == 0);
@@ -115,7 +124,7 @@ fn decode_cell(op: usize, x: usize, y: usize, z: usize, w: u32) -> Decoded
     allowed(rule, Instr::Put { x, field, a, b })
 }
 
-fn decode_pay(x: usize, y: usize, z: usize, w: u32) -> Decoded
+fn decode_pay(x: u8, y: u8, z: u8, w: u32) -> Decoded
     ensures { λ r. ⌜ r ≡ decodePay x y z w ⌝ }
 {
     let constant = (y == FROM_CONSTANT) | (w / HALF == 0);
@@ -124,35 +133,19 @@ fn decode_pay(x: usize, y: usize, z: usize, w: u32) -> Decoded
     allowed(rule, Instr::Pay { x, target })
 }
 
-fn decode_jump(
-    index: usize,
-    size: usize,
-    op: usize,
-    x: usize,
-    y: usize,
-    z: usize,
-    w: u32,
-) -> Decoded
+fn decode_jump(index: usize, size: usize, op: u8, x: u8, y: u8, z: u8, w: u32) -> Decoded
     ensures { λ r. ⌜ r ≡ decodeJump index size op x y z w ⌝ }
 {
     let to = w as usize;
     let rule = (x <= LAST_REGISTER) & (y <= LAST_REGISTER) & (z == 0) & (index < to) & (to <= size);
     if op == 14 {
-        return allowed(rule, Instr::Jeq { x, y, to });
+        return allowed(rule, Instr::Jeq { x, y, to: w });
     }
-    allowed(rule, Instr::Jlt { x, y, to })
+    allowed(rule, Instr::Jlt { x, y, to: w })
 }
 
 // The instruction of a code of `size` instructions at `index`, from its parts.
-fn decode_parts(
-    index: usize,
-    size: usize,
-    op: usize,
-    x: usize,
-    y: usize,
-    z: usize,
-    w: u32,
-) -> Decoded
+fn decode_parts(index: usize, size: usize, op: u8, x: u8, y: u8, z: u8, w: u32) -> Decoded
     ensures { λ r. ⌜ r ≡ decodeParts index size op x y z w ⌝ }
 {
     if op < 2 {
@@ -192,12 +185,12 @@ fn decode_parts(
 pub fn decode(code: &[u8], at: usize, index: usize, size: usize) -> Decoded
     ensures { λ r. ⌜ r ≡ decode index size (drop at (now (code .entry))) ⌝ }
 {
-    let s = from(code, at);
-    let op = wire::byte(s, 0) as usize;
-    let x = wire::byte(s, 1) as usize;
-    let y = wire::byte(s, 2) as usize;
-    let z = wire::byte(s, 3) as usize;
-    let w = long(s, 4);
+    let word = wire::get64(code, at);
+    let op = (word % BYTE) as u8;
+    let x = (word / PLACE_X % BYTE) as u8;
+    let y = (word / PLACE_Y % BYTE) as u8;
+    let z = (word / PLACE_Z % BYTE) as u8;
+    let w = (word / PLACE_W) as u32;
     decode_parts(index, size, op, x, y, z, w)
 }
 

@@ -20,7 +20,7 @@ pub enum Payee {
 // Where an instruction takes a part of a key, or a target, from.
 pub enum Source {
     Zero,
-    Argument(usize),
+    Argument(u8),
     Sender,
     Constant(u16),
 }
@@ -30,67 +30,67 @@ pub enum Instr {
     Stop,
     Throw,
     Set {
-        x: usize,
+        x: u8,
         value: i64,
     },
     Arg {
-        x: usize,
-        argument: usize,
+        x: u8,
+        argument: u8,
     },
     Sender {
-        x: usize,
+        x: u8,
     },
     Value {
-        x: usize,
+        x: u8,
     },
     Add {
-        x: usize,
-        y: usize,
-        z: usize,
+        x: u8,
+        y: u8,
+        z: u8,
     },
     Sub {
-        x: usize,
-        y: usize,
-        z: usize,
+        x: u8,
+        y: u8,
+        z: u8,
     },
     Mul {
-        x: usize,
-        y: usize,
-        z: usize,
+        x: u8,
+        y: u8,
+        z: u8,
     },
     Div {
-        x: usize,
-        y: usize,
-        z: usize,
+        x: u8,
+        y: u8,
+        z: u8,
     },
     Get {
-        x: usize,
+        x: u8,
         field: u16,
         a: Source,
         b: Source,
     },
     Put {
-        x: usize,
+        x: u8,
         field: u16,
         a: Source,
         b: Source,
     },
     Bal {
-        x: usize,
+        x: u8,
     },
     Pay {
-        x: usize,
+        x: u8,
         target: Source,
     },
     Jeq {
-        x: usize,
-        y: usize,
-        to: usize,
+        x: u8,
+        y: u8,
+        to: u32,
     },
     Jlt {
-        x: usize,
-        y: usize,
-        to: usize,
+        x: u8,
+        y: u8,
+        to: u32,
     },
 }
 

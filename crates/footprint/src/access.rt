@@ -22,7 +22,7 @@ fn source_word(c: Call, s: Source) -> u32
     let sender = c.sender.number() as u32;
     match s {
         Source::Zero => 0,
-        Source::Argument(k) => argument(c, k) as u32,
+        Source::Argument(k) => argument(c, k as usize) as u32,
         Source::Sender => sender,
         Source::Constant(n) => n as u32,
     }

@@ -22,6 +22,9 @@ enum-told c = search needs
 enum-known-s : tie.Need-enum-known-s
 enum-known-s c = search needs
 
+cast-argument : tie.Need-cast-argument
+cast-argument c = search needs
+
 argument-requires : tie.Need-argument-requires
 argument-requires c κs = search needs
 
@@ -66,6 +69,7 @@ source-word-spec =
     cast-sender
     enum-told
     enum-known-s
+    cast-argument
     argument-requires
     cast-result
     enum-told-2
