@@ -13,7 +13,7 @@ use lib.Seq.{take-suc, drop-cons}
 use Rattle.arith.specs.Choice.{if_then_else_}
 use Rattle.wire.specs.Bytes.{padded}
 use Rattle.block.specs.Limits.{maxBytes, maxCallKeys, maxKeys}
-use Rattle.block.specs.Record.{Block}
+use Rattle.block.specs.Record.{Block, callRecordBytes}
 use Rattle.block.specs.declared.Call.{Call}
 use Rattle.block.specs.declared.Refusal.{Refusal}
 use Rattle.block.specs.declared.Refusal.the-variants.{CallKeys, AllKeys}
@@ -96,7 +96,7 @@ pub record Collecting (file old keys : List ℕ) (n j : ℕ) : Type 0 where
   pub kept : length keys ≡ length old
   pub same :
       analysisOf file (blockOf file)
-      ≡ analyse file (blockOf file .functions) (drop j (blockOf file .calls)) (blockOf file .firstCall + 34 * j) (take j (allSets file (blockOf file))) (keysIn n keys)
+      ≡ analyse file (blockOf file .functions) (drop j (blockOf file .calls)) (blockOf file .firstCall + callRecordBytes * j) (take j (allSets file (blockOf file))) (keysIn n keys)
 
 module _ (file : List ℕ) (l : Layout) (laid : LayoutOfBlock file l) where
   abbrev block : Block
@@ -114,7 +114,7 @@ module _ (file : List ℕ) (l : Layout) (laid : LayoutOfBlock file l) where
       → Collecting file keys keys (l .cells) 0
   collecting-start keys room e =
       let from = start-from (length keys) keys room e in
-      let here : block .firstCall ≡ block .firstCall + 34 * 0 = omega arith in
+      let here : block .firstCall ≡ block .firstCall + callRecordBytes * 0 = omega arith in
       record {
         few = omega arith;
         tabled = from .0;
@@ -123,7 +123,7 @@ module _ (file : List ℕ) (l : Layout) (laid : LayoutOfBlock file l) where
       }
 
   module _ (old keys : List ℕ) (n j : ℕ) (g : Collecting file old keys n j) where
-    pub going-place : j < l .calls → (l .«first_call» + 34 * j + 4 ≤ maxBytes) × (j < length (blockOf file .calls))
+    pub going-place : j < l .calls → (l .«first_call» + callRecordBytes * j + 4 ≤ maxBytes) × (j < length (blockOf file .calls))
     going-place h =
         let calls : l .calls ≡ length (block .calls) = laid-calls file l laid in
         let inside : j < length (block .calls) = omega arith in
@@ -137,10 +137,10 @@ module _ (file : List ℕ) (l : Layout) (laid : LayoutOfBlock file l) where
       set-is = sym (map-at (setsOf file (block .functions)) (block .calls) j defaultCall [] h)
 
       next-call : analysisOf file block
-          ≡ analyse file (block .functions) (call ∷ drop (j + 1) (block .calls)) (block .firstCall + 34 * j) (take j (allSets file block)) (keysIn n keys)
+          ≡ analyse file (block .functions) (call ∷ drop (j + 1) (block .calls)) (block .firstCall + callRecordBytes * j) (take j (allSets file block)) (keysIn n keys)
       next-call =
           g .same
-          ∙ ap (λ (cs : List Call). analyse file (block .functions) cs (block .firstCall + 34 * j) (take j (allSets file block)) (keysIn n keys))
+          ∙ ap (λ (cs : List Call). analyse file (block .functions) cs (block .firstCall + callRecordBytes * j) (take j (allSets file block)) (keysIn n keys))
           (drop-cons (block .calls) j defaultCall h ∙ ap (λ (m : ℕ). call ∷ drop m (block .calls)) (sym (add-one j)))
 
       module _ (s : Sets) (e : s ≡ gathered (setsAt file j)) where
@@ -151,12 +151,12 @@ module _ (file : List ℕ) (l : Layout) (laid : LayoutOfBlock file l) where
         set-worded = subst⁻¹ SetsWorded e (gathered-worded (setsAt file j))
 
         -- Refusal 11.
-        pub going-over : (at : ℕ) → at ≡ l .«first_call» + 34 * j → s .over ≡ true → analysisOf file (blockOf file) ≡ refused (CallKeys at)
+        pub going-over : (at : ℕ) → at ≡ l .«first_call» + callRecordBytes * j → s .over ≡ true → analysisOf file (blockOf file) ≡ refused (CallKeys at)
         going-over at place over =
             next-call
-            ∙ analyse-over file (block .functions) call (drop (j + 1) (block .calls)) (block .firstCall + 34 * j) (take j (allSets file block)) (keysIn n keys)
+            ∙ analyse-over file (block .functions) call (drop (j + 1) (block .calls)) (block .firstCall + callRecordBytes * j) (take j (allSets file block)) (keysIn n keys)
             (sym over-call ∙ over)
-            ∙ ap (λ (m : ℕ). refused (CallKeys m)) (sym (place ∙ ap (λ (m : ℕ). m + 34 * j) (laid-first file l laid)))
+            ∙ ap (λ (m : ℕ). refused (CallKeys m)) (sym (place ∙ ap (λ (m : ℕ). m + callRecordBytes * j) (laid-first file l laid)))
 
         module _ (fits : s .over ≡ false) (r : ℕ) (after : List ℕ) (f : KeysFilled n keys (setKeys s) r after) where
           few-keys : length (setsAt file j) ≤ maxCallKeys
@@ -175,12 +175,12 @@ module _ (file : List ℕ) (l : Layout) (laid : LayoutOfBlock file l) where
           counted = f .counted ∙ ap countOf all-is
 
           -- Refusal 12.
-          pub going-full : (at : ℕ) → at ≡ l .«first_call» + 34 * j → maxKeys < r → analysisOf file (blockOf file) ≡ refused (AllKeys at)
+          pub going-full : (at : ℕ) → at ≡ l .«first_call» + callRecordBytes * j → maxKeys < r → analysisOf file (blockOf file) ≡ refused (AllKeys at)
           going-full at place full =
               next-call
-              ∙ analyse-full file (block .functions) call (drop (j + 1) (block .calls)) (block .firstCall + 34 * j) (take j (allSets file block)) (keysIn n keys)
+              ∙ analyse-full file (block .functions) call (drop (j + 1) (block .calls)) (block .firstCall + callRecordBytes * j) (take j (allSets file block)) (keysIn n keys)
               (sym over-call ∙ fits) (many (ltb maxKeys (length next)) refl)
-              ∙ ap (λ (m : ℕ). refused (AllKeys m)) (sym (place ∙ ap (λ (m : ℕ). m + 34 * j) (laid-first file l laid)))
+              ∙ ap (λ (m : ℕ). refused (AllKeys m)) (sym (place ∙ ap (λ (m : ℕ). m + callRecordBytes * j) (laid-first file l laid)))
             where
               many : (b : Bool) → ltb maxKeys (length next) ≡ b → ltb maxKeys (length next) ≡ true
               many true p = p
@@ -212,7 +212,7 @@ module _ (file : List ℕ) (l : Layout) (laid : LayoutOfBlock file l) where
               tabled next (length keys) (rising-inserts (keysIn n keys) (setsOf file (block .functions) call) (g .tabled .rising)) few (g .tabled .room) in
               let space : 2 * maxKeys ≤ length keys = g .tabled .room in
               let within : length (tableWords next) ≤ length keys = rw (words-length next) (omega arith) in
-              let there : block .firstCall + 34 * j + 34 ≡ block .firstCall + 34 * (j + 1) = omega arith in
+              let there : block .firstCall + callRecordBytes * j + callRecordBytes ≡ block .firstCall + callRecordBytes * (j + 1) = omega arith in
               let sets : take j (allSets file block) ++ (setsOf file (block .functions) call ∷ []) ≡ take (j + 1) (allSets file block) =
               ap (λ (es : List Access). take j (allSets file block) ++ (es ∷ [])) set-is
               ∙ sym (ap (λ (m : ℕ). take m (allSets file block)) (add-one j) ∙ take-suc (allSets file block) j [] (simp length-map h)) in
@@ -224,10 +224,10 @@ module _ (file : List ℕ) (l : Layout) (laid : LayoutOfBlock file l) where
                 kept = ap length (after-is room) ∙ padded-length (length keys) 0 (tableWords next) within ∙ g .kept;
                 same =
                     next-call
-                    ∙ analyse-next file (block .functions) call (drop (j + 1) (block .calls)) (block .firstCall + 34 * j) (take j (allSets file block)) (keysIn n keys)
+                    ∙ analyse-next file (block .functions) call (drop (j + 1) (block .calls)) (block .firstCall + callRecordBytes * j) (take j (allSets file block)) (keysIn n keys)
                     (sym over-call ∙ fits) (le-ltb maxKeys (length next) few)
                     ∙ ap₂ (λ (at : ℕ) (t : List ℕ). analyse file (block .functions) (drop (j + 1) (block .calls)) at (take j (allSets file block) ++ (setsOf file (block .functions) call ∷ [])) t) there table
-                    ∙ ap (λ (e : List (List Access)). analyse file (block .functions) (drop (j + 1) (block .calls)) (block .firstCall + 34 * (j + 1)) e (keysIn r after)) sets;
+                    ∙ ap (λ (e : List (List Access)). analyse file (block .functions) (drop (j + 1) (block .calls)) (block .firstCall + callRecordBytes * (j + 1)) e (keysIn r after)) sets;
               }
 
     -- Behind the last call the analysis is done.
@@ -238,7 +238,7 @@ module _ (file : List ℕ) (l : Layout) (laid : LayoutOfBlock file l) where
         let calls : l .calls ≡ length (block .calls) = laid-calls file l laid in
         let done : analysisOf file block ≡ analysed (take j (allSets file block)) (keysIn n keys) =
         g .same
-        ∙ ap (λ (cs : List Call). analyse file (block .functions) cs (block .firstCall + 34 * j) (take j (allSets file block)) (keysIn n keys))
+        ∙ ap (λ (cs : List Call). analyse file (block .functions) cs (block .firstCall + callRecordBytes * j) (take j (allSets file block)) (keysIn n keys))
         (drop-of-length-le (block .calls) {i = j} (omega arith)) in
         ap₂ (λ (m : ℕ) (t : List ℕ). leaving (record { verdict = verdict.Accepted; cells = m }) t)
         (sym (keys-length n keys)) (g .tabled .same ∙ ap (λ (m : ℕ). padded m 0 (tableWords (keysIn n keys))) (g .kept))

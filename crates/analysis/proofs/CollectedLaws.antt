@@ -10,7 +10,7 @@ use lib.Dec.{eqb, ltb}
 use lib.ListN.{length, getD, length-map}
 use Rattle.wire.specs.Bytes.{padded}
 use Rattle.block.specs.Limits.{maxCallKeys, maxKeys}
-use Rattle.block.specs.Record.{Function, Block}
+use Rattle.block.specs.Record.{Function, Block, callRecordBytes}
 use Rattle.block.specs.Reader.{accepted, readBlock}
 use Rattle.block.proofs.ReaderLaws as reading
 use Rattle.block.specs.declared.Call.{Call}
@@ -54,7 +54,7 @@ module _ (file : List ℕ) (functions : List Function) (c : Call) (cs : List Cal
   pub analyse-next : ltb maxCallKeys (length (setsOf file functions c)) ≡ false
       → ltb maxKeys (length (insertKeys table (setsOf file functions c))) ≡ false
       → analyse file functions (c ∷ cs) at sets table
-      ≡ analyse file functions cs (at + 34) (sets ++ (setsOf file functions c ∷ [])) (insertKeys table (setsOf file functions c))
+      ≡ analyse file functions cs (at + callRecordBytes) (sets ++ (setsOf file functions c ∷ [])) (insertKeys table (setsOf file functions c))
   unfolding analyse
   analyse-next e f = rw (e, f, analyse)
 
@@ -147,7 +147,7 @@ module _ (file : List ℕ) (functions : List Function) where
       let keys : old ≡ table = cc in
       record { all = sym same ∙ sym (append-nil before); kept = λ k m. rw (← keys) m; sound = rw (← same, ← keys) s }
   ends (c ∷ cs) at before old sets table s e =
-      go (ltb maxCallKeys (length es)) refl (ltb maxKeys (length next)) refl (ends cs (at + 34) (before ++ (es ∷ [])) next sets table)
+      go (ltb maxCallKeys (length es)) refl (ltb maxKeys (length next)) refl (ends cs (at + callRecordBytes) (before ++ (es ∷ [])) next sets table)
     where
       es : List Access
       es = setsOf file functions c
@@ -156,7 +156,7 @@ module _ (file : List ℕ) (functions : List Function) where
       next = insertKeys old es
 
       go : (t : Bool) → ltb maxCallKeys (length es) ≡ t → (u : Bool) → ltb maxKeys (length next) ≡ u
-          → (SetsSound (before ++ (es ∷ [])) next → analyse file functions cs (at + 34) (before ++ (es ∷ [])) next ≡ analysed sets table
+          → (SetsSound (before ++ (es ∷ [])) next → analyse file functions cs (at + callRecordBytes) (before ++ (es ∷ [])) next ≡ analysed sets table
           → CollectedAll (before ++ (es ∷ [])) next (map (setsOf file functions) cs) sets table)
           → CollectedAll before old (es ∷ map (setsOf file functions) cs) sets table
       go true over u g later = absurd (never (sym (analyse-over file functions c cs at before old over) ∙ e))

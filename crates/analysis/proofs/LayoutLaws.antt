@@ -14,7 +14,7 @@ use lib.ListN.{length, getD, drop, length-map, List·getD-eq-default}
 use Rattle.arith.specs.Choice.{if_then_else_}
 use Rattle.wire.proofs.BytesLaws.{padded-at}
 use Rattle.block.specs.Limits.{maxBytes, maxCode}
-use Rattle.block.specs.Record.{Function, Cell, Block, callId, callOf, cellOf}
+use Rattle.block.specs.Record.{Function, Cell, Block, callRecordBytes, callId, callOf, cellOf}
 use Rattle.block.specs.Reader.{accepted, refused, due, emptyBlock, readFrom, readBlock}
 use Rattle.block.proofs.ReaderLaws.{BlockLaws, EndsFile, accepted-laws}
 use Rattle.block.specs.declared.Call.{Call}
@@ -103,7 +103,7 @@ module _ (file : List ℕ) (l : Layout) (laid : LayoutOfBlock file l) where
     pub laid-cell-within : l .opening + 24 * i + 4 ≤ maxBytes
     laid-cell-within =
         let short : length file ≤ maxBytes = accepted-short file block (laid .read) in
-        let end : block .firstCall + 34 * length (block .calls) + 4 ≡ length file = laid-whole .end in
+        let end : block .firstCall + callRecordBytes * length (block .calls) + 4 ≡ length file = laid-whole .end in
         let first : block .opening + 24 * length (block .cells) ≡ block .firstCall = laid-whole .laws .firstCall in
         let opening : l .opening ≡ block .opening = laid-opening in
         omega arith
@@ -116,23 +116,23 @@ module _ (file : List ℕ) (l : Layout) (laid : LayoutOfBlock file l) where
 
   module _ (j : ℕ) (h : j < length (blockOf file .calls)) where
     -- A call's record lies within the file.
-    pub call-within : l .«first_call» + 34 * j + 4 ≤ maxBytes
+    pub call-within : l .«first_call» + callRecordBytes * j + 4 ≤ maxBytes
     call-within =
         let short : length file ≤ maxBytes = accepted-short file block (laid .read) in
-        let end : block .firstCall + 34 * length (block .calls) + 4 ≡ length file = laid-whole .end in
+        let end : block .firstCall + callRecordBytes * length (block .calls) + 4 ≡ length file = laid-whole .end in
         let first : l .«first_call» ≡ block .firstCall = laid-first in
         omega arith
 
-    body-at : (d : Call) → callOf (drop (l .«first_call» + 34 * j + 4) file) ≡ InRange (getD (block .calls) j d)
-    body-at d = ap (λ (n : ℕ). callOf (drop (n + 34 * j + 4) file)) laid-first ∙ laid-whole .laws .calls j d h
+    body-at : (d : Call) → callOf (drop (l .«first_call» + callRecordBytes * j + 4) file) ≡ InRange (getD (block .calls) j d)
+    body-at d = ap (λ (n : ℕ). callOf (drop (n + callRecordBytes * j + 4) file)) laid-first ∙ laid-whole .laws .calls j d h
 
     -- What the record of call j holds is a call.
-    pub call-there : {r : CallBody} → r ≡ callOf (drop (l .«first_call» + 34 * j + 4) file) → r ≡ OutOfRange → ⊥
+    pub call-there : {r : CallBody} → r ≡ callOf (drop (l .«first_call» + callRecordBytes * j + 4) file) → r ≡ OutOfRange → ⊥
     call-there {r} e f =
         let same : r ≡ InRange (getD (block .calls) j defaultCall) = e ∙ body-at defaultCall in
         let z : _≡_ {A = ℕ} 0 1 = cc in omega arith
 
-    module _ (c : Call) {r : CallBody} (e : r ≡ callOf (drop (l .«first_call» + 34 * j + 4) file)) (f : r ≡ InRange c) where
+    module _ (c : Call) {r : CallBody} (e : r ≡ callOf (drop (l .«first_call» + callRecordBytes * j + 4) file)) (f : r ≡ InRange c) where
       call-is : getD (block .calls) j c ≡ c
       call-is =
           let same : InRange c ≡ InRange (getD (block .calls) j c) = sym f ∙ e ∙ body-at c in

@@ -14,7 +14,7 @@ use lib.Seq.{take-suc, take-all, set-append-left, length-take-le}
 use Rattle.arith.specs.Choice.{if_then_else_}
 use Rattle.wire.specs.Bytes.{repeated, padded}
 use Rattle.block.specs.Limits.{maxBytes}
-use Rattle.block.specs.Record.{Cell, cellOf}
+use Rattle.block.specs.Record.{Cell, callRecordBytes, cellOf}
 use Rattle.footprint.specs.Conflict.{member}
 use Rattle.footprint.specs.Plan.{openingValue}
 use Rattle.footprint.specs.Table.{cellNumber}
@@ -150,7 +150,7 @@ module _ (file : List ℕ) (l : Layout) (laid : LayoutOfBlock file l) (table : L
       let count : l .cells ≡ length cells = laid-cells file l laid in
       let from : l .opening ≡ blockOf file .opening = laid-opening file l laid in
       let first : blockOf file .opening + 24 * length cells ≡ blockOf file .firstCall = laid-whole file l laid .laws .firstCall in
-      let end : blockOf file .firstCall + 34 * length (blockOf file .calls) + 4 ≡ length file = laid-whole file l laid .end in
+      let end : blockOf file .firstCall + callRecordBytes * length (blockOf file .calls) + 4 ≡ length file = laid-whole file l laid .end in
       let short : length file ≤ maxBytes = accepted-short file (blockOf file) (laid .read) in
       omega arith
 

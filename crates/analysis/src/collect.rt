@@ -14,7 +14,7 @@ use block::limits::MAX_KEYS;
 use block::part::from;
 use block::part::long;
 use block::part::short;
-use block::record::CALL_BYTES;
+use block::record::CALL_RECORD_BYTES;
 use block::record::CELL_BYTES;
 use block::record::HEAD_BYTES;
 use block::record::call_at;
@@ -27,7 +27,7 @@ ghost use Prim.Native.Nat.{_+_, _*_, _≤_, _<_};
 ghost use lib.ListN.{length, drop};
 ghost use Rattle.wire.specs.Bytes.{repeated, padded};
 ghost use Rattle.block.specs.Limits.{maxBytes, maxCode, maxFunctions, maxKeys};
-ghost use Rattle.block.specs.Record.{callId, cellOf, headBytes, callBytes};
+ghost use Rattle.block.specs.Record.{callId, cellOf, headBytes, callRecordBytes};
 ghost use Rattle.footprint.specs.Plan.{codeWords, highWord, lowWord, tableWords};
 ghost use Rattle.footprint.specs.Table.{refused};
 ghost use Rattle.analysis.specs.Coded.{Narrow, codeIn, codeSets, idPlace, wordsOf};
@@ -73,10 +73,10 @@ fn code_of(l: Layout, c: Call) -> Code
 
 // Where the body of a call starts.
 fn call_place(l: Layout, call: usize) -> usize
-    requires { ⌜ l .«first_call» + (headBytes + callBytes) * call + headBytes ≤ maxBytes ⌝ }
-    ensures { λ r. ⌜ r ≡ l .«first_call» + (headBytes + callBytes) * call + headBytes ⌝ }
+    requires { ⌜ l .«first_call» + callRecordBytes * call + headBytes ≤ maxBytes ⌝ }
+    ensures { λ r. ⌜ r ≡ l .«first_call» + callRecordBytes * call + headBytes ⌝ }
 {
-    l.first_call + (HEAD_BYTES + CALL_BYTES) * call + HEAD_BYTES
+    l.first_call + CALL_RECORD_BYTES * call + HEAD_BYTES
 }
 
 // The code of the function that a call names.
@@ -191,7 +191,7 @@ pub(crate) fn call_keys(file: &[u8], l: Layout, keys: &mut [u64]) -> Collected
     let mut n = l.cells;
     let mut call = 0;
     while call < l.calls {
-        let at = l.first_call + (HEAD_BYTES + CALL_BYTES) * call;
+        let at = l.first_call + CALL_RECORD_BYTES * call;
         let s = call_sets(file, l, call);
         if s.over {
             return refuse_keys(keys, Refusal::CallKeys(at));

@@ -17,7 +17,7 @@ use Rattle.wire.specs.Bytes.{number, readLe, bytesOf}
 use Rattle.wire.proofs.BytesLaws.{number-bytesOf, number-lt}
 use Rattle.block.specs.Key.{firstContract, addressOf, keyOf, addressIn, fieldIn, aIn, bIn, isBalance, keyAllowed}
 use Rattle.block.proofs.KeyLaws.{address-of, field-of, a-of, b-of, key-parts}
-use Rattle.block.specs.Record.{Cell, cellOf, cellAllowed, callOf}
+use Rattle.block.specs.Record.{Cell, callBytes, cellOf, cellAllowed, callOf}
 use Rattle.block.specs.Encoding.{AreBytes, CellKeeps, CallKeeps, CallFits}
 use Rattle.block.proofs.EncodingLaws.{cellBody, callBody, bytes-drop, bytes-split}
 use Rattle.block.specs.declared.Call.{Call}
@@ -168,7 +168,7 @@ module _ (c : Call) (more : List ℕ) where
   abbrev call : List ℕ
   call = callBody c ++ more
 
-  pub call-behind : drop 30 call ≡ more
+  pub call-behind : drop callBytes call ≡ more
   unfolding bytesOf
   call-behind = refl
 
@@ -233,7 +233,7 @@ call-in s c e = go (ltb (number 2 s) firstContract && leb firstContract (readLe 
         (ltb-true (number 2 s) firstContract (p .0), leb-true firstContract (readLe 2 s 2) (p .1), o .1, cc)
 
 module _ (s : List ℕ) (bytes : AreBytes s) where
-  in-split : 30 ≤ length s → s ≡ callBody (callInBody s) ++ drop 30 s
+  in-split : callBytes ≤ length s → s ≡ callBody (callInBody s) ++ drop callBytes s
   in-split fit =
       rw (value-bytes s bytes 6)
       (bytes-split 2 0 s bytes (omega arith) ∙ ap (λ (t : List ℕ). bytesOf 2 (number 2 s) ++ t)
@@ -254,7 +254,7 @@ module _ (s : List ℕ) (bytes : AreBytes s) where
         arguments = (below-32 s bytes 14, below-32 s bytes 18, below-32 s bytes 22, below-32 s bytes 26);
       }
 
-  pub call-split : (c : Call) → callOf s ≡ InRange c → 30 ≤ length s → s ≡ callBody c ++ drop 30 s
+  pub call-split : (c : Call) → callOf s ≡ InRange c → callBytes ≤ length s → s ≡ callBody c ++ drop callBytes s
   call-split c e fit = rw (call-in s c e .3) (in-split fit)
 
   pub call-keeps : (c : Call) → callOf s ≡ InRange c → CallKeeps c

@@ -7,7 +7,7 @@ use native.Mathlib.Omega.{arith}
 use borrow.Author.Tests.{ltb-true, lt-ltb}
 use lib.ListN.{length, length-append, drop}
 use Rattle.wire.proofs.BytesLaws.{number-bytesOf}
-use Rattle.block.specs.Record.{Function, Cell, functionId, headBytes, functionKind, cellKind, endKind, recordOf}
+use Rattle.block.specs.Record.{Function, Cell, functionId, headBytes, functionKind, cellKind, endKind, callBytes, recordOf}
 use Rattle.block.specs.Reader.{rises}
 use Rattle.block.specs.Encoding.{Routine, Contents, functionRecord, cellRecord, callRecord, records, fileOf, All, Ascending, sizeOf, routineId, placed, blockFor}
 use Rattle.block.proofs.EncodingLaws.{functionBody, cellBody, callBody}
@@ -57,7 +57,7 @@ pub cell-length : (c : Cell) → length (cellBody c) ≡ 20
 unfolding bytesOf
 cell-length c = refl
 
-pub call-length : (c : Call) → length (callBody c) ≡ 30
+pub call-length : (c : Call) → length (callBody c) ≡ callBytes
 unfolding bytesOf
 call-length c = refl
 

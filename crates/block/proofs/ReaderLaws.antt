@@ -20,7 +20,7 @@ use Rattle.wire.proofs.BytesLaws.{number-lt}
 use Rattle.block.specs.Key.{addressOf, fieldIn, isBalance, keyAllowed}
 use Rattle.block.proofs.KeyLaws.{field-of}
 use Rattle.block.specs.Instruction.{decode, isValid, firstInvalid}
-use Rattle.block.specs.Record.{Function, Cell, Block, functionId, lengthAllowed, cellOf, cellAllowed, callOf}
+use Rattle.block.specs.Record.{Function, Cell, Block, functionId, callBytes, callRecordBytes, lengthAllowed, cellOf, cellAllowed, callOf}
 use Rattle.block.specs.Reader.{Read, Reading, accepted, refused, due, ended, emptyBlock, rises, balances, readFunction, readCell, withCall, readCall, readEnd, readBody, readRecord, readFrom, readBlock}
 use Rattle.block.specs.declared.Call.{Call}
 use Rattle.block.specs.declared.CallBody.{CallBody}
@@ -44,7 +44,7 @@ pub record BlockLaws (file : List ℕ) (b : Block) : Type 0 where
   pub codes : EachAt (λ i f. FunctionSound file f) (b .functions)
   pub cells : EachAt (λ i c. c ≡ cellOf (drop (b .opening + 24 * i + 4) file)) (b .cells)
   pub allowed : EachAt (λ i c. cellAllowed (drop (b .opening + 24 * i + 4) file) ≡ true) (b .cells)
-  pub calls : EachAt (λ i c. callOf (drop (b .firstCall + 34 * i + 4) file) ≡ InRange c) (b .calls)
+  pub calls : EachAt (λ i c. callOf (drop (b .firstCall + callRecordBytes * i + 4) file) ≡ InRange c) (b .calls)
   pub firstCall : b .opening + 24 * length (b .cells) ≡ b .firstCall
   pub ids : Rising (map functionId (b .functions))
   pub keys : Rising (map (λ c. c .key) (b .cells))
@@ -58,14 +58,14 @@ pub record Reached (file : List ℕ) (kind at : ℕ) (rest : List ℕ) (b : Bloc
   pub laws : BlockLaws file b
   pub here : rest ≡ drop at file
   pub within : at ≤ length file
-  pub place : b .firstCall + 34 * length (b .calls) ≡ at
+  pub place : b .firstCall + callRecordBytes * length (b .calls) ≡ at
   pub noCells : kind < 2 → length (b .cells) ≡ 0
   pub noCalls : kind < 3 → length (b .calls) ≡ 0
 
 -- At the end: the end record is the last of the file.
 pub record EndsFile (file : List ℕ) (b : Block) : Type 0 where
   pub laws : BlockLaws file b
-  pub end : b .firstCall + 34 * length (b .calls) + 4 ≡ length file
+  pub end : b .firstCall + callRecordBytes * length (b .calls) + 4 ≡ length file
 
 abbrev pub Right : List ℕ → Reading → Type 0
 Right file (due kind at rest b) = Reached file kind at rest b
@@ -128,9 +128,9 @@ cell-length : (kind len : ℕ) → lengthAllowed kind len ≡ true → kind ≡ 
 unfolding lengthAllowed
 cell-length kind len e k = eqb-true len 20 (simp k at e)
 
-call-length : (kind len : ℕ) → lengthAllowed kind len ≡ true → kind ≡ 3 → len ≡ 30
+call-length : (kind len : ℕ) → lengthAllowed kind len ≡ true → kind ≡ 3 → len ≡ callBytes
 unfolding lengthAllowed
-call-length kind len e k = eqb-true len 30 (simp k at e)
+call-length kind len e k = eqb-true len callBytes (simp k at e)
 
 invalid-le : (left index size : ℕ) (s : List ℕ) → firstInvalid left index size s ≤ index + left
 unfolding firstInvalid
@@ -162,7 +162,7 @@ module _ (file : List ℕ) (kind at : ℕ) (rest : List ℕ) (b : Block) (r : Re
               codes = each-snoc (λ i g. FunctionSound file g) (b .functions) f (r .laws .codes) good;
               cells = each-none (λ i c. c ≡ cellOf (drop (at + 4 + len + 24 * i + 4) file)) (b .cells) cells;
               allowed = each-none (λ i c. cellAllowed (drop (at + 4 + len + 24 * i + 4) file) ≡ true) (b .cells) cells;
-              calls = each-none (λ i c. callOf (drop (at + 4 + len + 34 * i + 4) file) ≡ InRange c) (b .calls) calls;
+              calls = each-none (λ i c. callOf (drop (at + 4 + len + callRecordBytes * i + 4) file) ≡ InRange c) (b .calls) calls;
               firstCall = omega arith;
               ids = rw (map-append functionId (b .functions) (f ∷ [])) (rising-snoc (map functionId (b .functions)) (functionId f) (r .laws .ids) up);
               keys = r .laws .keys;
@@ -204,7 +204,7 @@ module _ (file : List ℕ) (kind at : ℕ) (rest : List ℕ) (b : Block) (r : Re
   with-cell k size room good up sum =
       let calls : length (b .calls) ≡ 0 = r .noCalls k in
       let from : b .opening + 24 * length (b .cells) ≡ b .firstCall = r .laws .firstCall in
-      let to : b .firstCall + 34 * length (b .calls) ≡ at = r .place in
+      let to : b .firstCall + callRecordBytes * length (b .calls) ≡ at = r .place in
       let here : at + 4 ≡ b .opening + 24 * length (b .cells) + 4 = omega arith in
       let body : drop 4 rest ≡ drop (b .opening + 24 * length (b .cells) + 4) file = body-at ∙ ap (λ (n : ℕ). drop n file) here in
       record {
@@ -213,7 +213,7 @@ module _ (file : List ℕ) (kind at : ℕ) (rest : List ℕ) (b : Block) (r : Re
               codes = r .laws .codes;
               cells = each-snoc (λ i c. c ≡ cellOf (drop (b .opening + 24 * i + 4) file)) (b .cells) (cellOf (drop 4 rest)) (r .laws .cells) (ap (λ (s : List ℕ). cellOf s) body);
               allowed = each-snoc (λ i c. cellAllowed (drop (b .opening + 24 * i + 4) file) ≡ true) (b .cells) (cellOf (drop 4 rest)) (r .laws .allowed) (rw (← body) good);
-              calls = each-none (λ i c. callOf (drop (at + 4 + len + 34 * i + 4) file) ≡ InRange c) (b .calls) calls;
+              calls = each-none (λ i c. callOf (drop (at + 4 + len + callRecordBytes * i + 4) file) ≡ InRange c) (b .calls) calls;
               firstCall = omega (arith, length-snoc (b .cells) (cellOf (drop 4 rest)));
               ids = r .laws .ids;
               keys = rw (map-append (λ c. c .key) (b .cells) (cellOf (drop 4 rest) ∷ [])) (rising-snoc (map (λ c. c .key) (b .cells)) (cellOf (drop 4 rest) .key) (r .laws .keys) up);
@@ -238,19 +238,19 @@ module _ (file : List ℕ) (kind at : ℕ) (rest : List ℕ) (b : Block) (r : Re
       if-all (Right file) (not (leZ (total (balances (b .cells ++ (cellOf (drop 4 rest) ∷ [])))) largest)) (λ e. tt) λ sum.
       with-cell k size (leb-false 1024 (length (b .cells)) room) (not-false _ good) (not-false _ up) (not-false _ sum)
 
-  with-call : (c : Call) → len ≡ 30 → length (b .calls) < 256 → callOf (drop 4 rest) ≡ InRange c
+  with-call : (c : Call) → len ≡ callBytes → length (b .calls) < 256 → callOf (drop 4 rest) ≡ InRange c
       → Reached file 3 (at + 4 + len) (drop len (drop 4 rest)) (record { functions = b .functions; cells = b .cells; calls = b .calls ++ (c ∷ []); opening = b .opening; firstCall = b .firstCall })
   with-call c size room good =
-      let to : b .firstCall + 34 * length (b .calls) ≡ at = r .place in
-      let here : at + 4 ≡ b .firstCall + 34 * length (b .calls) + 4 = omega arith in
-      let body : drop 4 rest ≡ drop (b .firstCall + 34 * length (b .calls) + 4) file = body-at ∙ ap (λ (n : ℕ). drop n file) here in
+      let to : b .firstCall + callRecordBytes * length (b .calls) ≡ at = r .place in
+      let here : at + 4 ≡ b .firstCall + callRecordBytes * length (b .calls) + 4 = omega arith in
+      let body : drop 4 rest ≡ drop (b .firstCall + callRecordBytes * length (b .calls) + 4) file = body-at ∙ ap (λ (n : ℕ). drop n file) here in
       record {
         laws =
             record {
               codes = r .laws .codes;
               cells = r .laws .cells;
               allowed = r .laws .allowed;
-              calls = each-snoc (λ i c′. callOf (drop (b .firstCall + 34 * i + 4) file) ≡ InRange c′) (b .calls) c (r .laws .calls) (rw (← body) good);
+              calls = each-snoc (λ i c′. callOf (drop (b .firstCall + callRecordBytes * i + 4) file) ≡ InRange c′) (b .calls) c (r .laws .calls) (rw (← body) good);
               firstCall = r .laws .firstCall;
               ids = r .laws .ids;
               keys = r .laws .keys;
@@ -266,7 +266,7 @@ module _ (file : List ℕ) (kind at : ℕ) (rest : List ℕ) (b : Block) (r : Re
         noCalls = λ h. absurd (omega arith);
       }
 
-  right-call : len ≡ 30 → Right file (readCall at len (drop 4 rest) b)
+  right-call : len ≡ callBytes → Right file (readCall at len (drop 4 rest) b)
   unfolding readCall withCall
   right-call size = if-all (Right file) (leb 256 (length (b .calls))) (λ e. tt) λ room. go (leb-false 256 (length (b .calls)) room) (callOf (drop 4 rest)) refl
     where
@@ -279,7 +279,7 @@ module _ (file : List ℕ) (kind at : ℕ) (rest : List ℕ) (b : Block) (r : Re
   right-end =
       if-all (Right file) (ltb (at + 4) (length file)) (λ e. tt) λ e.
       let last : length file ≤ at + 4 = ltb-false (at + 4) (length file) e in
-      let to : b .firstCall + 34 * length (b .calls) ≡ at = r .place in
+      let to : b .firstCall + callRecordBytes * length (b .calls) ≡ at = r .place in
       record { laws = r .laws; end = omega arith }
 
   right-body : (k : ℕ) → kind ≤ k → lengthAllowed k len ≡ true → Right file (readBody (length file) k at len (drop 4 rest) b)
@@ -325,7 +325,7 @@ reached-start file =
             codes = each-none (λ i f. FunctionSound file f) [] refl;
             cells = each-none (λ i c. c ≡ cellOf (drop (0 + 24 * i + 4) file)) [] refl;
             allowed = each-none (λ i c. cellAllowed (drop (0 + 24 * i + 4) file) ≡ true) [] refl;
-            calls = each-none (λ i c. callOf (drop (0 + 34 * i + 4) file) ≡ InRange c) [] refl;
+            calls = each-none (λ i c. callOf (drop (0 + callRecordBytes * i + 4) file) ≡ InRange c) [] refl;
             firstCall = refl;
             ids = λ i j h k. absurd (omega arith);
             keys = λ i j h k. absurd (omega arith);

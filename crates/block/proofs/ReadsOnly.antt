@@ -13,7 +13,7 @@ use Rattle.arith.proofs.ChoiceLaws.{if-all, both, neither}
 use Rattle.arith.specs.Balance.{total, largest}
 use Rattle.wire.specs.Bytes.{number, readLe, bytesOf}
 use Rattle.block.specs.Instruction.{firstInvalid}
-use Rattle.block.specs.Record.{Cell, Block, functionId, functionKind, cellKind, callKind, endKind, recordOf, lengthAllowed, cellOf, cellAllowed, callOf}
+use Rattle.block.specs.Record.{Cell, Block, functionId, functionKind, cellKind, callKind, endKind, callBytes, recordOf, lengthAllowed, cellOf, cellAllowed, callOf}
 use Rattle.block.specs.Reader.{Read, Reading, accepted, refused, due, ended, emptyBlock, rises, balances, readFunction, readCell, withCall, readCall, readEnd, readBody, readRecord, readFrom, readBlock}
 use Rattle.block.specs.Encoding.{Routine, Contents, functionRecord, cellRecord, callRecord, records, fileOf, AreBytes, All, Ascending, sizeOf, FunctionKeeps, CellKeeps, CallKeeps, routineId, FunctionsKeep, CellsKeep, CallsKeep, HoldsContents, placed, blockFor}
 use Rattle.block.proofs.EncodingLaws.{functionBody, cellBody, callBody, bytes-drop, bytes-split, routineIn, function-size, function-split, function-length-in, function-keeps}
@@ -179,16 +179,16 @@ module _ (file : List ℕ) (kind at : ℕ) (rest : List ℕ) (len : ℕ) (own : 
       if-all (Right file) (not (leZ (total (balances (cs ++ (cellOf body ∷ [])))) largest)) (λ e. tt) λ sum.
       with-cell fs cs r is twenty (cell-keeps body (bytes-drop 4 rest (r .bytes)) (not-false _ good)) (leb-false 1024 (length cs) room) (not-false _ up) (not-false _ sum)
 
-  with-call : (fs : List Routine) (cs : List Cell) (ks : List Call) → Stands file kind at rest fs cs ks → readLe 2 rest 2 ≡ 3 → len ≡ 30
+  with-call : (fs : List Routine) (cs : List Cell) (ks : List Call) → Stands file kind at rest fs cs ks → readLe 2 rest 2 ≡ 3 → len ≡ callBytes
       → length ks < 256 → (c : Call) → callOf body ≡ InRange c → Held file 3 (at + 4 + len) (drop len (drop 4 rest)) (blockFor (holding fs cs (ks ++ (c ∷ []))))
-  with-call fs cs ks r is thirty room c e =
+  with-call fs cs ks r is sized room c e =
       let fits : len ≤ length (drop 4 rest) = body-fits in
       let split : drop 4 rest ≡ callBody c ++ drop len (drop 4 rest) =
-      subst⁻¹ (λ (n : ℕ). drop 4 rest ≡ callBody c ++ drop n (drop 4 rest)) thirty (call-split body (bytes-drop 4 rest (r .bytes)) c e (omega arith)) in
-      let long : length (callBody c) ≡ 30 = call-length c in
+      subst⁻¹ (λ (n : ℕ). drop 4 rest ≡ callBody c ++ drop n (drop 4 rest)) sized (call-split body (bytes-drop 4 rest (r .bytes)) c e (omega arith)) in
+      let long : length (callBody c) ≡ callBytes = call-length c in
       let bytes : rest ≡ callRecord c ++ drop len (drop 4 rest) =
       subst (λ (k : ℕ). rest ≡ recordOf k (callBody c) ++ drop len (drop 4 rest)) is
-      (record-split rest (r .bytes) four (callBody c) (drop len (drop 4 rest)) (sym own ∙ thirty ∙ sym long) split) in
+      (record-split rest (r .bytes) four (callBody c) (drop len (drop 4 rest)) (sym own ∙ sized ∙ sym long) split) in
       let record-long : length (callRecord c) ≡ 4 + length (callBody c) = record-length callKind (callBody c) in
       record {
         fs = fs;
@@ -208,15 +208,15 @@ module _ (file : List ℕ) (kind at : ℕ) (rest : List ℕ) (len : ℕ) (own : 
         block = refl;
       }
 
-  right-call : (fs : List Routine) (cs : List Cell) (ks : List Call) → Stands file kind at rest fs cs ks → readLe 2 rest 2 ≡ 3 → len ≡ 30
+  right-call : (fs : List Routine) (cs : List Cell) (ks : List Call) → Stands file kind at rest fs cs ks → readLe 2 rest 2 ≡ 3 → len ≡ callBytes
       → Right file (readCall at len (drop 4 rest) (blockFor (holding fs cs ks)))
   unfolding readCall withCall blockFor
-  right-call fs cs ks r is thirty =
+  right-call fs cs ks r is sized =
       if-all (Right file) (leb 256 (length ks)) (λ e. tt) λ room. go (leb-false 256 (length ks) room) (callOf body) refl
     where
       go : length ks < 256 → (c : CallBody) → callOf body ≡ c → Right file (withCall at len body (blockFor (holding fs cs ks)) c)
       go room OutOfRange e = tt
-      go room (InRange c) e = with-call fs cs ks r is thirty room c e
+      go room (InRange c) e = with-call fs cs ks r is sized room c e
 
   right-end : length file ≤ 65536 → (fs : List Routine) (cs : List Cell) (ks : List Call) → Stands file kind at rest fs cs ks → readLe 2 rest 2 ≡ 4 → len ≡ 0
       → Right file (readEnd (length file) at (blockFor (holding fs cs ks)))
@@ -250,9 +250,9 @@ function-lengths len e =
     let p = both (leb 4 len) (leb len 516) (o .0) in
     (leb-true 4 len (p .0), leb-true len 516 (p .1), eqb-true ((len - 4) % 8) 0 (o .1))
 
-other-lengths : (len : ℕ) → (lengthAllowed 2 len ≡ true → len ≡ 20) × (lengthAllowed 3 len ≡ true → len ≡ 30) × (lengthAllowed 4 len ≡ true → len ≡ 0)
+other-lengths : (len : ℕ) → (lengthAllowed 2 len ≡ true → len ≡ 20) × (lengthAllowed 3 len ≡ true → len ≡ callBytes) × (lengthAllowed 4 len ≡ true → len ≡ 0)
 unfolding lengthAllowed
-other-lengths len = (eqb-true len 20, eqb-true len 30, eqb-true len 0)
+other-lengths len = (eqb-true len 20, eqb-true len callBytes, eqb-true len 0)
 
 module _ (file : List ℕ) (short : length file ≤ 65536) where
   right-body : (kind at : ℕ) (rest : List ℕ) (fs : List Routine) (cs : List Cell) (ks : List Call) → Stands file kind at rest fs cs ks

@@ -17,7 +17,7 @@ use Rattle.arith.proofs.BalanceLaws.{BalancesWithin, limit-within, total-front}
 use Rattle.arith.proofs.IntegerLaws.{posPart, le-leZ}
 use Rattle.wire.specs.Bytes.{number}
 use Rattle.block.specs.Key.{firstContract, isBalance}
-use Rattle.block.specs.Record.{Cell, Block, functionId, functionKind, cellKind, callKind, endKind, recordOf, lengthAllowed, cellOf, cellAllowed}
+use Rattle.block.specs.Record.{Cell, Block, functionId, functionKind, cellKind, callKind, endKind, callBytes, recordOf, lengthAllowed, cellOf, cellAllowed}
 use Rattle.block.specs.Reader.{Read, accepted, due, ended, emptyBlock, rises, balances, readFunction, readCell, withCall, readCall, readEnd, readBody, readRecord, readFrom, readBlock}
 use Rattle.block.specs.Encoding.{Routine, Contents, functionRecord, cellRecord, callRecord, records, fileOf, All, Ascending, sizeOf, FunctionKeeps, CellKeeps, CallKeeps, routineId, FunctionsKeep, CellsKeep, CallsKeep, KeepsRules, placed, blockFor}
 use Rattle.block.proofs.EncodingLaws.{functionBody, cellBody, callBody, function-contract, function-number, function-code, function-valid, function-size}
@@ -81,8 +81,8 @@ cell-taken c keeps at more b room up sum =
 
 -- A call that breaks no demand is taken.
 call-taken : (c : Call) → CallKeeps c → (at : ℕ) (more : List ℕ) (b : Block) → length (b .calls) < 256
-    → readCall at 30 (callBody c ++ more) b
-    ≡ due callKind (at + 4 + 30) more (record { functions = b .functions; cells = b .cells; calls = b .calls ++ (c ∷ []); opening = b .opening; firstCall = b .firstCall })
+    → readCall at callBytes (callBody c ++ more) b
+    ≡ due callKind (at + 4 + callBytes) more (record { functions = b .functions; cells = b .cells; calls = b .calls ++ (c ∷ []); opening = b .opening; firstCall = b .firstCall })
 unfolding readCall withCall
 call-taken c keeps at more b room =
     rw (call-back c more keeps, lt-leb 256 (length (b .calls)) room, call-behind c more)
@@ -218,10 +218,10 @@ module _ (size kind : ℕ) (more : List ℕ) where
       let own : CallKeeps c = all-middle CallKeeps before c ks (keep .each) in
       let few : length (before ++ c ∷ ks) ≤ 256 = keep .few in
       let at : ℕ = length (sent fs cs before) in
-      let body : length (callBody c) ≡ 30 = call-length c in
+      let body : length (callBody c) ≡ callBytes = call-length c in
       let long : length (callRecord c) ≡ 4 + length (callBody c) = record-length callKind (callBody c) in
       let room : length before < 256 = omega (arith, length-append before (c ∷ ks)) in
-      let next : length (sent fs cs (before ++ (c ∷ []))) ≡ at + 4 + 30 = ap length (sent-call fs cs before c) ∙ length-append (sent fs cs before) (callRecord c) ∙ omega arith in
+      let next : length (sent fs cs (before ++ (c ∷ []))) ≡ at + 4 + callBytes = ap length (sent-call fs cs before c) ∙ length-append (sent fs cs before) (callRecord c) ∙ omega arith in
       record-read size kind at (blockFor (holding fs cs before)) callKind (callBody c) more (omega arith) (omega arith) up (rw body) (omega arith)
       (omega (arith, records-fit callRecord before c ks all same, sent-length fs cs before, sent-length fs cs all))
       ∙ ap (λ (n : ℕ). readCall at n (callBody c ++ more) (blockFor (holding fs cs before))) body

@@ -55,6 +55,10 @@ cellBytes = 20
 abbrev pub callBytes : ℕ
 callBytes = 30
 
+-- The length of a call's record, its head included.
+abbrev pub callRecordBytes : ℕ
+callRecordBytes = headBytes + callBytes
+
 -- The length of a receipt's body: "outcome 2, count 2".
 abbrev pub receiptBytes : ℕ
 receiptBytes = 4

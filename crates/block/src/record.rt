@@ -41,6 +41,9 @@ pub const CALL_BYTES: usize = 30;
 
 pub const RECEIPT_BYTES: usize = 4;
 
+// The length of a call's record, its head included.
+pub const CALL_RECORD_BYTES: usize = HEAD_BYTES + CALL_BYTES;
+
 // The place values of address and field in a key's first word, above a, and how many fields there are.
 pub const ADDRESS_BASE: u64 = 281474976710656;
 

@@ -6,7 +6,7 @@ use lib.Dec.{eqb, ltb}
 use lib.ListN.{length}
 use Rattle.arith.specs.Choice.{if_then_else_}
 use Rattle.block.specs.Limits.{maxCallKeys, maxKeys}
-use Rattle.block.specs.Record.{Function, headBytes, callBytes}
+use Rattle.block.specs.Record.{Function, callRecordBytes}
 use Rattle.block.specs.declared.Call.{Call}
 use Rattle.block.specs.declared.Refusal.{Refusal}
 use Rattle.block.specs.declared.Refusal.the-variants.{CallKeys, AllKeys}
@@ -42,6 +42,6 @@ analyse block functions (c ∷ cs) at sets table =
       | true ↦ refused (CallKeys at)
       | false ↦ elim (ltb maxKeys (length keys)) [
         | true ↦ refused (AllKeys at)
-        | false ↦ analyse block functions cs (at + (headBytes + callBytes)) (sets ++ (es ∷ [])) keys
+        | false ↦ analyse block functions cs (at + callRecordBytes) (sets ++ (es ∷ [])) keys
       ]
     ]

@@ -5,6 +5,7 @@ use mathlib.Core.Path.{refl, _∙_}
 use Prim.Native.Nat.{_+_, _-_, _*_, _≤_, _<_}
 use lib.ListN.{length}
 use Rattle.block.specs.Limits.{maxBytes}
+use Rattle.block.specs.Record.{callRecordBytes}
 use Rattle.analysis.specs.LayoutOfBlock.{blockOf}
 use Rattle.analysis.proofs.CallLaws.{Collecting, collecting-start, going-place, set-worded, going-over, going-full, collecting-more, collecting-end, going-refused}
 use Rattle.analysis.proofs.collect.call_keys.Statement.{statement}
@@ -18,7 +19,7 @@ abbrev μ-loop : tie.MeasureT-loop
 
 -- A call's record lies within the file.
 inside : (c : tie.Then1 Inv-loop μ-loop)
-    → (c .before .before .before .before .before .args .l .«first_call» + 34 * c .before .before .loop .call + 4 ≤ maxBytes) × (c .before .before .loop .call < length (blockOf (c .before .before .before .before .before .args .file .now) .calls))
+    → (c .before .before .before .before .before .args .l .«first_call» + callRecordBytes * c .before .before .loop .call + 4 ≤ maxBytes) × (c .before .before .loop .call < length (blockOf (c .before .before .before .before .before .args .file .now) .calls))
 inside c =
     let s = c .before .before .before .before .before in
     let g = c .before .before .loop in
@@ -29,14 +30,11 @@ loop-holds c =
     let s = c .before .before in
     collecting-start (s .args .file .now) (s .args .l) (s .pre .0) (s .args .keys .now) (s .pre .1 .0) (s .pre .1 .1)
 
-add-at : tie.Need-add-at Inv-loop μ-loop
-add-at c = omega arith
-
 mul-at : tie.Need-mul-at Inv-loop μ-loop
 mul-at c = omega (arith, inside c)
 
-add-at-2 : tie.Need-add-at-2 Inv-loop μ-loop
-add-at-2 c = omega (arith, inside (c .before))
+add-at : tie.Need-add-at Inv-loop μ-loop
+add-at c = omega (arith, inside (c .before))
 
 call-sets-requires : tie.Need-call-sets-requires Inv-loop μ-loop
 call-sets-requires c κs =
@@ -131,9 +129,8 @@ call-keys-spec =
     Inv-loop
     μ-loop
     loop-holds
-    add-at
     mul-at
-    add-at-2
+    add-at
     call-sets-requires
     refuse-keys-requires
     same-length
