@@ -1,4 +1,6 @@
-// The outcomes of a call, each with the name that specs/Outcomes.antt gives it.
+// The outcomes of a call and the ranges of a receipt, each with the name that specs/Outcomes.antt gives it.
+use crate::limits::MAX_CODE;
+
 pub const ENDED: u64 = 0;
 
 pub const UNKNOWN_FUNCTION: u64 = 1;
@@ -10,3 +12,8 @@ pub const THROWN: u64 = 3;
 pub const NO_RESULT: u64 = 4;
 
 pub const NOT_PAID: u64 = 5;
+
+// The highest outcome that a receipt may hold, and the highest count of executed instructions.
+pub const LAST_OUTCOME: u64 = NOT_PAID;
+
+pub const MAX_COUNT: u64 = MAX_CODE as u64;

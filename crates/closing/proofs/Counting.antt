@@ -8,9 +8,8 @@ use borrow.Author.Tests.{le-ltb}
 use lib.Dec.{eqb, leb, ltb}
 use lib.IntN.{ℤ, pos, negsuc}
 use lib.Signed.{ltZ, nonNeg}
-use Rattle.block.specs.Limits.{maxCode}
 use Rattle.machine.specs.Run.{statusWord, stateOf, isState, finished}
-use Rattle.block.specs.Outcomes.{notPaid}
+use Rattle.block.specs.Outcomes.{lastOutcome, maxCount}
 use Rattle.machine.specs.Step.{cellAt}
 use Rattle.sheet.specs.Sheet.{statesAllowed, allFinished, receiptsAllowed, balancesAllowed, fieldOf}
 
@@ -58,7 +57,7 @@ module _ (status : List ℕ) where
 
   -- Whether a receipt is one.
   abbrev pub receiptAllowed : ℕ → Bool
-  receiptAllowed n = leb (statusWord status n 1) notPaid && leb (statusWord status n 2) maxCode
+  receiptAllowed n = leb (statusWord status n 1) lastOutcome && leb (statusWord status n 2) maxCount
 
   pub allowed-none : receiptsAllowed status 0 ≡ true
   unfolding receiptsAllowed

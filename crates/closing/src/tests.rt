@@ -1,6 +1,6 @@
 // The tests of a closing sheet. Each loop counts down, as its definition does.
-use block::limits::MAX_CODE;
-use block::outcomes::NOT_PAID;
+use block::outcomes::LAST_OUTCOME;
+use block::outcomes::MAX_COUNT;
 use block::record::FIELD_BASE;
 use block::record::FIELDS;
 use footprint::layout::KEY_WORDS;
@@ -14,9 +14,9 @@ ghost use mathlib.Core.Bool.{_&&_, _||_, not};
 ghost use Prim.Native.Nat.{_/_, _%_, _^_, _<_, _≤_};
 ghost use lib.Dec.{eqb, leb};
 ghost use lib.Signed.{nonNeg};
-ghost use Rattle.block.specs.Limits.{maxCalls, maxCode, maxKeys};
+ghost use Rattle.block.specs.Limits.{maxCalls, maxKeys};
 ghost use Rattle.machine.specs.Run.{statusWord, statusWords};
-ghost use Rattle.block.specs.Outcomes.{notPaid};
+ghost use Rattle.block.specs.Outcomes.{lastOutcome, maxCount};
 ghost use Rattle.sheet.specs.Sheet.{statesAllowed, allFinished, receiptsAllowed, balancesAllowed};
 
 // A word of a call's status.
@@ -60,9 +60,9 @@ pub(crate) fn all_finished(status: &[u64], calls: usize) -> bool
 
 // A receipt's outcome is one of the six, and its count at most that of the longest code.
 fn receipt_allowed(outcome: u64, count: u64) -> bool
-    ensures { λ r. ⌜ r ≡ (leb outcome notPaid && leb count maxCode) ⌝ }
+    ensures { λ r. ⌜ r ≡ (leb outcome lastOutcome && leb count maxCount) ⌝ }
 {
-    (outcome <= NOT_PAID) & (count <= MAX_CODE as u64)
+    (outcome <= LAST_OUTCOME) & (count <= MAX_COUNT)
 }
 
 // Whether the receipt of each call is one.

@@ -9,13 +9,13 @@ use lib.ListN.{length, getD}
 use Rattle.arith.specs.Choice.{if_then_else_}
 use Rattle.arith.specs.Exact.{unsigned}
 use Rattle.wire.specs.Bytes.{bytesOf, stored}
-use Rattle.block.specs.Limits.{maxCalls, maxCode, maxKeys}
+use Rattle.block.specs.Limits.{maxCalls, maxKeys}
 use Rattle.block.specs.Record.{recordOf, cellKind, receiptKind, endKind}
 use Rattle.block.specs.Encoding.{Routine, functionRecord, callRecord, records}
 use Rattle.block.specs.declared.Call.{Call}
 use Rattle.machine.specs.Answer.{answerNumber}
 use Rattle.machine.specs.Run.{Run, sizesOf, largeEnough, statusWord, stateOf, isState, finished, outcomeWord, countWord}
-use Rattle.block.specs.Outcomes.{notPaid}
+use Rattle.block.specs.Outcomes.{lastOutcome, maxCount}
 use Rattle.machine.specs.Step.{cellAt}
 use Rattle.machine.specs.declared.Answer.{Answer}
 use Rattle.machine.specs.declared.Answer.the-variants.{Damaged, CallUnfinished, SheetTooLong}
@@ -81,7 +81,7 @@ allFinished status (suc n) = eqb (stateOf status n) finished && allFinished stat
 unfoldable pub receiptsAllowed : List ℕ → ℕ → Bool
 receiptsAllowed status zero = true
 receiptsAllowed status (suc n) =
-    leb (statusWord status n outcomeWord) notPaid && leb (statusWord status n countWord) maxCode && receiptsAllowed status n
+    leb (statusWord status n outcomeWord) lastOutcome && leb (statusWord status n countWord) maxCount && receiptsAllowed status n
 
 -- The field of a cell's key; 0 is that of a balance.
 abbrev pub fieldOf : List ℕ → ℕ → ℕ

@@ -6,8 +6,7 @@ use mathlib.Core.Bool.{_&&_}
 use Prim.Native.Nat.{ℕ}
 use lib.Dec.{leb}
 use borrow.Author.Tests.{not-true, not-false}
-use Rattle.block.specs.Limits.{maxCode}
-use Rattle.block.specs.Outcomes.{notPaid}
+use Rattle.block.specs.Outcomes.{lastOutcome, maxCount}
 use Rattle.sheet.specs.Sheet.{receiptsAllowed}
 use Rattle.closing.proofs.Counting.{Down, down-none, down-more, down-stop, down-all, receiptAllowed, allowed-none, allowed-turn}
 use Rattle.closing.proofs.tests.receipts_allowed.Statement.{statement}
@@ -37,7 +36,7 @@ receipt-allowed-requires c κs = search needs
 returns : tie.Need-returns Inv-loop μ-loop
 returns c =
     let c7 = c .before .before .before .before .before .before .before in
-    let s = c7 in down-stop (receiptsAllowed (s .args .status .now)) (receiptAllowed (s .args .status .now)) (allowed-turn (s .args .status .now)) (s .args .calls) _ (c .before .before .before .before .before .loop .inv) (c .before .before .before .before .loop-test .taken) (sym (c .before .receipt-allowed .ensures ∙ ap₂ (λ (a b : ℕ). leb a notPaid && leb b maxCode) (c .before .before .before .status-word .ensures) (c .before .before .status-word2 .ensures)) ∙ not-true _ (c .if1 .taken))
+    let s = c7 in down-stop (receiptsAllowed (s .args .status .now)) (receiptAllowed (s .args .status .now)) (allowed-turn (s .args .status .now)) (s .args .calls) _ (c .before .before .before .before .before .loop .inv) (c .before .before .before .before .loop-test .taken) (sym (c .before .receipt-allowed .ensures ∙ ap₂ (λ (a b : ℕ). leb a lastOutcome && leb b maxCount) (c .before .before .before .status-word .ensures) (c .before .before .status-word2 .ensures)) ∙ not-true _ (c .if1 .taken))
 
 loop-less : tie.Need-loop-less Inv-loop μ-loop
 loop-less c = omega arith
@@ -45,7 +44,7 @@ loop-less c = omega arith
 loop-again : tie.Need-loop-again Inv-loop μ-loop
 loop-again c =
     let c7 = c .before .before .before .before .before .before .before in
-    let s = c7 in down-more (receiptsAllowed (s .args .status .now)) (receiptAllowed (s .args .status .now)) (allowed-turn (s .args .status .now)) (s .args .calls) _ (c .before .before .before .before .before .loop .inv) (c .before .before .before .before .loop-test .taken) (sym (c .before .receipt-allowed .ensures ∙ ap₂ (λ (a b : ℕ). leb a notPaid && leb b maxCode) (c .before .before .before .status-word .ensures) (c .before .before .status-word2 .ensures)) ∙ not-false _ (c .if1 .left))
+    let s = c7 in down-more (receiptsAllowed (s .args .status .now)) (receiptAllowed (s .args .status .now)) (allowed-turn (s .args .status .now)) (s .args .calls) _ (c .before .before .before .before .before .loop .inv) (c .before .before .before .before .loop-test .taken) (sym (c .before .receipt-allowed .ensures ∙ ap₂ (λ (a b : ℕ). leb a lastOutcome && leb b maxCount) (c .before .before .before .status-word .ensures) (c .before .before .status-word2 .ensures)) ∙ not-false _ (c .if1 .left))
 
 returns-2 : tie.Need-returns-2 Inv-loop μ-loop
 returns-2 c = let s = c .before .before .before in down-all (receiptsAllowed (s .args .status .now)) (receiptAllowed (s .args .status .now)) (allowed-turn (s .args .status .now)) (s .args .calls) (allowed-none (s .args .status .now)) _ (c .before .loop .inv) (c .loop-test .left)
