@@ -8,6 +8,7 @@ use native.Mathlib.Nat.{add-zero}
 use denote.Enum.Declared.{tagOf}
 use types.Run.{OneOf, miss}
 use Rattle.wire.specs.Bytes.{stored}
+use Rattle.wire.specs.Decimal.{lineFeed}
 use Rattle.schedule.specs.declared.Move.{Move}
 use Rattle.machine.specs.Answer.{answerNumber}
 use Rattle.machine.specs.Run.{Run}
@@ -17,7 +18,7 @@ use Rattle.moves.specs.Lent.{moved}
 use Rattle.text.specs.Lines.{refusedText}
 use Rattle.text.specs.Written.{Written}
 use Rattle.console.specs.Line.{isEmpty, lineMove}
-use Rattle.console.specs.Register.{answerText, nextNumber, afterMove, playMove, playLine, playEnd}
+use Rattle.console.specs.Register.{answerText, nextNumber, afterMove, playMove, playLine, playByte, playBytes, playEnd}
 use Rattle.console.specs.declared.Line.{Line}
 use Rattle.console.specs.declared.Line.the-variants.{Empty, Named, Spaced, First, Between, Second, Malformed}
 use Rattle.console.proofs.Line
@@ -77,7 +78,8 @@ pub end-empty : (block : List ℕ) (number : ℕ) (line : Line) (run : Run) (out
 unfolding playEnd isEmpty stored
 end-empty block number line run out e = rw e refl
 
+-- Every other rest is played as a line feed behind it would play it.
 pub end-line : (block : List ℕ) (number : ℕ) (line : Line) (run : Run) (out : List ℕ) → OneOf some-read (tagOf Line.the-type line)
-    → {w : Shown} → w ≡ shown out 0 (playLine block (freshSession number line run)) → w ≡ shown out 0 (playEnd block (freshSession number line run))
-unfolding playEnd
+    → {w : Shown} → w ≡ shown out 0 (playBytes block (freshSession number line run) (lineFeed ∷ [])) → w ≡ shown out 0 (playEnd block (freshSession number line run))
+unfolding playEnd playBytes playByte
 end-line block number line run out h e = rw (not-empty line h) e

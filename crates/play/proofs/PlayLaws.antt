@@ -1,18 +1,14 @@
--- The input in pieces: any chunking of it gives the same answers, the text of the answers only grows, and the bytes before a line feed
--- change nothing but what is read of the line.
+-- The input in pieces: any chunking of it gives the same answers, and the text of the answers only grows.
 use mathlib.Core.Path.{_≡_, refl, ap, _∙_}
 use mathlib.Core.Bool.{Bool, true, false}
 use mathlib.Core.List.{List, [], _∷_, _++_, append-assoc}
 use mathlib.Core.Option.{Option, none, some}
-use Prim.Native.Nat.{ℕ, _+_}
+use Prim.Native.Nat.{ℕ}
 use lib.Dec.{eqb}
-use lib.ListN.{drop}
 use Rattle.wire.specs.Decimal.{lineFeed}
 use Rattle.schedule.specs.declared.Move.{Move}
-use Rattle.console.specs.Line.{readByte, lineMove}
+use Rattle.console.specs.Line.{lineMove}
 use Rattle.console.specs.Register.{Session, playMove, playByte, playBytes}
-use Rattle.console.specs.declared.Line.{Line}
-use Rattle.play.specs.Ahead.{lineAfter, bytesBefore}
 
 -- Two pieces of the input, one after the other, are played as the whole is.
 pub chunks : (block : List ℕ) (s : Session) (xs ys : List ℕ) → playBytes block s (xs ++ ys) ≡ playBytes block (playBytes block s xs) ys
@@ -23,10 +19,6 @@ chunks block s (x ∷ xs) ys = chunks block (playByte block s x) xs ys
 -- A session behind a text: the same, with the text before its output.
 abbrev pub withTextBefore : List ℕ → Session → Session
 withTextBefore text s = record { number = s .number; line = s .line; run = s .run; output = text ++ s .output }
-
--- A session with another line.
-abbrev pub withLine : Session → Line → Session
-withLine s l = record { number = s .number; line = l; run = s .run; output = s .output }
 
 -- What a session writes stands behind what was written before.
 module _ (block text : List ℕ) where
@@ -47,16 +39,3 @@ module _ (block text : List ℕ) where
   unfolding playBytes
   bytes-behind s [] = refl
   bytes-behind s (x ∷ xs) = ap (λ (t : Session). playBytes block t xs) (byte-behind s x) ∙ bytes-behind (playByte block s x) xs
-
--- These bytes change nothing else.
-pub play-before : (block : List ℕ) (s : Session) (xs : List ℕ)
-    → playBytes block s xs ≡ playBytes block (withLine s (lineAfter (s .line) xs)) (drop (bytesBefore xs) xs)
-unfolding playBytes playByte lineAfter bytesBefore
-play-before block s [] = refl
-play-before block s (x ∷ xs) = go (eqb x lineFeed) refl (play-before block (withLine s (readByte (s .line) x)) xs)
-  where
-    go : (b : Bool) → eqb x lineFeed ≡ b
-        → playBytes block (withLine s (readByte (s .line) x)) xs ≡ playBytes block (withLine s (lineAfter (readByte (s .line) x) xs)) (drop (bytesBefore xs) xs)
-        → playBytes block (playByte block s x) xs ≡ playBytes block (withLine s (lineAfter (s .line) (x ∷ xs))) (drop (bytesBefore (x ∷ xs)) (x ∷ xs))
-    go true e rest = rw (e, lineAfter, bytesBefore) refl
-    go false e rest = rw (e, lineAfter, bytesBefore, playByte) rest

@@ -30,7 +30,7 @@ answer-short line zero = omega arith
 answer-short line (suc n) = refused-short line (suc n)
 
 -- A line, and so a byte, adds one answer at most; a piece of the input one for each byte, and its end one more.
-pub line-grows : (block : List ℕ) (s : Session) → length (playLine block s .output) ≤ length (s .output) + maxAnswer
+line-grows : (block : List ℕ) (s : Session) → length (playLine block s .output) ≤ length (s .output) + maxAnswer
 unfolding playMove
 line-grows block s = go (lineMove (s .line))
   where
@@ -40,7 +40,7 @@ line-grows block s = go (lineMove (s .line))
         let h : length (answerText (s .number) (answerNumber (moveOf block (s .run) m .answer))) ≤ maxAnswer = answer-short (s .number) (answerNumber (moveOf block (s .run) m .answer)) in
         simp length-append (omega arith)
 
-byte-grows : (block : List ℕ) (s : Session) (x : ℕ) → length (playByte block s x .output) ≤ length (s .output) + maxAnswer
+pub byte-grows : (block : List ℕ) (s : Session) (x : ℕ) → length (playByte block s x .output) ≤ length (s .output) + maxAnswer
 unfolding playByte
 byte-grows block s x = go (eqb x lineFeed) refl
   where

@@ -1,8 +1,6 @@
-// The input of REGISTER in pieces: the bytes up to the end of a line, the line played, and its answer written.
+// The input of REGISTER in pieces, byte by byte: each whole line is played, and its answer written.
 use crate::LineMove;
 use crate::Played;
-use crate::Progress;
-use crate::Scanned;
 use crate::Session;
 use crate::Told;
 use crate::apply::apply_move;
@@ -15,8 +13,8 @@ use machine::numbers::answer_number;
 use text::refused_line;
 use wire::decimal::LINE_FEED;
 ghost use mathlib.Core.Path.{_≡_};
-ghost use Prim.Native.Nat.{_+_, _*_, _<_, _≤_, min};
-ghost use lib.ListN.{length, take, drop};
+ghost use Prim.Native.Nat.{min};
+ghost use lib.ListN.{take};
 ghost use Rattle.machine.specs.Answer.{answerNumber};
 ghost use Rattle.moves.specs.Lent.{lent};
 ghost use Rattle.text.specs.Lines.{refusedText};
@@ -24,38 +22,12 @@ ghost use Rattle.text.specs.Written.{Written};
 ghost use Rattle.console.specs.Register.{answerText, nextNumber, playLine, playBytes, playEnd};
 ghost use Rattle.console.specs.declared.Line.the-variants.{Empty};
 ghost use Rattle.play.specs.Shown.{freshSession, shown, shownFrom};
-ghost use Rattle.play.specs.Passed.{Passed, maxAnswer};
-ghost use Rattle.play.specs.Ahead.{lineAfter, bytesBefore};
 
 // An answer is a letter, two numbers of at most 20 digits behind a space each, and a line feed.
 pub const MAX_ANSWER: usize = 44;
 
 // Lines are numbered up to 2^32.
 const MAX_LINES: u64 = 4294967296;
-
-// The bytes from a position up to a line feed, or to the end.
-fn scan(line: Line, chunk: &[u8], from: usize, end: usize) -> Scanned
-    requires { ⌜ from ≤ end ⌝ }
-    requires { ⌜ end ≤ length (now chunk) ⌝ }
-    ensures { λ r. ⌜ r
-        ≡ record {
-          line = lineAfter line (drop from (take end (now (chunk .entry))));
-          at = from + bytesBefore
-              (drop from (take end (now (chunk .entry))));
-        } ⌝ }
-{
-    let mut so_far = line;
-    let mut at = from;
-    while at < end {
-        let x = chunk[at];
-        if x == LINE_FEED {
-            return Scanned { line: so_far, at };
-        }
-        so_far = read_byte(so_far, x);
-        at += 1;
-    }
-    Scanned { line: so_far, at }
-}
 
 // The text of an answered move from a position on; an accepted move has none.
 pub fn answer_line(out: &mut [u8], from: u32, line: u64, answer: Answer) -> usize
@@ -128,69 +100,6 @@ fn play_line(
     }
 }
 
-// From a position to the end of a line, which is played, or to the end of the piece.
-fn play_next(
-    p: Progress,
-    block: &[u8],
-    plan: &[u64],
-    keys: &[u64],
-    cells: &mut [i64],
-    status: &mut [u64],
-    saved: &mut [i64],
-    chunk: &[u8],
-    end: usize,
-    out: &mut [u8],
-) -> Progress
-    requires { ⌜ p .at < end ⌝ }
-    requires { ⌜ end < 65536 ⌝ }
-    requires { ⌜ end ≤ length (now chunk) ⌝ }
-    requires { ⌜ p .end ≤ maxAnswer * p .at ⌝ }
-    ensures { λ r. ⌜ Passed (now (block .entry)) (take end (now (chunk .entry))) p
-        (lent (p .head) (now (plan .entry)) (now (keys .entry)) (now (cells .entry)) (now (status .entry)) (now (saved .entry)))
-        (now (out .entry)) r
-        (lent (r .head) (now (plan .entry)) (now (keys .entry)) (now (cells .exit)) (now (status .exit)) (now (saved .exit)))
-        (now (out .exit)) ⌝ }
-{
-    let number = p.number;
-    let before = p.line;
-    let head = p.head;
-    let from = p.at;
-    let written = p.end;
-    let s = scan(before, chunk, from, end);
-    let line = s.line;
-    let at = s.at;
-    if end <= at {
-        return Progress {
-            number,
-            line,
-            head,
-            at,
-            end: written,
-        };
-    }
-    let t = play_line(
-        number,
-        line,
-        head,
-        block,
-        plan,
-        keys,
-        cells,
-        status,
-        saved,
-        out,
-        written as u32,
-    );
-    let after = t.head;
-    Progress {
-        number: t.number,
-        line: Line::Empty,
-        head: after,
-        at: at + 1,
-        end: t.end,
-    }
-}
-
 // The first n bytes of a piece, or all where it has fewer.
 pub(crate) fn at_most(n: u16, length: usize) -> usize
     ensures { λ r. ⌜ r ≡ min n length ⌝ }
@@ -201,7 +110,8 @@ pub(crate) fn at_most(n: u16, length: usize) -> usize
     n as usize
 }
 
-// The first n bytes of a piece of the input, played; the answers' text is stored from the buffer's start on.
+// The first n bytes of a piece of the input, played: a line feed ends the line, every other byte is read. The answers' text is stored from the
+// buffer's start on.
 pub fn play_chunk(
     s: Session,
     block: &[u8],
@@ -224,29 +134,43 @@ pub fn play_chunk(
         (take n (now (chunk .entry)))) ⌝ }
 {
     let end = at_most(n, chunk.len());
-    let number = s.number;
-    let line = s.line;
-    let head = s.head;
-    let mut p = Progress {
-        number,
-        line,
-        head,
-        at: 0,
-        end: 0,
-    };
-    while p.at < end {
-        p = play_next(p, block, plan, keys, cells, status, saved, chunk, end, out);
+    let mut number = s.number;
+    let mut line = s.line;
+    let mut head = s.head;
+    let mut at = 0;
+    let mut written = 0;
+    while at < end {
+        let x = chunk[at];
+        at += 1;
+        if x == LINE_FEED {
+            let t = play_line(
+                number,
+                line,
+                head,
+                block,
+                plan,
+                keys,
+                cells,
+                status,
+                saved,
+                out,
+                written as u32,
+            );
+            number = t.number;
+            line = Line::Empty;
+            head = t.head;
+            written = t.end;
+        } else {
+            line = read_byte(line, x);
+        }
     }
-    let number = p.number;
-    let line = p.line;
-    let head = p.head;
     Played {
         session: Session { number, line, head },
-        length: p.end,
+        length: written,
     }
 }
 
-// The rest of the input, which is a line unless it is empty.
+// The rest of the input, which is a line unless it is empty; a line feed ends it.
 pub fn play_end(
     s: Session,
     block: &[u8],
@@ -265,35 +189,12 @@ pub fn play_end(
         (freshSession (s .number) (s .line)
         (lent (s .head) (now (plan .entry)) (now (keys .entry)) (now (cells .entry)) (now (status .entry)) (now (saved .entry))))) ⌝ }
 {
-    let number = s.number;
     let line = s.line;
-    let head = s.head;
     if let Line::Empty = line {
         return Played {
             session: s,
             length: 0,
         };
     }
-    let t = play_line(
-        number,
-        line,
-        head,
-        block,
-        plan,
-        keys,
-        cells,
-        status,
-        saved,
-        out,
-        0,
-    );
-    let after = t.head;
-    Played {
-        session: Session {
-            number: t.number,
-            line: Line::Empty,
-            head: after,
-        },
-        length: t.end,
-    }
+    play_chunk(s, block, plan, keys, cells, status, saved, b"\n", 1, out)
 }

@@ -27,25 +27,10 @@ pub struct Played {
     pub length: usize,
 }
 
-// How far a line is read: what is read of it, and the position behind.
-pub struct Scanned {
-    pub line: Line,
-    pub at: usize,
-}
-
 // What a whole line leaves: the number of the next, the head of the run, and the position behind the answer's text.
 pub struct Told {
     pub number: u64,
     pub head: Head,
-    pub end: usize,
-}
-
-// A piece of the input, played up to a position: the session, and where the answers' text ends.
-pub struct Progress {
-    pub number: u64,
-    pub line: Line,
-    pub head: Head,
-    pub at: usize,
     pub end: usize,
 }
 

@@ -1,4 +1,4 @@
--- `play::input::play_end` meets its contract: an empty rest is no line, and every other is played.
+-- `play::input::play_end` meets its contract: an empty rest is no line, and every other is played by a line feed.
 use borrow.Author.Needs.{needs}
 use Rattle.play.proofs.AnswerLaws.{end-empty, end-line}
 use Rattle.play.proofs.input.play_end.Statement.{statement}
@@ -9,11 +9,14 @@ enum-told c = search needs
 
 returns : tie.Need-returns
 returns c =
-    let c8 = c .before .before .before .before .before .before .before .before in
-    let a = c8 .args in end-empty (a .block .now) (a .s .number) (a .s .line) _ _ (c .enum-told .given .1)
+    let c7 = c .before .before .before .before .before .before .before in
+    let a = c7 .args in end-empty (a .block .now) (a .s .number) (a .s .line) _ _ (c .enum-told .given .1)
 
-play-line-requires : tie.Need-play-line-requires
-play-line-requires c κs = search needs
+slice-aggregate-play-chunk : tie.Need-slice-aggregate-play-chunk
+slice-aggregate-play-chunk c = search needs
+
+play-chunk-requires : tie.Need-play-chunk-requires
+play-chunk-requires c κs = search needs
 
 same-length : tie.Need-same-length
 same-length c = search needs
@@ -29,10 +32,10 @@ same-length-4 c = search needs
 
 returns-2 : tie.Need-returns-2
 returns-2 c =
-    let c7 = c .before .before .before .before .before .before .before in
-    let c12 = c7 .before .before .before .before .before in
-    let c19 = c12 .before .before .before .before .before .before .before in
-    let a = c19 .args in end-line (a .block .now) (a .s .number) (a .s .line) _ _ (c12 .match .keys2) (c7 .play-line .ensures)
+    let c6 = c .before .before .before .before .before .before in
+    let c12 = c6 .before .before .before .before .before .before in
+    let c18 = c12 .before .before .before .before .before .before in
+    let a = c18 .args in end-line (a .block .now) (a .s .number) (a .s .line) _ _ (c12 .match .keys2) (c6 .play-chunk .ensures)
 
 pub play-end-spec : {M : Type 1} → statement M
 play-end-spec =
@@ -40,7 +43,8 @@ play-end-spec =
     (tie.spec
     enum-told
     returns
-    play-line-requires
+    slice-aggregate-play-chunk
+    play-chunk-requires
     same-length
     same-length-2
     same-length-3
