@@ -1,23 +1,23 @@
 -- How long the text of a close can be: a line for each cell and each receipt.
-use mathlib.Core.Path.{_≡_, ap, _∙_}
+use mathlib.Core.Path.{_≡_, refl, sym, ap, subst, _∙_}
 use mathlib.Core.Bool.{Bool, true, false, _||_, not}
 use mathlib.Core.List.{List, [], _∷_, _++_, append-assoc}
-use Prim.Native.Nat.{ℕ, zero, suc, _+_, _*_, _≤_, _<_}
+use Prim.Native.Nat.{ℕ, zero, suc, _+_, _*_, _/_, _^_, _≤_, _<_}
 use native.Mathlib.Omega.{arith}
 use lib.Dec.{eqb, ltb}
 use lib.IntN.{ℤ}
-use lib.ListN.{length, drop, length-append}
+use lib.ListN.{length, getD, drop, length-append}
 use lib.Seq.{drop-append-seam, take-append-seam}
 use borrow.Author.Tests.{ltb-false}
 use Rattle.block.proofs.ContentsLaws.{head-length, head-kind, head-behind}
 use Rattle.text.proofs.TextSizes.{line-fits}
 use Rattle.arith.specs.Choice.{if_then_else_}
 use Rattle.arith.proofs.ChoiceLaws.{if-all, neither}
-use Rattle.arith.specs.Exact.{signed, unsigned}
+use Rattle.arith.specs.Exact.{unsigned}
 use Rattle.wire.specs.Bytes.{number, readLe, bytesOf, repeated}
-use Rattle.wire.proofs.BytesLaws.{stored-inside}
+use Rattle.wire.proofs.BytesLaws.{stored-inside, read-first, bytesOf-lt}
 use Rattle.block.specs.Limits.{maxCalls, maxKeys}
-use Rattle.block.specs.Record.{recordOf, headBytes, cellKind, receiptKind, endKind}
+use Rattle.block.specs.Record.{recordOf, headBytes, cellBytes, receiptBytes, cellKind, receiptKind, endKind}
 use Rattle.machine.specs.Run.{Run, sizesOf, largeEnough, statusWord}
 use Rattle.machine.specs.Step.{cellAt}
 use Rattle.machine.specs.Answer.{answerNumber}
@@ -38,31 +38,47 @@ head-rest kind body more short =
     ap (λ (n : ℕ). drop n (drop headBytes (recordOf kind body ++ more))) (head-length kind body more short)
     ∙ ap (drop (length body)) (head-behind kind body more) ∙ drop-append-seam body more
 
+-- Its line is that of its body alone.
+cell-alone : (body more : List ℕ) → length body ≡ cellBytes → cellLine (body ++ more) ≡ cellLine body
+cell-alone body more size =
+    rw (
+      read-first 2 body more 0 (omega arith),
+      read-first 2 body more 2 (omega arith),
+      read-first 4 body more 4 (omega arith),
+      read-first 4 body more 8 (omega arith),
+      read-first 8 body more 12 (omega arith),
+    )
+
+receipt-alone : (call : ℕ) (body more : List ℕ) → length body ≡ receiptBytes → receiptLine call (body ++ more) ≡ receiptLine call body
+receipt-alone call body more size = rw (read-first 2 body more 0 (omega arith), read-first 2 body more 2 (omega arith))
+
 -- A line is short, and the text of what is left is no longer than said.
-cell-front : (turns call : ℕ) (body more : List ℕ) (n : ℕ) → length body < 65536 → ((t : ℕ) → length (recordsText t call more) ≤ n)
+cell-front : (turns call : ℕ) (body more : List ℕ) (n : ℕ) → length body ≡ cellBytes → ((i : ℕ) → getD body i 0 < 256) → ((t : ℕ) → length (recordsText t call more) ≤ n)
     → length (recordsText turns call (recordOf cellKind body ++ more)) ≤ maxRecordText + n
 unfolding recordsText
-cell-front zero call body more n short rest = omega arith
-cell-front (suc turns) call body more n short rest =
+cell-front zero call body more n size bytes rest = omega arith
+cell-front (suc turns) call body more n size bytes rest =
     let s : List ℕ = recordOf cellKind body ++ more in
     let b : List ℕ = drop headBytes s in
     let e : eqb (readLe 2 s 2) cellKind ≡ true = ap (λ (k : ℕ). eqb k cellKind) (head-kind cellKind body more (omega arith)) in
-    let line : length (cellLine b) ≤ maxRecordText = cell-short (number 2 b) (readLe 2 b 2) (readLe 4 b 4) (readLe 4 b 8) (signed 64 (readLe 8 b 12)) in
-    let left : length (recordsText turns call (drop (number 2 s) b)) ≤ n = rw (head-rest cellKind body more short) (rest turns) in
+    let line : length (cellLine b) ≤ maxRecordText =
+    subst (λ (l : List ℕ). length l ≤ maxRecordText) (sym (ap cellLine (head-behind cellKind body more) ∙ cell-alone body more size)) (cell-short body bytes) in
+    let left : length (recordsText turns call (drop (number 2 s) b)) ≤ n = rw (head-rest cellKind body more (omega arith)) (rest turns) in
     rw (e, recordsText) (omega (arith, length-append (cellLine b) (recordsText turns call (drop (number 2 s) b))))
 
-receipt-front : (turns call : ℕ) (body more : List ℕ) (n : ℕ) → length body < 65536 → ((t : ℕ) → length (recordsText t (call + 1) more) ≤ n)
+receipt-front : (turns call : ℕ) (body more : List ℕ) (n : ℕ) → length body ≡ receiptBytes → ((i : ℕ) → getD body i 0 < 256) → ((t : ℕ) → length (recordsText t (call + 1) more) ≤ n)
     → length (recordsText turns call (recordOf receiptKind body ++ more)) ≤ maxRecordText + n
 unfolding recordsText
-receipt-front zero call body more n short rest = omega arith
-receipt-front (suc turns) call body more n short rest =
+receipt-front zero call body more n size bytes rest = omega arith
+receipt-front (suc turns) call body more n size bytes rest =
     let s : List ℕ = recordOf receiptKind body ++ more in
     let b : List ℕ = drop headBytes s in
     let k : readLe 2 s 2 ≡ receiptKind = head-kind receiptKind body more (omega arith) in
     let e : eqb (readLe 2 s 2) cellKind ≡ false = ap (λ (k : ℕ). eqb k cellKind) k in
     let f : eqb (readLe 2 s 2) receiptKind ≡ true = ap (λ (k : ℕ). eqb k receiptKind) k in
-    let line : length (receiptLine call b) ≤ maxRecordText = receipt-short call (number 2 b) (readLe 2 b 2) in
-    let left : length (recordsText turns (call + 1) (drop (number 2 s) b)) ≤ n = rw (head-rest receiptKind body more short) (rest turns) in
+    let line : length (receiptLine call b) ≤ maxRecordText =
+    subst (λ (l : List ℕ). length l ≤ maxRecordText) (sym (ap (receiptLine call) (head-behind receiptKind body more) ∙ receipt-alone call body more size)) (receipt-short body bytes call) in
+    let left : length (recordsText turns (call + 1) (drop (number 2 s) b)) ≤ n = rw (head-rest receiptKind body more (omega arith)) (rest turns) in
     rw (e, f, recordsText) (omega (arith, length-append (receiptLine call b) (recordsText turns (call + 1) (drop (number 2 s) b))))
 
 -- ---- the records of a sheet
@@ -72,13 +88,32 @@ unfolding recordsText bytesOf number
 end-none zero call = omega arith
 end-none (suc turns) call = omega arith
 
-receipt-size : (outcome count : ℕ) → length (bytesOf 2 outcome ++ bytesOf 2 count) < 65536
-unfolding bytesOf
-receipt-size outcome count = omega arith
+-- The bodies of its records: how long they are, and that they are bytes.
+both-lt : (xs ys : List ℕ) → ((i : ℕ) → getD xs i 0 < 256) → ((i : ℕ) → getD ys i 0 < 256) → (i : ℕ) → getD (xs ++ ys) i 0 < 256
+both-lt [] ys f g i = g i
+both-lt (x ∷ xs) ys f g zero = f 0
+both-lt (x ∷ xs) ys f g (suc i) = both-lt xs ys (λ j. f (suc j)) g i
 
-cell-size : (high low bits : ℕ) → length (keyBytes high low ++ bytesOf 8 bits) < 65536
+receipt-size : (outcome count : ℕ) → length (bytesOf 2 outcome ++ bytesOf 2 count) ≡ receiptBytes
 unfolding bytesOf
-cell-size high low bits = omega arith
+receipt-size outcome count = refl
+
+receipt-lt : (outcome count i : ℕ) → getD (bytesOf 2 outcome ++ bytesOf 2 count) i 0 < 256
+receipt-lt outcome count = both-lt (bytesOf 2 outcome) (bytesOf 2 count) (bytesOf-lt 2 outcome) (bytesOf-lt 2 count)
+
+cell-size : (high low bits : ℕ) → length (keyBytes high low ++ bytesOf 8 bits) ≡ cellBytes
+unfolding bytesOf
+cell-size high low bits = refl
+
+cell-lt : (high low bits i : ℕ) → getD (keyBytes high low ++ bytesOf 8 bits) i 0 < 256
+cell-lt high low bits =
+    let a : List ℕ = bytesOf 2 (high / 2 ^ 48) in
+    let b : List ℕ = bytesOf 2 (high / 2 ^ 32) in
+    let c : List ℕ = bytesOf 4 high in
+    let d : List ℕ = bytesOf 4 low in
+    let first : (i : ℕ) → getD (a ++ b) i 0 < 256 = both-lt a b (bytesOf-lt 2 (high / 2 ^ 48)) (bytesOf-lt 2 (high / 2 ^ 32)) in
+    let key : (i : ℕ) → getD (keyBytes high low) i 0 < 256 = both-lt (a ++ b ++ c) d (both-lt (a ++ b) c first (bytesOf-lt 4 high)) (bytesOf-lt 4 low) in
+    both-lt (keyBytes high low) (bytesOf 8 bits) key (bytesOf-lt 8 bits)
 
 module _ (status : List ℕ) where
   receipts-text : (left c turns call : ℕ) → length (recordsText turns call (receiptRecords status left c ++ recordOf endKind [])) ≤ maxRecordText * left
@@ -88,7 +123,7 @@ module _ (status : List ℕ) where
       let body : List ℕ = bytesOf 2 (statusWord status c 1) ++ bytesOf 2 (statusWord status c 2) in
       let more : List ℕ = receiptRecords status left (c + 1) in
       let bound : length (recordsText turns call (recordOf receiptKind body ++ (more ++ recordOf endKind []))) ≤ maxRecordText + maxRecordText * left =
-      receipt-front turns call body (more ++ recordOf endKind []) (maxRecordText * left) (receipt-size (statusWord status c 1) (statusWord status c 2)) (λ t. receipts-text left (c + 1) t (call + 1)) in
+      receipt-front turns call body (more ++ recordOf endKind []) (maxRecordText * left) (receipt-size (statusWord status c 1) (statusWord status c 2)) (receipt-lt (statusWord status c 1) (statusWord status c 2)) (λ t. receipts-text left (c + 1) t (call + 1)) in
       rw (append-assoc (recordOf receiptKind body) more (recordOf endKind [])) (omega arith)
 
 module _ (keys : List ℕ) (cells : List ℤ) (rest : List ℕ) (n : ℕ) where
@@ -113,7 +148,7 @@ module _ (keys : List ℕ) (cells : List ℤ) (rest : List ℕ) (n : ℕ) where
       go false ih =
           let bound : length (recordsText turns call (own ++ (more ++ rest))) ≤ maxRecordText + (maxRecordText * left + n) =
           cell-front turns call (keyBytes (keyHigh keys at) (keyLow keys at) ++ bytesOf 8 bits) (more ++ rest) (maxRecordText * left + n)
-          (cell-size (keyHigh keys at) (keyLow keys at) bits) ih in
+          (cell-size (keyHigh keys at) (keyLow keys at) bits) (cell-lt (keyHigh keys at) (keyLow keys at) bits) ih in
           rw (append-assoc own more rest) (omega (arith, bound))
 
 sheet-short : (r : Run) → r .head .calls ≤ maxCalls → r .head .cells ≤ maxKeys → length (sheetText (sheetBytes r)) ≤ maxCloseText

@@ -7,7 +7,7 @@ use native.Mathlib.Omega.{arith}
 use borrow.Author.Tests.{eq-eqb, ne-eqb}
 use lib.IntN.{ℤ}
 use lib.ListN.{length, getD, drop, length-append}
-use lib.Seq.{drop-drop}
+use lib.Seq.{drop-drop, getD-drop}
 use Rattle.arith.specs.Exact.{signed}
 use Rattle.wire.specs.Bytes.{number, readLe, stored}
 use Rattle.wire.proofs.BytesLaws.{read-lt, stored-append}
@@ -66,7 +66,7 @@ more-end : {out after : List ℕ} {from end : ℕ} {text : List ℕ} (all rest :
 more-end {text = text} all rest e w = omega (arith, ap length e, length-append text rest, w .end)
 
 module _ (sheet : List ℕ) (p : Reading) (out : List ℕ) (within : TurnsWithin (length sheet) p) (some : 0 < p .left) {size kind : ℕ}
-    (is-size : size ≡ readLe 2 sheet (p .at)) (small : size < 65536) (is-kind : kind ≡ readLe 2 sheet (p .at + 2)) where
+    (is-size : size ≡ readLe 2 sheet (p .at)) (is-kind : kind ≡ readLe 2 sheet (p .at + 2)) (bytes : (i : ℕ) → getD sheet i 0 < 256) where
   here : List ℕ
   here = drop (p .at) sheet
 
@@ -83,9 +83,13 @@ module _ (sheet : List ℕ) (p : Reading) (out : List ℕ) (within : TurnsWithin
   rest-here =
       ap (λ (n : ℕ). drop n (drop headBytes here)) (sym is-size) ∙ ap (drop size) body-here ∙ drop-drop size (p .at + headBytes) sheet
 
+  body-bytes : (i : ℕ) → getD (drop (p .at + headBytes) sheet) i 0 < 256
+  body-bytes i = rw (getD-drop (p .at + headBytes) sheet i 0) (bytes (p .at + headBytes + i))
+
   within-next : (call end : ℕ) → call ≤ p .call + 1 → end ≤ p .end + maxRecordText
       → TurnsWithin (length sheet) (record { at = p .at + headBytes + size; call = call; left = p .left - 1; end = end })
   within-next call end c e =
+      let small : size < 65536 = size-small sheet (p .at) is-size bytes in
       let all : within .gone + p .left ≡ length sheet = within .all in
       let place : p .at ≤ 65539 * within .gone = within .place in
       let calls : p .call ≤ within .gone = within .calls in
@@ -105,7 +109,7 @@ module _ (sheet : List ℕ) (p : Reading) (out : List ℕ) (within : TurnsWithin
       let body : List ℕ = drop (p .at + headBytes) sheet in
       let e : linesLeft sheet p ≡ cellLine body ++ recordsText (p .left - 1) (p .call) (drop (p .at + headBytes + size) sheet) =
       records-cell (p .left) (p .call) here some (kind-here ∙ k) ∙ rw (rest-here, body-here) in
-      let s : length (cellLine body) ≤ maxRecordText = cell-short (number 2 body) (readLe 2 body 2) (readLe 4 body 4) (readLe 4 body 8) (signed 64 (readLe 8 body 12)) in
+      let s : length (cellLine body) ≤ maxRecordText = cell-short body body-bytes in
       record {
         same = more-same _ _ e w;
         end = more-end _ _ e w;
@@ -120,7 +124,7 @@ module _ (sheet : List ℕ) (p : Reading) (out : List ℕ) (within : TurnsWithin
       let body : List ℕ = drop (p .at + headBytes) sheet in
       let e : linesLeft sheet p ≡ receiptLine (p .call) body ++ recordsText (p .left - 1) (p .call + 1) (drop (p .at + headBytes + size) sheet) =
       records-receipt (p .left) (p .call) here some (kind-here ∙ k) ∙ rw (rest-here, body-here) in
-      let s : length (receiptLine (p .call) body) ≤ maxRecordText = receipt-short (p .call) (number 2 body) (readLe 2 body 2) in
+      let s : length (receiptLine (p .call) body) ≤ maxRecordText = receipt-short body body-bytes (p .call) in
       record {
         same = more-same _ _ e w;
         end = more-end _ _ e w;

@@ -3,20 +3,25 @@ use mathlib.Core.Path.{_≡_, refl}
 use mathlib.Core.Bool.{Bool, true, false}
 use mathlib.Core.List.{List, [], _∷_}
 use mathlib.Core.Option.{Option, none, some}
-use Prim.Native.Nat.{ℕ, zero, suc, _+_, _*_, _≤_}
+use Prim.Native.Nat.{ℕ, zero, suc, _+_, _-_, _*_, _^_, _≤_, _<_}
 use native.Mathlib.Omega.{arith}
-use lib.Dec.{eqb}
+use borrow.Author.Tests.{ltb-true, ltb-false}
+use lib.Dec.{eqb, ltb}
 use lib.IntN.{ℤ}
-use lib.ListN.{length, length-append}
-use Rattle.text.proofs.TextSizes.{line-fits}
+use lib.ListN.{length, getD, length-append}
+use Rattle.text.proofs.TextSizes.{line-fits, digits-fit}
 use Rattle.arith.proofs.ChoiceLaws.{if-all}
+use Rattle.arith.specs.Exact.{signed}
+use Rattle.wire.specs.Bytes.{readLe}
+use Rattle.wire.proofs.BytesLaws.{read-lt}
 use Rattle.wire.specs.Decimal.{lineFeed, decimal, signedDecimal, parts}
 use Rattle.schedule.specs.declared.Move.{Move}
 use Rattle.machine.specs.Answer.{answerNumber}
 use Rattle.machine.specs.Moves.{moveOf}
-use Rattle.text.specs.Lines.{refusedText, cellText, receiptText}
-use Rattle.text.proofs.Laws.{digits-length, signed-length}
+use Rattle.text.specs.Lines.{refusedText}
+use Rattle.text.proofs.Laws.{digits-length}
 use Rattle.console.specs.Line.{isEmpty, lineMove}
+use Rattle.console.specs.Text.{cellLine, receiptLine}
 use Rattle.console.specs.Register.{Session, answerText, playMove, playLine, playByte, playBytes, playEnd}
 use Rattle.play.specs.Passed.{maxAnswer}
 use Rattle.play.specs.Printed.{maxRecordText}
@@ -58,20 +63,28 @@ unfolding playEnd
 end-grows block s =
     if-all (λ (t : Session). length (t .output) ≤ length (s .output) + maxAnswer) (isEmpty (s .line)) (λ e. omega arith) (λ e. line-grows block s)
 
-pub cell-short : (address field a b : ℕ) (z : ℤ) → length (cellText address field a b z) ≤ maxRecordText
-unfolding parts
-cell-short address field a b z =
-    let h : length (decimal address) ≤ 20 = digits-length 20 address in
-    let i : length (decimal field) ≤ 20 = digits-length 20 field in
-    let j : length (decimal a) ≤ 20 = digits-length 20 a in
-    let k : length (decimal b) ≤ 20 = digits-length 20 b in
-    let l : length (signedDecimal z) ≤ 21 = signed-length z in
-    simp length-append (omega arith)
+-- The longest value is the least, a sign and 19 digits.
+value-short : (n : ℕ) → n < 2 ^ 64 → length (signedDecimal (signed 64 n)) ≤ 20
+unfolding signed signedDecimal
+value-short n h =
+    if-all (λ (z : ℤ). length (signedDecimal z) ≤ 20) (ltb n (2 ^ 63))
+    (λ e. let d : length (decimal n) ≤ 19 = digits-fit 20 18 n (omega (arith, ltb-true n (2 ^ 63) e)) in omega arith)
+    (λ e. let d : length (decimal (suc (2 ^ 64 - 1 - n))) ≤ 19 = digits-fit 20 18 (suc (2 ^ 64 - 1 - n)) (omega (arith, ltb-false n (2 ^ 63) e)) in omega arith)
 
-pub receipt-short : (call outcome count : ℕ) → length (receiptText call outcome count) ≤ maxRecordText
-unfolding parts
-receipt-short call outcome count =
-    let h : length (decimal call) ≤ 20 = digits-length 20 call in
-    let i : length (decimal outcome) ≤ 20 = digits-length 20 outcome in
-    let j : length (decimal count) ≤ 20 = digits-length 20 count in
-    simp length-append (omega arith)
+-- The line of a record, from a body of bytes: numbers of two and of four bytes, and a value of eight.
+module _ (body : List ℕ) (bytes : (i : ℕ) → getD body i 0 < 256) where
+  two-short : (at : ℕ) → length (decimal (readLe 2 body at)) ≤ 5
+  two-short at = digits-fit 20 4 (readLe 2 body at) (omega (arith, read-lt 2 body bytes at))
+
+  four-short : (at : ℕ) → length (decimal (readLe 4 body at)) ≤ 10
+  four-short at = digits-fit 20 9 (readLe 4 body at) (omega (arith, read-lt 4 body bytes at))
+
+  pub cell-short : length (cellLine body) ≤ maxRecordText
+  unfolding parts
+  cell-short =
+      let v : length (signedDecimal (signed 64 (readLe 8 body 12))) ≤ 20 = value-short (readLe 8 body 12) (read-lt 8 body bytes 12) in
+      simp length-append (omega (arith, two-short 0, two-short 2, four-short 4, four-short 8, v))
+
+  pub receipt-short : (call : ℕ) → length (receiptLine call body) ≤ maxRecordText
+  unfolding parts
+  receipt-short call = simp length-append (omega (arith, digits-length 20 call, two-short 0, two-short 2))

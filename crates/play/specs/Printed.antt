@@ -12,9 +12,10 @@ use Rattle.play.specs.declared.Reading.{Reading}
 abbrev pub linesLeft : List ℕ → Reading → List ℕ
 linesLeft sheet p = recordsText (p .left) (p .call) (drop (p .at) sheet)
 
--- A record's line is a letter, five numbers of at most 21 characters behind a space each, and a line feed.
+-- A cell's line is a letter, five parts behind a space each, and a line feed: two numbers of at most 5 digits, two of at most 10, and a value of
+-- at most 20 characters. A receipt's line is shorter.
 abbrev pub maxRecordText : ℕ
-maxRecordText = 108
+maxRecordText = 57
 
 -- The longest text of a close: a line for each cell and each receipt.
 abbrev pub maxCloseText : ℕ

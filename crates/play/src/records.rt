@@ -14,8 +14,9 @@ ghost use Rattle.console.specs.Text.{cellLine, receiptLine, sheetText};
 ghost use Rattle.play.specs.Printed.{TurnsWithin, Printed};
 ghost use Rattle.text.specs.Written.{Written};
 
-// A record's line is a letter, five numbers of at most 21 characters behind a space each, and a line feed.
-const MAX_RECORD_TEXT: usize = 108;
+// A cell's line is a letter, five parts behind a space each, and a line feed: two numbers of at most 5 digits, two of at most 10, and a value of
+// at most 20 characters. A receipt's line is shorter.
+const MAX_RECORD_TEXT: usize = 57;
 
 // The longest text of a close: a line for each cell and each receipt.
 pub const MAX_CLOSE_TEXT: usize = MAX_RECORD_TEXT * (MAX_KEYS + MAX_CALLS);

@@ -45,7 +45,7 @@ use Rattle.host.specs.Exchange.{Handed, FileIn}
 use Rattle.host.proofs.Laws.{file-whole, front, handed-as, handed-empty, handed-more}
 use Rattle.host.specs.declared.Exchange.{Exchange}
 use Rattle.host.specs.declared.FileRead.{FileRead}
-use Rattle.register_run.specs.Runs.{InputRead, PlaysBytes, PiecePlayed, InputPlayed, exchangeStart, openedText, RunsOn, Runs, Registers}
+use Rattle.register_run.specs.Runs.{chunkSize, InputRead, PlaysBytes, PiecePlayed, InputPlayed, exchangeStart, openedText, RunsOn, Runs, Registers}
 use Rattle.register_run.specs.declared.Piece.{Piece}
 use Rattle.register_run.specs.declared.Input.{Input}
 use Rattle.register_run.specs.declared.Ran.{Ran}
@@ -137,7 +137,7 @@ module _ (block chunk : List ℕ) (number : ℕ) (line : Line) (run : Run) (n : 
 
   -- The answers fit their buffer.
   pub answers-fit : {next : ℕ} {on : Line} {left : Run} {answers : List ℕ} {end : ℕ} → shownFrom next on left answers end ≡ shown out 0 played
-      → n ≤ 4096 → n ≤ length chunk → end ≤ maxAnswer * 4096
+      → n ≤ chunkSize → n ≤ length chunk → end ≤ maxAnswer * chunkSize
   answers-fit {end = end} e l m =
       let grown : end ≡ 0 + length (played .output) = ap (λ (w : Shown). w .end) e in
       let bound : length (played .output) ≤ length (freshSession number line run .output) + maxAnswer * length bytes = bytes-grow block (freshSession number line run) bytes in

@@ -22,6 +22,10 @@ use Rattle.register_run.specs.declared.Input.{Input}
 use Rattle.register_run.specs.declared.Ran.{Ran}
 use Rattle.register_run.specs.declared.Registered.{Registered}
 
+-- The input is read in pieces of at most so many bytes.
+abbrev pub chunkSize : ℕ
+chunkSize = 512
+
 -- How a read of standard input changes the exchange: it counts what came, and it can fail.
 pub record InputRead (x : Exchange) (n : ℕ) (y : Exchange) : Type 0 where
   pub received : y .received ≡ x .received + n

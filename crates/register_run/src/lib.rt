@@ -43,10 +43,10 @@ ghost use Rattle.play.specs.Shown.{freshSession};
 ghost use Rattle.play.specs.Passed.{maxAnswer};
 ghost use Rattle.play.specs.Pieces.{endText};
 ghost use Rattle.host.specs.Exchange.{Handed};
-ghost use Rattle.register_run.specs.Runs.{InputRead, PiecePlayed, InputPlayed, RunsOn, Runs, Registers};
+ghost use Rattle.register_run.specs.Runs.{chunkSize, InputRead, PiecePlayed, InputPlayed, RunsOn, Runs, Registers};
 
 // The input is read in pieces of at most so many bytes, and each byte of it makes at most MAX_ANSWER bytes of answers.
-const CHUNK: usize = 4096;
+const CHUNK: usize = 512;
 
 const ANSWERS: usize = MAX_ANSWER * CHUNK;
 
@@ -149,9 +149,9 @@ fn play_some(
     answers: &mut [u8],
     transcript: &mut [u8],
 ) -> Piece
-    requires { ⌜ limit ≤ 4096 ⌝ }
-    requires { ⌜ 4096 ≤ length (now chunk) ⌝ }
-    requires { ⌜ maxAnswer * 4096 ≤ length (now answers) ⌝ }
+    requires { ⌜ limit ≤ chunkSize ⌝ }
+    requires { ⌜ chunkSize ≤ length (now chunk) ⌝ }
+    requires { ⌜ maxAnswer * chunkSize ≤ length (now answers) ⌝ }
     requires { ⌜ x .received < 4294967296 ⌝ }
     ensures { λ r. ⌜ PiecePlayed (now (block .entry))
         (freshSession (s .number) (s .line)
@@ -187,7 +187,7 @@ fn play_some(
 
 // How many bytes the next piece may have.
 fn piece_limit(left: u32) -> usize
-    ensures { λ r. ⌜ r ≤ 4096 ⌝ }
+    ensures { λ r. ⌜ r ≤ chunkSize ⌝ }
     ensures { λ r. ⌜ r ≤ left ⌝ }
 {
     if left as usize <= CHUNK {
@@ -211,8 +211,8 @@ fn play_input(
     answers: &mut [u8],
     transcript: &mut [u8],
 ) -> Input
-    requires { ⌜ 4096 ≤ length (now chunk) ⌝ }
-    requires { ⌜ maxAnswer * 4096 ≤ length (now answers) ⌝ }
+    requires { ⌜ chunkSize ≤ length (now chunk) ⌝ }
+    requires { ⌜ maxAnswer * chunkSize ≤ length (now answers) ⌝ }
     requires { ⌜ x .received ≡ 0 ⌝ }
     ensures { λ r. ⌜ InputPlayed (now (block .entry))
         (freshSession 1 Empty

@@ -37,7 +37,7 @@ returns c =
     let c6 = c .before .before .before .before .before .before in
     let c8 = c6 .before .before in
     let c9 = c8 .before in
-    next-cell (c9 .args .sheet .now) (c9 .args .p) _ (c9 .pre .1 .1) (c9 .pre .0) (c6 .get16 .ensures) (size-small (c9 .args .sheet .now) (c9 .args .p .at) (c6 .get16 .ensures) (λ i. c8 .shared-slice-known .given i .fits)) (c .before .before .before .before .before .get162 .ensures) (c .before .before .before .before .if1 .taken) (c .before .before .put-cell .ensures)
+    next-cell (c9 .args .sheet .now) (c9 .args .p) _ (c9 .pre .1 .1) (c9 .pre .0) (c6 .get16 .ensures) (c .before .before .before .before .before .get162 .ensures) (λ i. c8 .shared-slice-known .given i .fits) (c .before .before .before .before .if1 .taken) (c .before .before .put-cell .ensures)
 
 add-t20 : tie.Need-add-t20
 add-t20 c =
@@ -65,12 +65,12 @@ returns-2 c =
     let c7 = c6 .before in
     let c9 = c7 .before .before in
     let c10 = c9 .before in
-    next-receipt (c10 .args .sheet .now) (c10 .args .p) _ (c10 .pre .1 .1) (c10 .pre .0) (c7 .get16 .ensures) (size-small (c10 .args .sheet .now) (c10 .args .p .at) (c7 .get16 .ensures) (λ i. c9 .shared-slice-known .given i .fits)) (c6 .get162 .ensures) (c .before .before .before .before .if2 .taken) (c .before .before .put-receipt .ensures)
+    next-receipt (c10 .args .sheet .now) (c10 .args .p) _ (c10 .pre .1 .1) (c10 .pre .0) (c7 .get16 .ensures) (c6 .get162 .ensures) (λ i. c9 .shared-slice-known .given i .fits) (c .before .before .before .before .if2 .taken) (c .before .before .put-receipt .ensures)
 
 returns-3 : tie.Need-returns-3
 returns-3 c =
     let c6 = c .before .before .before .before .before .before in
-    next-other (c6 .args .sheet .now) (c6 .args .p) _ (c6 .pre .1 .1) (c6 .pre .0) (c .before .before .before .get16 .ensures) (size-small (c6 .args .sheet .now) (c6 .args .p .at) (c .before .before .before .get16 .ensures) (λ i. c .before .before .before .before .before .shared-slice-known .given i .fits)) (c .before .before .get162 .ensures) (c .before .if1 .left) (c .if2 .left)
+    next-other (c6 .args .sheet .now) (c6 .args .p) _ (c6 .pre .1 .1) (c6 .pre .0) (c .before .before .before .get16 .ensures) (c .before .before .get162 .ensures) (λ i. c .before .before .before .before .before .shared-slice-known .given i .fits) (c .before .if1 .left) (c .if2 .left)
 
 pub next-record-spec : {M : Type 1} → statement M
 next-record-spec =
