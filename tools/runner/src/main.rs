@@ -8,6 +8,7 @@ use std::process::ExitCode;
 use runner::assemble::assemble;
 use runner::console::{closing, read_input, refused_block, register};
 use runner::coverage::Coverage;
+use runner::generate::sized::{self, Sizes};
 use runner::generate::{large_cases, small_cases, Case};
 use runner::inspect::inspect;
 use runner::limits::MAX_WORKERS;
@@ -25,6 +26,9 @@ const USAGE: &str = "usage:
   runner coverage SEED COUNT        what these cases show
   runner generate SEED COUNT DIR [--large]
                                     cases as files NNN.bin, NNN.moves, NNN.out
+  runner sized SEED CALLS KEYS LINES STEM
+                                    a block of these sizes, run to its end, as files STEM.bin,
+                                    STEM.moves, STEM.out
   runner vectors open SEED DIR      stdin and stdout of a program that lists many blocks
   runner vectors register SEED DIR  the same for one that runs many blocks
   runner vectors moves SEED COUNT DIR
@@ -75,6 +79,17 @@ fn run(words: &[&str]) -> Result<(), Failure> {
         }
         ["generate", seed, count, directory, "--large"] => {
             write_cases(&large_cases(seed.parse()?, count.parse()?), directory)
+        }
+        ["sized", seed, calls, keys, lines, stem] => {
+            let sizes = Sizes {
+                calls: calls.parse()?,
+                keys: keys.parse()?,
+                lines: lines.parse()?,
+            };
+            Ok(write_case(
+                &sized::case(seed.parse()?, sizes)?,
+                Path::new(stem),
+            )?)
         }
         ["vectors", "open", seed, directory] => {
             write_stream(&vectors::blocks::opened(seed.parse()?), directory)
@@ -133,12 +148,15 @@ fn write_modules(cases: &[Case], directory: &str) -> Result<(), Failure> {
 fn write_cases(cases: &[Case], directory: &str) -> Result<(), Failure> {
     fs::create_dir_all(directory)?;
     for (index, case) in cases.iter().enumerate() {
-        let stem = Path::new(directory).join(format!("{index:03}"));
-        fs::write(stem.with_extension("bin"), &case.block)?;
-        fs::write(stem.with_extension("moves"), &case.input)?;
-        fs::write(stem.with_extension("out"), &case.output)?;
+        write_case(case, &Path::new(directory).join(format!("{index:03}")))?;
     }
     Ok(())
+}
+
+fn write_case(case: &Case, stem: &Path) -> io::Result<()> {
+    fs::write(stem.with_extension("bin"), &case.block)?;
+    fs::write(stem.with_extension("moves"), &case.input)?;
+    fs::write(stem.with_extension("out"), &case.output)
 }
 
 fn write_stream(stream: &Stream, directory: &str) -> Result<(), Failure> {

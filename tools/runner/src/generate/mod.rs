@@ -8,6 +8,7 @@ pub mod edges;
 pub mod large;
 pub mod moves;
 pub mod programs;
+pub mod sized;
 
 use crate::console::register;
 use crate::limits::MAX_WORKERS;

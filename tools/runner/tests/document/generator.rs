@@ -2,7 +2,9 @@
 
 use std::collections::BTreeSet;
 
+use runner::console;
 use runner::coverage::Coverage;
+use runner::generate::sized::{self, Sizes, CALL_LINES};
 use runner::generate::{edges, large_cases, programs, small_cases};
 use runner::limits::{MAX_BLOCK_BYTES, MAX_WORKERS};
 use runner::literal::module;
@@ -91,4 +93,68 @@ fn a_module_holds_a_numeral_and_two_texts_a_case() {
 ";
     assert!(text.contains(element), "{text}");
     assert!(text.contains("pub agree : failures 7 cases ≡ []"));
+}
+
+#[test]
+fn sized_cases_have_their_sizes() {
+    let calls = CALL_LINES * 16;
+    for (calls, keys, lines) in [
+        (8, 80, CALL_LINES * 8),
+        (16, 256, calls),
+        (16, 256, calls + 2),
+        (16, 256, calls + CALL_LINES - 1),
+        (16, 256, calls + CALL_LINES),
+        (16, 256, calls + CALL_LINES + 1),
+        (16, 256, calls + CALL_LINES + 2),
+        (20, 128, 700),
+        (256, 1_024, 10_000),
+    ] {
+        let sizes = Sizes { calls, keys, lines };
+        let case = sized::case(1, sizes).expect("the sizes fit");
+        let opened = open(&case.block, MAX_WORKERS).expect("the block is good");
+        assert_eq!(opened.block.calls.len(), calls, "{sizes:?}");
+        assert_eq!(opened.keys, keys, "{sizes:?}");
+        assert!(
+            opened.sets.iter().all(|sets| sets.accesses.keys().len() == 24),
+            "{sizes:?}"
+        );
+        let input: Vec<&[u8]> = console::lines(&case.input).collect();
+        assert_eq!(input.len(), lines, "{sizes:?}");
+        assert!(!case.output.starts_with(b"r "), "{sizes:?}");
+        let before_last = [&input[..lines - 1].join(&b'\n'), b"\n".as_slice()].concat();
+        assert_eq!(
+            console::register(&case.block, &before_last),
+            "r 0 27\n",
+            "{sizes:?}"
+        );
+    }
+}
+
+#[test]
+fn sized_cases_follow_from_the_seed() {
+    let sizes = Sizes {
+        calls: 20,
+        keys: 128,
+        lines: 800,
+    };
+    assert_eq!(sized::case(3, sizes), sized::case(3, sizes));
+    assert_ne!(sized::case(3, sizes), sized::case(4, sizes));
+}
+
+#[test]
+fn sizes_that_no_block_has_are_refused() {
+    let lines = CALL_LINES * 16;
+    for (calls, keys, lines) in [
+        (16, 64, lines),
+        (16, 100, lines),
+        (256, 1_040, 10_000),
+        (7, 80, lines),
+        (11, 256, lines),
+        (257, 256, 10_000),
+        (16, 256, lines - 1),
+        (16, 256, lines + 1),
+    ] {
+        let sizes = Sizes { calls, keys, lines };
+        assert!(sized::case(1, sizes).is_err(), "{sizes:?}");
+    }
 }
