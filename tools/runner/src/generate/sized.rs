@@ -19,8 +19,8 @@ const FUNCTIONS: usize = 8;
 const READ_FIELDS: usize = 16;
 /// Fields of which a call writes one cell each, by its second argument.
 const WRITTEN_FIELDS: usize = 8;
-/// Values of the second argument. Calls conflict where they have the same: one
-/// pair of eight.
+/// Values of the second argument. Calls conflict where they have the same, which
+/// is about one pair in eight.
 const WRITTEN_INDICES: usize = 8;
 /// Keys that are written, all of them opening cells.
 const WRITTEN_KEYS: usize = WRITTEN_FIELDS * WRITTEN_INDICES;

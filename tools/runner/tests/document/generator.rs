@@ -115,7 +115,10 @@ fn sized_cases_have_their_sizes() {
         assert_eq!(opened.block.calls.len(), calls, "{sizes:?}");
         assert_eq!(opened.keys, keys, "{sizes:?}");
         assert!(
-            opened.sets.iter().all(|sets| sets.accesses.keys().len() == 24),
+            opened
+                .sets
+                .iter()
+                .all(|sets| sets.accesses.keys().len() == 24),
             "{sizes:?}"
         );
         let input: Vec<&[u8]> = console::lines(&case.input).collect();
