@@ -13,6 +13,7 @@ use block::record::payee_of;
 use footprint::access::source_value;
 use machine::Action;
 use machine::Next;
+use machine::layout::REGISTERS;
 ghost use mathlib.Core.Path.{_≡_};
 ghost use lib.IntN.{pos};
 ghost use lib.ListN.{getD, set};
@@ -23,9 +24,6 @@ ghost use Rattle.block.specs.Record.{argument};
 ghost use Rattle.block.specs.Naming.{targetOf};
 ghost use Rattle.machine.specs.Action.{assign, checkedAction, doing, jump, payAction};
 ghost use Rattle.block.specs.Outcomes.{ended, thrown};
-
-// The number of registers.
-const REGISTERS: usize = 8;
 
 // The value of register x, 0 for one that does not exist.
 fn register(regs: [i64; 8], x: usize) -> i64

@@ -1,4 +1,4 @@
--- The mathematics of the proofs of `plan`, over plain variables: entries stored one by one, the words of a call, and the entries of a set.
+-- The mathematics of the proofs of `plan`, over plain variables: the words of a call, and the entries of a set.
 use mathlib.Core.Path.{_≡_, refl, sym, ap, ap₂, _∙_}
 use mathlib.Core.Bool.{Bool, true, false}
 use mathlib.Core.List.{List, [], _∷_, _++_, map, append-assoc}
@@ -12,7 +12,7 @@ use lib.ListN.{length, getD, take, set, replicate, length-map}
 use lib.Seq.{take-suc, take-all, length-take-le}
 use Rattle.wire.specs.Bytes.{readLe, repeated, padded, stored}
 use Rattle.wire.specs.Rows.{bit}
-use Rattle.wire.proofs.BytesLaws.{stored-append, stored-length}
+use Rattle.wire.proofs.BytesLaws.{stored-append}
 use Rattle.arith.specs.Exact.{signed}
 use Rattle.block.specs.Key.{keyOf}
 use Rattle.block.specs.Record.{cellOf}
@@ -30,36 +30,6 @@ use Rattle.analysis.proofs.MaskBuffers.{entries-taken, in-table}
 use Rattle.analysis.specs.Planned.{GatheredFits, wordsOfCall, callWords}
 use Rattle.analysis.proofs.PlanLaws.{stored-padded, complete, listed-set}
 use Rattle.analysis.specs.declared.Sets.{Sets}
-
--- ---- entries stored one by one
-
--- The first k of the words stored from a place on.
-pub record StoredTo (plan : List ℕ) (at : ℕ) (words : List ℕ) (now : List ℕ) (k : ℕ) : Type 0 where
-  pub within : k ≤ length words
-  pub same : now ≡ stored plan at (take k words)
-
-module _ (plan : List ℕ) (at : ℕ) (words : List ℕ) where
-  pub stored-none : StoredTo plan at words plan 0
-  unfolding stored
-  stored-none = record { within = omega arith; same = refl }
-
-  pub stored-more : (now : List ℕ) (k : ℕ) → StoredTo plan at words now k → k < length words
-      → StoredTo plan at words (set now (at + k) (getD words k 0)) (k + 1)
-  unfolding stored
-  stored-more now k h l =
-      record {
-        within = omega arith;
-        same =
-            ap₂ (λ (s : List ℕ) (i : ℕ). set s (at + i) (getD words k 0)) (h .same) (sym (length-take-le k words (h .within)))
-            ∙ sym (stored-append (take k words) (getD words k 0 ∷ []) plan at)
-            ∙ rw (add-one k, take-suc words k 0 l);
-      }
-
-  pub stored-all : (now : List ℕ) (k : ℕ) → StoredTo plan at words now k → length words ≤ k → now ≡ stored plan at words
-  stored-all now k h l = h .same ∙ ap (stored plan at) (take-all k words l)
-
-  pub stored-kept : (now : List ℕ) (k : ℕ) → StoredTo plan at words now k → length now ≡ length plan
-  stored-kept now k h = ap length (h .same) ∙ stored-length (take k words) plan at
 
 -- ---- the words of a call
 

@@ -10,6 +10,7 @@ use footprint::KeyUse;
 use footprint::Uses;
 use footprint::access::entry_uses;
 use footprint::access::instr_uses;
+use footprint::access::no_uses;
 ghost use mathlib.Core.Path.{_≡_};
 ghost use mathlib.Core.List.{[]};
 ghost use Prim.Native.Nat.{_*_, _<_, _≤_};
@@ -136,19 +137,7 @@ fn uses_at(code: &[u8], index: usize, size: usize, c: Call) -> Uses
 {
     match decode(code, INSTR_BYTES * index, index, size) {
         Decoded::Valid(i) => instr_uses(c, i),
-        Decoded::Invalid => {
-            let none = KeyUse {
-                high: 0,
-                low: 0,
-                reads: false,
-                writes: false,
-            };
-            Uses {
-                count: 0,
-                first: none,
-                second: none,
-            }
-        }
+        Decoded::Invalid => no_uses(),
     }
 }
 

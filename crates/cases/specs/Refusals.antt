@@ -30,8 +30,8 @@ calls zero = []
 calls (suc n) = calls n ++ callWith 5 32768 0 (pos 0) n
 
 -- Buffers of which one is too short by one.
-abbrev sizes : (plan keys cells status saved : ℕ) → Sizes
-sizes p k c s o = record { plan = p; keys = k; cells = c; status = s; saved = o }
+abbrev sizes : (plan keys cells status seats frames : ℕ) → Sizes
+sizes p k c s w f = record { plan = p; keys = k; cells = c; status = s; seats = w; frames = f }
 
 abbrev openedIn : Sizes → List ℕ
 openedIn s = told (openingOf s end maxWorkers)
@@ -94,14 +94,15 @@ pub record Refusals : Type 0 where
   pub workers-0 : told (openingOf fixedSizes end 0) ≡ 13 ∷ 0 ∷ []
   pub workers-9 : told (openingOf fixedSizes end 9) ≡ 13 ∷ 0 ∷ []
   -- 20 "a lent buffer .. shorter than the fixed size"
-  pub sizes-right : openedIn (sizes 8192 2048 1024 1024 192) ≡ 0 ∷ 0 ∷ []
-  pub plan-short : openedIn (sizes 8191 2048 1024 1024 192) ≡ 20 ∷ 0 ∷ []
-  pub keys-short : openedIn (sizes 8192 2047 1024 1024 192) ≡ 20 ∷ 0 ∷ []
-  pub cells-short : openedIn (sizes 8192 2048 1023 1024 192) ≡ 20 ∷ 0 ∷ []
-  pub status-short : openedIn (sizes 8192 2048 1024 1023 192) ≡ 20 ∷ 0 ∷ []
-  pub saved-short : openedIn (sizes 8192 2048 1024 1024 191) ≡ 20 ∷ 0 ∷ []
+  pub sizes-right : openedIn (sizes 8192 2048 1024 1024 128 256) ≡ 0 ∷ 0 ∷ []
+  pub plan-short : openedIn (sizes 8191 2048 1024 1024 128 256) ≡ 20 ∷ 0 ∷ []
+  pub keys-short : openedIn (sizes 8192 2047 1024 1024 128 256) ≡ 20 ∷ 0 ∷ []
+  pub cells-short : openedIn (sizes 8192 2048 1023 1024 128 256) ≡ 20 ∷ 0 ∷ []
+  pub status-short : openedIn (sizes 8192 2048 1024 1023 128 256) ≡ 20 ∷ 0 ∷ []
+  pub seats-short : openedIn (sizes 8192 2048 1024 1024 127 256) ≡ 20 ∷ 0 ∷ []
+  pub frames-short : openedIn (sizes 8192 2048 1024 1024 128 255) ≡ 20 ∷ 0 ∷ []
   -- "Order: 20 .., 13, 1; by record 2 (head), 3, 4, 2 (body), 7, 5, 10, 6, 9; after the end 8; then by call 11, 12."
-  pub order-20-13 : told (openingOf (sizes 0 0 0 0 0) end 9) ≡ 20 ∷ 0 ∷ []
+  pub order-20-13 : told (openingOf (sizes 0 0 0 0 0 0) end 9) ≡ 20 ∷ 0 ∷ []
   pub order-13-2 : told (openingOf fixedSizes [] 9) ≡ 13 ∷ 0 ∷ []
   pub order-3-4 : refusal (recordOf 5 (0 ∷ []) ∷ []) ≡ 3 ∷ 0 ∷ []
   pub order-4-2 : refusal ((21 ∷ 0 ∷ 2 ∷ 0 ∷ []) ∷ []) ≡ 4 ∷ 0 ∷ []
@@ -163,7 +164,8 @@ refusals =
       keys-short = refl;
       cells-short = refl;
       status-short = refl;
-      saved-short = refl;
+      seats-short = refl;
+      frames-short = refl;
       order-20-13 = refl;
       order-13-2 = refl;
       order-3-4 = refl;

@@ -24,7 +24,8 @@ pub fn sheet(
     keys: &[u64],
     cells: &[i64],
     status: &[u64],
-    saved: &[i64],
+    seats: &[u64],
+    frames: &[i64],
     output: &mut [u8],
 ) -> Closing
     ensures { λ r. ⌜ ClosedAs r (now (output .exit))
@@ -34,7 +35,8 @@ pub fn sheet(
           keys = now (keys .entry);
           cells = now (cells .entry);
           status = now (status .entry);
-          saved = now (saved .entry);
+          seats = now (seats .entry);
+          frames = now (frames .entry);
         }) (now (output .entry))) ⌝ }
 {
     let calls = head.calls;
@@ -44,7 +46,8 @@ pub fn sheet(
         keys.len(),
         cells.len(),
         status.len(),
-        saved.len(),
+        seats.len(),
+        frames.len(),
     );
     if !large {
         return Closing::Refused(Answer::Damaged);

@@ -10,6 +10,7 @@ use block::record::argument;
 use block::record::high_of;
 use block::record::payee_of;
 ghost use mathlib.Core.Path.{_≡_};
+ghost use mathlib.Core.List.{[]};
 ghost use Rattle.block.specs.Key.{addressNumber, keyOf};
 ghost use Rattle.footprint.specs.Access.{accesses, entryAccesses, payAccesses};
 ghost use Rattle.block.specs.Naming.{cellKey, sourceValue};
@@ -81,8 +82,8 @@ fn no_use() -> KeyUse
     }
 }
 
-fn none() -> Uses
-    ensures { λ r. ⌜ r ≡ record { count = 0; first = noUse; second = noUse } ⌝ }
+pub fn no_uses() -> Uses
+    ensures { λ r. ⌜ r ≡ usesOf [] ⌝ }
 {
     Uses {
         count: 0,
@@ -123,7 +124,7 @@ pub fn entry_uses(c: Call) -> Uses
             balance_use(Address::OfContract(contract), false, true),
         );
     }
-    none()
+    no_uses()
 }
 
 // "PAY reads and writes it and writes the target's balance if the target is an account": it is the contract's balance.
@@ -148,6 +149,6 @@ pub fn instr_uses(c: Call, i: Instr) -> Uses
         Instr::Put { x: _, field, a, b } => one(cell_use(c, field, a, b, false, true)),
         Instr::Bal { x: _ } => one(balance_use(Address::OfContract(contract), true, false)),
         Instr::Pay { x: _, target } => pay_uses(c, payee_of(source_value(c, target))),
-        _ => none(),
+        _ => no_uses(),
     }
 }

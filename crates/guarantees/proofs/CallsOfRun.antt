@@ -1,7 +1,6 @@
 -- The calls of a run: each call of a lent run as one of the calls that the theorem of `schedule` is about, and that it is lawful.
 pub mod ViewCalls
 pub mod ViewEntries
-pub mod ViewSteps
 pub mod ViewFrame
 pub mod ViewEnds
 pub mod ViewLawful

@@ -2,7 +2,7 @@
 -- table.
 use mathlib.Core.Path.{_≡_, ap, subst, subst⁻¹, _∙_}
 use mathlib.Core.List.{List, [], _∷_}
-use Prim.Native.Nat.{ℕ, suc, _+_, _*_, _<_}
+use Prim.Native.Nat.{ℕ, suc, _+_, _*_}
 use native.Mathlib.Omega.{arith}
 use lib.Dec.{eqb, lit<}
 use lib.ListN.{getD, drop}
@@ -10,7 +10,7 @@ use Rattle.arith.proofs.ChoiceLaws.{if-all}
 use Rattle.arith.proofs.IntegerLaws.{signed-range}
 use Rattle.wire.specs.Bytes.{readLe}
 use Rattle.wire.proofs.BytesLaws.{number-lt}
-use Rattle.block.specs.Record.{Function, Cell, Block}
+use Rattle.block.specs.Record.{Function, Cell, Block, callRecordBytes, headBytes}
 use Rattle.block.proofs.ReaderLaws.{EachAt, BlockLaws}
 use Rattle.block.specs.declared.Call.{Call}
 use Rattle.footprint.proofs.SetAccessLaws.{drop-bytes}
@@ -57,7 +57,7 @@ cells-small file bytes b laws i d h =
 
 calls-fit : (file : List ℕ) → AreBytes file → (b : Block) → BlockLaws file b → EachAt (λ i c. CallBounded c) (b .calls)
 calls-fit file bytes b laws i d h =
-    let at : ℕ = b .firstCall + 34 * i + 4 in
+    let at : ℕ = b .firstCall + callRecordBytes * i + headBytes in
     read-call-bounded (drop at file) (drop-bytes at file bytes) (getD (b .calls) i d) (laws .calls i d h)
 
 -- Every call keeps the limit and the range of values, so all of them do.

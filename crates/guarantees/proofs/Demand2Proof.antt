@@ -7,7 +7,7 @@ use Prim.Native.Nat.{ℕ, zero, suc, _+_, _*_, _<_}
 use native.Mathlib.Omega.{arith}
 use lib.IntN.{ℤ, pos}
 use lib.ListN.{length, getElem?, drop}
-use Rattle.block.specs.Record.{Function, Block}
+use Rattle.block.specs.Record.{Function, Block, callRecordBytes, headBytes}
 use Rattle.block.proofs.ReaderLaws.{FunctionSound}
 use Rattle.block.specs.declared.Call.{Call}
 use Rattle.block.specs.declared.CallBody.the-variants.{OutOfRange}
@@ -110,10 +110,10 @@ module _ (s : Sizes) (file : List ℕ) (workers : ℕ) (bytes : AreBytes file) (
         subst⁻¹ (CallOpened file b (after .table) (s .keys) r₀ c) (found-in (b .calls) c (bodyCall OutOfRange) (o .0) (o .1 .at)) (o .1)
 
     abbrev record-bytes : List ℕ
-    record-bytes = drop (b .firstCall + 34 * c + 4) file
+    record-bytes = drop (b .firstCall + callRecordBytes * c + headBytes) file
 
     fits : CallBounded x
-    fits = read-call-bounded record-bytes (drop-bytes (b .firstCall + 34 * c + 4) file bytes) x (opened .body)
+    fits = read-call-bounded record-bytes (drop-bytes (b .firstCall + callRecordBytes * c + headBytes) file bytes) x (opened .body)
 
     safe : Safe (readSet es) (writeSet es) (ruleFor file c)
     safe =

@@ -15,7 +15,7 @@ use Rattle.schedule.proofs.Expected.{ClosedUnderEarlier}
 use Rattle.schedule.proofs.Valid.{Valid}
 use Rattle.schedule.specs.Confluent.{Confluent}
 use Rattle.block.specs.Encoding.{AreBytes}
-use Rattle.machine.specs.Run.{Run, Sizes, seatOf, stateOf}
+use Rattle.machine.specs.Run.{Run, Sizes, heldAt, stateOf}
 use Rattle.machine.specs.Step.{cellAt}
 use Rattle.machine.specs.Moves.{moveOf}
 use Rattle.machine.specs.Serial.{serialRunOf}
@@ -101,7 +101,7 @@ module _ (s : Sizes) (file : List ℕ) (workers : ℕ) (bytes : AreBytes file) (
       state-of-phase (r .status) c (M .call c) (T .phase c) (stands .calls c l) (conf .same-states c)
       ∙ ap stateNumber (sym (phase-is c))
 
-  seats : (w : ℕ) → w < workers → seatOf (r .head) w .call ≡ seatNumber (tallyAfter file workers ms .seat w)
+  seats : (w : ℕ) → w < workers → heldAt (r .head) w ≡ seatNumber (tallyAfter file workers ms .seat w)
   seats w l =
       seat-holds file workers n (isBefore file) r₀ M r stands w l
       ∙ ap seatNumber (conf .same-seats w)

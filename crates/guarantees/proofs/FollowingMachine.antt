@@ -3,7 +3,6 @@ pub mod RunMatches
 pub mod OpenedRuns
 pub mod ChangeMatches
 pub mod BufferLaws
-pub mod StepKeeps
 pub mod Follows
 pub mod HeldMatches
 pub mod BeginMatches

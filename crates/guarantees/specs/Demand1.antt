@@ -11,8 +11,8 @@ use lib.Signed.{nonNeg}
 use Rattle.wire.specs.Bytes.{repeated}
 use Rattle.wire.specs.Rows.{inRow}
 use Rattle.schedule.specs.declared.Move.{Move}
-use Rattle.block.specs.Limits.{maxBytes, maxCalls, maxCallKeys, maxCode, maxKeys, maxWorkers}
-use Rattle.block.specs.Record.{Block, headBytes, callBytes}
+use Rattle.block.specs.Limits.{maxBytes, maxCalls, maxCallKeys, maxKeys, maxWorkers}
+use Rattle.block.specs.Record.{Block, callRecordBytes}
 use Rattle.block.specs.Reader.{accepted, refused, readBlock}
 use Rattle.block.specs.Encoding.{All, AreBytes, Contents, HoldsContents, blockFor, ReaderExact}
 use Rattle.block.specs.declared.Refusal.{Refusal}
@@ -21,8 +21,8 @@ use Rattle.block.specs.declared.Verdict.the-variants as verdict
 use Rattle.footprint.specs.Access.{Access}
 use Rattle.footprint.specs.Table.{insertKeys}
 use Rattle.analysis.specs.LayoutOfBlock.{allSets, openingKeys}
-use Rattle.block.specs.Outcomes.{notPaid}
-use Rattle.machine.specs.Run.{Run, Sizes, sizesOf, fixedSizes, seatOf, rowIn, stateOf, statusWord, waiting, finished, outcomeWord, countWord}
+use Rattle.block.specs.Outcomes.{lastOutcome, maxCount}
+use Rattle.machine.specs.Run.{Run, Sizes, sizesOf, fixedSizes, heldAt, rowIn, stateOf, statusWord, waiting, finished, outcomeWord, countWord}
 use Rattle.footprint.specs.Plan.{entryCell, entryWrites, entryFlags}
 use Rattle.machine.specs.Opening.{headOf, openingOf}
 use Rattle.machine.specs.Step.{cellAt}
@@ -42,7 +42,8 @@ pub record Large (s : Sizes) : Type 0 where
   pub keys : fixedSizes .keys ≤ s .keys
   pub cells : fixedSizes .cells ≤ s .cells
   pub status : fixedSizes .status ≤ s .status
-  pub saved : fixedSizes .saved ≤ s .saved
+  pub seats : fixedSizes .seats ≤ s .seats
+  pub frames : fixedSizes .frames ≤ s .frames
 
 -- ---- the opening
 
@@ -70,14 +71,14 @@ pub record KeysBefore (sets : List (List Access)) (keys : List ℕ) (call : ℕ)
 pub record Over24 (sets : List (List Access)) (keys : List ℕ) (first at : ℕ) : Type 0 where
   pub call : ℕ
   pub there : call < length sets
-  pub offset : at ≡ first + (headBytes + callBytes) * call
+  pub offset : at ≡ first + callRecordBytes * call
   pub before : KeysBefore sets keys call
   pub over : maxCallKeys < length (getD sets call [])
 
 pub record Over1024 (sets : List (List Access)) (keys : List ℕ) (first at : ℕ) : Type 0 where
   pub call : ℕ
   pub there : call < length sets
-  pub offset : at ≡ first + (headBytes + callBytes) * call
+  pub offset : at ≡ first + callRecordBytes * call
   pub before : KeysBefore sets keys call
   pub own : length (getD sets call []) ≤ maxCallKeys
   pub over : maxKeys < length (keysTogether keys (take (suc call) sets))
@@ -115,7 +116,8 @@ pub record Cleared (s : Sizes) (r : Run) : Type 0 where
   pub keys : r .keys ≡ repeated (s .keys) 0
   pub cells : r .cells ≡ repeated (s .cells) (pos 0)
   pub status : r .status ≡ repeated (s .status) 0
-  pub saved : r .saved ≡ repeated (s .saved) (pos 0)
+  pub seats : r .seats ≡ repeated (s .seats) 0
+  pub frames : r .frames ≡ repeated (s .frames) (pos 0)
 
 -- ---- a lent run
 
@@ -126,9 +128,9 @@ WorkersIn r = (1 ≤ r .head .workers) × (r .head .workers ≤ maxWorkers)
 abbrev pub CallsIn : Run → Type 0
 CallsIn r = r .head .calls ≤ maxCalls
 
--- What a worker's seat holds: 0 for none, or a call's number plus 1.
+-- What a worker holds: 0 for none, or a call's number plus 1.
 abbrev pub heldIn : Run → ℕ → ℕ
-heldIn r worker = seatOf (r .head) worker .call
+heldIn r worker = heldAt (r .head) worker
 
 abbrev pub StateIn : Run → ℕ → Type 0
 StateIn r call = stateOf (r .status) call ≤ finished
@@ -240,8 +242,8 @@ SheetRefuses r output answer.SheetTooLong = Before28 r × (length output < lengt
 pub record Writable (r : Run) (output : List ℕ) : Type 0 where
   pub so-far : Before28 r
   pub fits : length (sheetBytes r) ≤ length output
-  pub outcomes : (call : ℕ) → call < r .head .calls → statusWord (r .status) call outcomeWord ≤ notPaid
-  pub counts : (call : ℕ) → call < r .head .calls → statusWord (r .status) call countWord ≤ maxCode
+  pub outcomes : (call : ℕ) → call < r .head .calls → statusWord (r .status) call outcomeWord ≤ lastOutcome
+  pub counts : (call : ℕ) → call < r .head .calls → statusWord (r .status) call countWord ≤ maxCount
 
 -- ---- the demand
 

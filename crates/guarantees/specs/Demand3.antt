@@ -8,7 +8,7 @@ use Rattle.schedule.specs.Tally.{running, finished, holds, isFinished, Forward}
 use Rattle.schedule.specs.declared.Move.{Move}
 use Rattle.block.specs.Encoding.{AreBytes}
 use Rattle.block.specs.declared.Verdict.the-variants as verdict
-use Rattle.machine.specs.Run.{Run, Sizes, seatOf, stateOf, statusWord, outcomeWord, countWord}
+use Rattle.machine.specs.Run.{Run, Sizes, heldAt, stateOf, statusWord, outcomeWord, countWord}
 use Rattle.machine.specs.Opening.{openingOf}
 use Rattle.machine.specs.Step.{cellAt}
 use Rattle.machine.specs.Moves.{localOf, moveOf, answersOf}
@@ -56,7 +56,7 @@ pub record Demand3 (s : Sizes) (file : List ℕ) (workers : ℕ) (ms : List Move
   pub states : (call : ℕ) → call < callCount file
       → stateOf (runAfterMoves s file workers ms .status) call ≡ stateNumber (tallyAfter file workers ms .phase call)
   pub seats : (worker : ℕ) → worker < workers
-      → seatOf (runAfterMoves s file workers ms .head) worker .call ≡ seatNumber (tallyAfter file workers ms .seat worker)
+      → heldAt (runAfterMoves s file workers ms .head) worker ≡ seatNumber (tallyAfter file workers ms .seat worker)
   -- "(none after an opening and moves alone ..)": no answer is 20.
   pub never-damaged : (i : ℕ) → getD (answersOf file (openedIn s file workers) ms) i 0 ≡ 20 → ⊥
   -- "Each finished call has its receipt of the serial run, in as many accepted steps, counted from its last begin."

@@ -123,8 +123,8 @@ front {before} {after} {n} {text} w l =
     ap (λ (m : ℕ). take m after) e ∙ ap (take (length text)) (w .same ∙ stored-inside text before 0 f)
     ∙ take-append-seam text (drop (0 + length text) before)
 
-module _ {file : List ℕ} {s : Sizes} {plan keys : List ℕ} {cells : List ℤ} {status : List ℕ} {saved : List ℤ} {before after : List ℕ} {n : ℕ}
-    (l : Listed file s plan keys cells status saved before after n) where
+module _ {file : List ℕ} {s : Sizes} {plan keys : List ℕ} {cells : List ℤ} {status seats : List ℕ} {frames : List ℤ} {before after : List ℕ} {n : ℕ}
+    (l : Listed file s plan keys cells status seats frames before after n) where
   pub listing-room : n ≤ maxListing
   listing-room = omega (arith, l .text .end, listing-fits s file)
 

@@ -5,9 +5,10 @@ use libc::STDIN_FILENO;
 use libc::STDOUT_FILENO;
 use listing::MAX_LISTING;
 use machine::layout::CELLS_SIZE;
+use machine::layout::FRAMES_SIZE;
 use machine::layout::KEYS_SIZE;
 use machine::layout::PLAN_SIZE;
-use machine::layout::SAVED_SIZE;
+use machine::layout::SEATS_SIZE;
 use machine::layout::STATUS_SIZE;
 ghost use mathlib.Core.Path.{_≡_};
 ghost use mathlib.Core.Bool.{false};
@@ -258,7 +259,8 @@ pub fn print_listing(x: Exchange, block: &[u8], transcript: &mut [u8]) -> Exchan
     let mut keys = [0u64; KEYS_SIZE];
     let mut cells = [0i64; CELLS_SIZE];
     let mut status = [0u64; STATUS_SIZE];
-    let mut saved = [0i64; SAVED_SIZE];
+    let mut seats = [0u64; SEATS_SIZE];
+    let mut frames = [0i64; FRAMES_SIZE];
     let mut text = [0u8; MAX_LISTING];
     let length = listing::list(
         block,
@@ -266,7 +268,8 @@ pub fn print_listing(x: Exchange, block: &[u8], transcript: &mut [u8]) -> Exchan
         &mut keys,
         &mut cells,
         &mut status,
-        &mut saved,
+        &mut seats,
+        &mut frames,
         &mut text,
     );
     print(x, &text[..length], transcript)

@@ -15,16 +15,28 @@ pub fn begin_lending(
     keys: &[u64],
     cells: &[i64],
     status: &mut [u64],
-    saved: &mut [i64],
+    seats: &mut [u64],
+    frames: &mut [i64],
     worker: usize,
     call: usize,
 ) -> Reply
     ensures { λ r. ⌜ moved (r .answer)
-        (lent (r .head) (now (plan .entry)) (now (keys .entry)) (now (cells .entry)) (now (status .exit)) (now (saved .exit)))
+        (lent (r .head) (now (plan .entry)) (now (keys .entry)) (now (cells .entry)) (now (status .exit)) (now (seats .exit)) (now (frames .exit)))
         ≡ beginOf
-        (lent head (now (plan .entry)) (now (keys .entry)) (now (cells .entry)) (now (status .entry)) (now (saved .entry))) worker call ⌝ }
+        (lent head (now (plan .entry)) (now (keys .entry)) (now (cells .entry)) (now (status .entry)) (now (seats .entry))
+        (now (frames .entry))) worker call ⌝ }
 {
-    let answer = begin_in(&mut head, plan, keys, cells, status, saved, worker, call);
+    let answer = begin_in(
+        &mut head,
+        plan,
+        keys,
+        cells,
+        status,
+        seats,
+        frames,
+        worker,
+        call,
+    );
     Reply { head, answer }
 }
 
@@ -36,15 +48,27 @@ pub fn step_lending(
     keys: &[u64],
     cells: &mut [i64],
     status: &mut [u64],
-    saved: &[i64],
+    seats: &mut [u64],
+    frames: &mut [i64],
     worker: usize,
 ) -> Reply
     ensures { λ r. ⌜ moved (r .answer)
-        (lent (r .head) (now (plan .entry)) (now (keys .entry)) (now (cells .exit)) (now (status .exit)) (now (saved .entry)))
+        (lent (r .head) (now (plan .entry)) (now (keys .entry)) (now (cells .exit)) (now (status .exit)) (now (seats .exit)) (now (frames .exit)))
         ≡ stepOf (now (block .entry))
-        (lent head (now (plan .entry)) (now (keys .entry)) (now (cells .entry)) (now (status .entry)) (now (saved .entry))) worker ⌝ }
+        (lent head (now (plan .entry)) (now (keys .entry)) (now (cells .entry)) (now (status .entry)) (now (seats .entry))
+        (now (frames .entry))) worker ⌝ }
 {
-    let answer = step_in(&mut head, block, plan, keys, cells, status, saved, worker);
+    let answer = step_in(
+        &mut head,
+        block,
+        plan,
+        keys,
+        cells,
+        status,
+        seats,
+        frames,
+        worker,
+    );
     Reply { head, answer }
 }
 
@@ -55,14 +79,16 @@ pub fn cancel_lending(
     keys: &[u64],
     cells: &mut [i64],
     status: &mut [u64],
-    saved: &[i64],
+    seats: &[u64],
+    frames: &[i64],
     worker: usize,
 ) -> Reply
     ensures { λ r. ⌜ moved (r .answer)
-        (lent (r .head) (now (plan .entry)) (now (keys .entry)) (now (cells .exit)) (now (status .exit)) (now (saved .entry)))
+        (lent (r .head) (now (plan .entry)) (now (keys .entry)) (now (cells .exit)) (now (status .exit)) (now (seats .entry)) (now (frames .entry)))
         ≡ cancelOf
-        (lent head (now (plan .entry)) (now (keys .entry)) (now (cells .entry)) (now (status .entry)) (now (saved .entry))) worker ⌝ }
+        (lent head (now (plan .entry)) (now (keys .entry)) (now (cells .entry)) (now (status .entry)) (now (seats .entry))
+        (now (frames .entry))) worker ⌝ }
 {
-    let answer = cancel_in(&mut head, plan, keys, cells, status, saved, worker);
+    let answer = cancel_in(&mut head, plan, keys, cells, status, seats, frames, worker);
     Reply { head, answer }
 }

@@ -150,11 +150,11 @@ cells-read (accepted b) = refl
 cells-read (refused why) = refl
 
 -- A file that is opened, read and listed.
-pub all-listed : (file : List ℕ) (s : Sizes) (plan keys : List ℕ) (cells : List ℤ) (status : List ℕ) (saved : List ℤ) (before after : List ℕ) (r : ℕ)
-    (o : Opened) (l : Layout) → openingWith o plan keys cells status saved ≡ openingOf s file maxWorkers → l ≡ layoutOf (readBlock file)
+pub all-listed : (file : List ℕ) (s : Sizes) (plan keys : List ℕ) (cells : List ℤ) (status seats : List ℕ) (frames : List ℤ) (before after : List ℕ) (r : ℕ)
+    (o : Opened) (l : Layout) → openingWith o plan keys cells status seats frames ≡ openingOf s file maxWorkers → l ≡ layoutOf (readBlock file)
     → Written before after 0 r (listingText (l .functions) (l .cells) (o .head .calls) (o .head .cells) plan (o .verdict))
-    → Listed file s plan keys cells status saved before after r
-all-listed file s plan keys cells status saved before after r o l e f w =
+    → Listed file s plan keys cells status seats frames before after r
+all-listed file s plan keys cells status seats frames before after r o l e f w =
     let functions : l .functions ≡ length (blockOf file .functions) = ap (λ (x : Layout). x .functions) f ∙ functions-read (readBlock file) in
     let cellCount : l .cells ≡ length (blockOf file .cells) = ap (λ (x : Layout). x .cells) f ∙ cells-read (readBlock file) in
     let text : listingText (l .functions) (l .cells) (o .head .calls) (o .head .cells) plan (o .verdict) ≡ listingOf s file =
@@ -165,6 +165,7 @@ all-listed file s plan keys cells status saved before after r o l e f w =
       keys-is = ap (λ (x : machine.Opened). x .run .keys) e;
       cells-is = ap (λ (x : machine.Opened). x .run .cells) e;
       status-is = ap (λ (x : machine.Opened). x .run .status) e;
-      saved-is = ap (λ (x : machine.Opened). x .run .saved) e;
+      seats-is = ap (λ (x : machine.Opened). x .run .seats) e;
+      frames-is = ap (λ (x : machine.Opened). x .run .frames) e;
       text = subst (λ (t : List ℕ). Written before after 0 r t) text w;
     }

@@ -85,15 +85,16 @@ pub fn list(
     keys: &mut [u64],
     cells: &mut [i64],
     status: &mut [u64],
-    saved: &mut [i64],
+    seats: &mut [u64],
+    frames: &mut [i64],
     out: &mut [u8],
 ) -> usize
     ensures { λ r. ⌜ Listed (now (file .entry))
         (sizesFor (length (now (plan .entry))) (length (now (keys .entry))) (length (now (cells .entry))) (length (now (status .entry)))
-        (length (now (saved .entry)))) (now (plan .exit)) (now (keys .exit)) (now (cells .exit)) (now (status .exit))
-        (now (saved .exit)) (now (out .entry)) (now (out .exit)) r ⌝ }
+        (length (now (seats .entry))) (length (now (frames .entry)))) (now (plan .exit)) (now (keys .exit)) (now (cells .exit)) (now (status .exit))
+        (now (seats .exit)) (now (frames .exit)) (now (out .entry)) (now (out .exit)) r ⌝ }
 {
-    let o = opening::open(file, MAX_WORKERS, plan, keys, cells, status, saved);
+    let o = opening::open(file, MAX_WORKERS, plan, keys, cells, status, seats, frames);
     let verdict = o.verdict;
     let head = o.head;
     let l = reader::read_block(file);

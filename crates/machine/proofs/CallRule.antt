@@ -39,13 +39,14 @@ use Rattle.footprint.proofs.SafeSetsProof.{no-amount}
 use Rattle.rule.proofs.TurnLaws.{bodySteps, OneMore, turn-one}
 use Rattle.machine.specs.Run.{zeroRegisters}
 use Rattle.machine.specs.Action.{instrAction, entryAction}
-use Rattle.machine.specs.Step.{View, Local, Stepped, damaged, more, done, finish, perform, performAction, stepEntry, stepDecoded, stepInstr, stepCall}
+use Rattle.machine.specs.Step.{View, Local, Stepped, damaged, more, done, savedOf, finish, concluded, perform, performAction, stepEntry, stepDecoded, stepInstr, stepPlace, stepCall}
 use Rattle.machine.specs.CallInRun.{InstrOf, madeView, begunLocal, stepTimes, stepsTaken, Hold, LeavesAsRule}
 use Rattle.machine.specs.Serial.{maxSteps}
 use Rattle.machine.proofs.CodeLaws.{instr-of, function-body-length, function-end}
 use Rattle.machine.proofs.LookupLaws.{Covered, entry-covered, instr-covered, sets-distinct, lookup-covered, KeysInTable}
 use Rattle.machine.proofs.RestoreLaws.{made-restorable}
 use Rattle.machine.proofs.HoldLaws.{Now, movedCells, hold-alike}
+use Rattle.machine.proofs.StepLaws.{Ranged, stepsLeft, ranged-left, begun-ranged, Lowers, entry-leads, StepLowers, step-lowers}
 use Rattle.machine.proofs.StepRule.{Completes, MadeOf, ruleLocal, Match, transfer-short, transfer-moves, transfer-now, instr-match}
 
 -- ---- nothing moves
@@ -149,10 +150,13 @@ module _ (file : List ℕ) (bytes : AreBytes file) (c : Call) (fits : CallBounde
   made = made-of file c (some f) table room view few known small refl refl
 
   abbrev at : ℕ → List ℤ → ℕ → Local
-  at place ρ n = ruleLocal view table es (f .size) start old place ρ n
+  at place ρ n = ruleLocal view table es start old place ρ n
 
-  abbrev Matches : ℕ → Course → Stepped → Type 0
-  Matches = Match view table es (f .size) start old
+  abbrev kept : List ℤ
+  kept = savedOf (view .entries) old
+
+  abbrev Matches : Course → Stepped → Type 0
+  Matches = Match view table es start old
 
   abbrev Here : State → List ℤ → Type 0
   Here σ cells = Now table (writeSet es) start σ cells
@@ -165,8 +169,8 @@ module _ (file : List ℕ) (bytes : AreBytes file) (c : Call) (fits : CallBounde
       (decode-sound p (f .size) (drop (f .start + instrBytes * p) file) (drop-bytes (f .start + instrBytes * p) file bytes))
 
   step-instr : (p : ℕ) (ρ : List ℤ) (n : ℕ) (cells : List ℤ) (i : Instr) → p < f .size → decode p (f .size) (drop (f .start + instrBytes * p) file) ≡ Valid i
-      → stepCall view (at (p + 1) ρ n) cells ≡ performAction view (at (p + 1) ρ n) (n + 1) (accesses c i) (instrAction c (p + 1) ρ i) cells
-  unfolding stepCall stepInstr stepDecoded
+      → stepCall view (at (p + 1) ρ n) cells ≡ concluded view kept cells (performAction view (p + 1) (n + 1) (accesses c i) (instrAction c (p + 1) ρ i) cells)
+  unfolding stepCall stepPlace stepInstr stepDecoded
   step-instr p ρ n cells i l e =
       let index : p + 1 - 1 ≡ p = omega arith in
       let length′ : f .size + 1 - 1 ≡ f .size = omega arith in
@@ -180,57 +184,59 @@ module _ (file : List ℕ) (bytes : AreBytes file) (c : Call) (fits : CallBounde
       )
 
   instr-step : (p : ℕ) (ρ : List ℤ) (n : ℕ) (σ : State) (cells : List ℤ) → p < f .size → Here σ cells
-      → Matches p (executeAt c p ρ n σ (getElem? body p)) (stepCall view (at (p + 1) ρ n) cells)
+      → Matches (executeAt c p ρ n σ (getElem? body p)) (stepCall view (at (p + 1) ρ n) cells)
   unfolding executeAt
   instr-step p ρ n σ cells l now =
       let this : InstrOf file f p = instr-of file f sound p l in
       rw (this .listed, step-instr p ρ n cells (this .instr) l (this .decoded))
-      (instr-match view table es made (f .size) start old first p l σ cells now ρ n (n + 1) c fits (this .instr)
-      (lawful-file p (this .instr) (this .decoded)) (instr-covered file c f p l (this .instr) (this .decoded)))
+      (instr-match view table es made start old first p σ cells now ρ (n + 1) c fits (this .instr)
+      (lawful-file p (this .instr) (this .decoded) .0) (instr-covered file c f p l (this .instr) (this .decoded)))
 
   -- "At place = length: outcome 0."
   end-step : (ρ : List ℤ) (n : ℕ) (σ : State) (cells : List ℤ) → Here σ cells
-      → Matches (f .size) (executeAt c (f .size) ρ n σ (getElem? body (f .size))) (stepCall view (at (f .size + 1) ρ n) cells)
-  unfolding executeAt stepCall settle
+      → Matches (executeAt c (f .size) ρ n σ (getElem? body (f .size))) (stepCall view (at (f .size + 1) ρ n) cells)
+  unfolding executeAt stepCall stepPlace concluded finish settle
   end-step ρ n σ cells now =
       rw (function-end file f sound, ne-eqb (f .size + 1) 0 (omega arith), eq-eqb (f .size + 1) (f .size + 1) refl)
       (record { same-outcome = refl; same-count = refl; hold = now .hold })
 
   any-step : (p : ℕ) (ρ : List ℤ) (n : ℕ) (σ : State) (cells : List ℤ) → p ≤ f .size → Here σ cells
-      → Matches p (executeAt c p ρ n σ (getElem? body p)) (stepCall view (at (p + 1) ρ n) cells)
+      → Matches (executeAt c p ρ n σ (getElem? body p)) (stepCall view (at (p + 1) ρ n) cells)
   any-step p ρ n σ cells l now = go (decLt p (f .size))
     where
-      go : Dec (p < f .size) → Matches p (executeAt c p ρ n σ (getElem? body p)) (stepCall view (at (p + 1) ρ n) cells)
+      go : Dec (p < f .size) → Matches (executeAt c p ρ n σ (getElem? body p)) (stepCall view (at (p + 1) ρ n) cells)
       go (yes less) = instr-step p ρ n σ cells less now
       go (no not-less) = let e : p ≡ f .size = omega arith in rw e (end-step ρ n σ cells now)
 
   -- ---- all steps
 
-  -- Each turn of the rule is one step, and jumps go forward, so the turns that are left suffice.
-  run : (turns fuel p : ℕ) (ρ : List ℤ) (n : ℕ) (σ : State) (cells : List ℤ) → f .size + 1 ≤ turns + p → turns ≤ fuel → p ≤ f .size → Here σ cells
+  -- Each turn of the rule is one step, and the call can take at most as many as turns are left.
+  run : (turns fuel p : ℕ) (ρ : List ℤ) (n : ℕ) (σ : State) (cells : List ℤ) → Ranged view (p + 1) n → stepsLeft view (p + 1) n ≤ turns → turns ≤ fuel → Here σ cells
       → Completes table (settle start (runBody turns c body (before p ρ n σ))) fuel view (more (at (p + 1) ρ n) cells) n
   unfolding runBody stepTimes stepsTaken
-  run zero fuel p ρ n σ cells enough more′ l now = absurd (omega arith)
-  run (suc turns) zero p ρ n σ cells enough more′ l now = absurd (omega arith)
-  run (suc turns) (suc fuel) p ρ n σ cells enough more′ l now =
+  run zero fuel p ρ n σ cells range enough more′ now = absurd (omega (arith, ranged-left range))
+  run (suc turns) zero p ρ n σ cells range enough more′ now = absurd (omega arith)
+  run (suc turns) (suc fuel) p ρ n σ cells range enough more′ now =
       let next =
-      go (executeAt c p ρ n σ (getElem? body p)) (stepCall view (at (p + 1) ρ n) cells) (any-step p ρ n σ cells l now)
-      (turn-one start c p ρ n σ (getElem? body p)) (run turns fuel) in
+      go (executeAt c p ρ n σ (getElem? body p)) (stepCall view (at (p + 1) ρ n) cells)
+      (any-step p ρ n σ cells (omega (arith, range .within)) now)
+      (step-lowers view (at (p + 1) ρ n) cells range) (turn-one start c p ρ n σ (getElem? body p)) (run turns fuel) in
       record { leaves = next .0; steps = next .1 }
     where
-      go : (t : Course) (s : Stepped) → Matches p t s → OneMore start n t
-          → ((q : ℕ) (ρ′ : List ℤ) (m : ℕ) (τ : State) (cells′ : List ℤ) → f .size + 1 ≤ turns + q → turns ≤ fuel → q ≤ f .size → Here τ cells′
+      go : (t : Course) (s : Stepped) → Matches t s → StepLowers view (at (p + 1) ρ n) s → OneMore start n t
+          → ((q : ℕ) (ρ′ : List ℤ) (m : ℕ) (τ : State) (cells′ : List ℤ) → Ranged view (q + 1) m → stepsLeft view (q + 1) m ≤ turns → turns ≤ fuel → Here τ cells′
           → Completes table (settle start (runBody turns c body (before q ρ′ m τ))) fuel view (more (at (q + 1) ρ′ m) cells′) m)
           → (LeavesAsRule table (settle start (runBody turns c body t)) (stepTimes fuel view s))
           × (n + suc (stepsTaken fuel view s) ≡ bodySteps (settle start (runBody turns c body t)))
-      go (before q ρ′ m τ) damaged match one ih = absurd match
-      go (before q ρ′ m τ) (more l′ cells′) match one ih =
-          let rest = ih q ρ′ m τ cells′ (omega (arith, match .forward)) (le-of-suc-le-suc more′) (match .inside) (match .now) in
+      go (before q ρ′ m τ) damaged match low one ih = absurd match
+      go (before q ρ′ m τ) (more l′ cells′) match low one ih =
+          let next : Lowers view (p + 1) n (q + 1) m = subst (λ (l : Local). Lowers view (p + 1) n (l .place) (l .count)) (match .here) (low .lowers) in
+          let rest = ih q ρ′ m τ cells′ (next .range) (omega (arith, next .lower)) (le-of-suc-le-suc more′) (match .now) in
           rw (match .here) (rest .leaves, omega (arith, rest .steps, one))
-      go (before q ρ′ m τ) (done outcome count cells′) match one ih = absurd match
-      go (over r) damaged match one ih = absurd match
-      go (over r) (more l′ cells′) match one ih = absurd match
-      go (over r) (done outcome count cells′) match one ih =
+      go (before q ρ′ m τ) (done outcome count cells′) match low one ih = absurd match
+      go (over r) damaged match low one ih = absurd match
+      go (over r) (more l′ cells′) match low one ih = absurd match
+      go (over r) (done outcome count cells′) match low one ih =
           rw (body-over turns c body r, steps-done fuel view outcome count cells′, none-taken fuel view outcome count cells′) (match, omega (arith, one))
 
   -- ---- the entry
@@ -255,8 +261,8 @@ module _ (file : List ℕ) (bytes : AreBytes file) (c : Call) (fits : CallBounde
   apart e = let low : c .sender .0 < 32768 = fits .account in let high : 32768 ≤ c .contract .0 = fits .contract in omega arith
 
   -- The entry step, where the value is above 0 and where it is 0.
-  step-entry : stepCall view (at 0 zeroRegisters 0) old ≡ performAction view (at 0 zeroRegisters 0) 0 (entryAccesses c) (entryAction c zeroRegisters) old
-  unfolding stepCall stepEntry
+  step-entry : stepCall view (at 0 zeroRegisters 0) old ≡ concluded view kept old (performAction view 0 0 (entryAccesses c) (entryAction c zeroRegisters) old)
+  unfolding stepCall stepPlace stepEntry
   step-entry = rw (ne-eqb (f .size + 1) 0 (omega arith))
 
   module _ (above : ltZ (pos 0) (c .value) ≡ true) where
@@ -267,32 +273,32 @@ module _ (file : List ℕ) (bytes : AreBytes file) (c : Call) (fits : CallBounde
         (all .0, all .1 .0)
 
     entry-short : ltZ (start (balanceKey payer)) (c .value) ≡ true → stepCall view (at 0 zeroRegisters 0) old ≡ done 2 0 old
-    unfolding perform entryAction entryAccesses finish
+    unfolding perform entryAction entryAccesses concluded finish
     entry-short less =
         step-entry ∙ rw (
           above,
-          transfer-short view table es made (f .size) start old first start old began payer paid payer-small (fits .ranges .contract) apart
-              (both-covered .0) (both-covered .1) (at 0 zeroRegisters 0) 0 zeroRegisters (c .value) 2 less,
+          transfer-short view table es made start old first start old began payer paid payer-small (fits .ranges .contract) apart
+              (both-covered .0) (both-covered .1) 0 0 zeroRegisters (c .value) 2 less,
         )
 
     entry-moves : ltZ (start (balanceKey payer)) (c .value) ≡ false
         → stepCall view (at 0 zeroRegisters 0) old ≡ more (at 1 zeroRegisters 0) (movedCells table old (balanceKey payer) (balanceKey paid) (c .value))
-    unfolding perform entryAction entryAccesses
+    unfolding perform entryAction entryAccesses concluded
     entry-moves enough =
         step-entry ∙ rw (
           above,
-          transfer-moves view table es made (f .size) start old first start old began payer paid payer-small (fits .ranges .contract) apart
-              (both-covered .0) (both-covered .1) (at 0 zeroRegisters 0) 0 zeroRegisters (c .value) 2 (fits .value) enough,
+          transfer-moves view table es made start old first start old began payer paid payer-small (fits .ranges .contract) apart
+              (both-covered .0) (both-covered .1) 0 0 zeroRegisters (c .value) 2 (fits .value) enough,
         )
 
     entry-now : ltZ (start (balanceKey payer)) (c .value) ≡ false → Here entered (movedCells table old (balanceKey payer) (balanceKey paid) (c .value))
     entry-now enough =
-        transfer-now view table es made (f .size) start old first start old began payer paid payer-small (fits .ranges .contract) apart
-        (both-covered .0) (both-covered .1) (at 0 zeroRegisters 0) 0 zeroRegisters (c .value) 2 (fits .value) enough
+        transfer-now view table es made start old first start old began payer paid payer-small (fits .ranges .contract) apart
+        (both-covered .0) (both-covered .1) 0 0 zeroRegisters (c .value) 2 (fits .value) enough
 
   module _ (none′ : ltZ (pos 0) (c .value) ≡ false) where
     entry-passes : stepCall view (at 0 zeroRegisters 0) old ≡ more (at 1 zeroRegisters 0) old
-    unfolding perform entryAction entryAccesses
+    unfolding perform entryAction entryAccesses concluded
     entry-passes = step-entry ∙ rw none′
 
     -- A balance is not below zero, so it is not below the value.
@@ -324,7 +330,8 @@ module _ (file : List ℕ) (bytes : AreBytes file) (c : Call) (fits : CallBounde
   body-run cells now =
       let size : length body ≡ f .size = function-body-length file f sound in
       let few′ : f .size ≤ 64 = sound .few in
-      run (length body + 1) 65 0 zeroRegisters 0 entered cells (omega arith) (omega arith) (omega arith) now
+      let next : Lowers view 0 0 1 0 = entry-leads view 0 0 (λ e. omega arith) refl (begun-ranged view (omega arith)) in
+      run (length body + 1) 65 0 zeroRegisters 0 entered cells (next .range) (omega (arith, next .lower)) (omega arith) now
 
   entered-completes : Completes table (transactionBy file c start (some f)) 65 view (stepCall view (at 0 zeroRegisters 0) old) 0
   unfolding transactionBy stepTimes stepsTaken
@@ -361,7 +368,7 @@ found-sound file (f ∷ fs) c all = go (eqb (functionId f) (callId c)) (found-so
 -- "unknown function, outcome 1"
 unknown-function : (file : List ℕ) (c : Call) (table : List ℕ) (σ : State) (v : View) (cells : List ℤ) → v .code ≡ 0 → Hold table σ cells
     → CallCompletes table (transactionBy file c σ none) v cells
-unfolding transactionBy stepTimes stepsTaken stepCall stepEntry
+unfolding transactionBy stepTimes stepsTaken stepCall stepPlace stepEntry concluded finish
 unknown-function file c table σ v cells e first =
     by-entry table (transactionBy file c σ none) v cells
     (rw e (record { leaves = record { same-outcome = refl; same-count = refl; hold = first }; steps = refl }))

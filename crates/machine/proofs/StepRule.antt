@@ -18,7 +18,7 @@ use Rattle.arith.specs.declared.Checked.{Checked}
 use Rattle.arith.specs.declared.Checked.the-variants as checked
 use Rattle.block.specs.Limits.{maxKeys}
 use Rattle.block.specs.Key.{firstContract, isBalance, payeeOf}
-use Rattle.block.proofs.DecodeLaws.{CellSourcesFit, InstrLawful}
+use Rattle.block.proofs.DecodeLaws.{CellSourcesFit, InstrFits}
 use Rattle.block.specs.Record.{argument}
 use Rattle.block.specs.declared.Call.{Call}
 use Rattle.block.specs.declared.Payee.{Payee}
@@ -41,7 +41,7 @@ use Rattle.rule.proofs.TurnLaws.{bodySteps}
 use Rattle.machine.specs.Action as action
 use Rattle.machine.specs.Action.{payAction, instrAction}
 use Rattle.block.specs.Outcomes.{thrown}
-use Rattle.machine.specs.Step.{View, Local, Stepped, damaged, more, done, cellAt, lookup, restorable, savedOf, restored, finish, goOn, loadCell, storeCell, depositCell, transferCells, perform, performAction}
+use Rattle.machine.specs.Step.{View, Local, Performed, onward, ending, Stepped, damaged, more, done, cellAt, lookup, restorable, savedOf, restored, finish, concluded, loadCell, storeCell, depositCell, transferCells, perform, performAction}
 use Rattle.machine.specs.CallInRun.{stepTimes, stepsTaken, Hold, EndsAsRule, LeavesAsRule}
 use Rattle.machine.proofs.LookupLaws.{Covered, KeysInTable}
 use Rattle.machine.proofs.RestoreLaws.{restoredFrom}
@@ -70,52 +70,57 @@ jeq-same x y next to = go (ltZ x y) refl (ltZ y x) refl
     go false h true k = rw (ne-eqZ x y (λ e. omega (arith, ltZ-true y x k, ap posPart e, ap negPart e)))
     go false h false k = rw (eq-eqZ x y (equal x y (omega (arith, ltZ-false x y h, ltZ-false y x k))))
 
--- A call that began at a state, in cells that held it; `size` instructions long.
-module _ (v : View) (table : List ℕ) (es : List Access) (size : ℕ) (start : State) (old : List ℤ) where
+-- A call that began at a state, in cells that held it.
+module _ (v : View) (table : List ℕ) (es : List Access) (start : State) (old : List ℤ) where
   abbrev pub ruleLocal : ℕ → List ℤ → ℕ → Local
   ruleLocal place ρ n = record { place = place; count = n; regs = ρ; saved = savedOf (v .entries) old }
 
-  -- The call goes on from instruction p to a later one, q, in the registers, count and state of the rule.
-  pub record GoesOn (p q : ℕ) (ρ : List ℤ) (n : ℕ) (σ : State) (l : Local) (cells : List ℤ) : Type 0 where
-    pub forward : p < q
-    pub inside : q ≤ size
+  -- The call goes on at instruction q, in the registers, count and state of the rule.
+  pub record GoesOn (q : ℕ) (ρ : List ℤ) (n : ℕ) (σ : State) (l : Local) (cells : List ℤ) : Type 0 where
     pub here : l ≡ ruleLocal (q + 1) ρ n
     pub now : Now table (writeSet es) start σ cells
 
-  -- A step from instruction p matches a turn of the rule.
-  abbrev pub Match : ℕ → Course → Stepped → Type 0
-  Match p (before q ρ n σ) damaged = ⊥
-  Match p (before q ρ n σ) (more l cells) = GoesOn p q ρ n σ l cells
-  Match p (before q ρ n σ) (done outcome count cells) = ⊥
-  Match p (over r) damaged = ⊥
-  Match p (over r) (more l cells) = ⊥
-  Match p (over r) (done outcome count cells) = EndsAsRule table (settle start r) outcome count cells
+  -- A step matches a turn of the rule.
+  abbrev pub Match : Course → Stepped → Type 0
+  Match (before q ρ n σ) damaged = ⊥
+  Match (before q ρ n σ) (more l cells) = GoesOn q ρ n σ l cells
+  Match (before q ρ n σ) (done outcome count cells) = ⊥
+  Match (over r) damaged = ⊥
+  Match (over r) (more l cells) = ⊥
+  Match (over r) (done outcome count cells) = EndsAsRule table (settle start r) outcome count cells
 
 -- Each step of such a call, where its view is made and the cells held the state.
-module _ (v : View) (table : List ℕ) (es : List Access) (made : MadeOf v table es) (size : ℕ) (start : State) (old : List ℤ)
+module _ (v : View) (table : List ℕ) (es : List Access) (made : MadeOf v table es) (start : State) (old : List ℤ)
     (first : Hold table start old) where
-  abbrev Matches : ℕ → Course → Stepped → Type 0
-  Matches = Match v table es size start old
+  abbrev Matches : Course → Stepped → Type 0
+  Matches = Match v table es start old
+
+  -- The old values that the call keeps, and what a step makes of what its place comes to.
+  abbrev kept : List ℤ
+  kept = savedOf (v .entries) old
+
+  abbrev Concludes : Course → List ℤ → Performed → Type 0
+  Concludes t cells x = Matches t (concluded v kept cells x)
 
   -- ---- the end of a call
 
   -- "On 3, 4, 5 the same step restores every cell of the write set."
-  module _ (σ : State) (cells : List ℤ) (now : Now table (writeSet es) start σ cells) (l : Local) (kept : l .saved ≡ savedOf (v .entries) old) where
-    finish-restores : (count outcome : ℕ) → ltb outcome thrown ≡ false → finish v l count outcome cells ≡ done outcome count (restoredFrom table old es cells)
+  module _ (σ : State) (cells : List ℤ) (now : Now table (writeSet es) start σ cells) where
+    finish-restores : (outcome count : ℕ) → ltb outcome thrown ≡ false → finish v kept outcome count cells ≡ done outcome count (restoredFrom table old es cells)
     unfolding finish
-    finish-restores count outcome high =
-        rw (high, made .able, kept) (ap (λ (xs : List ℕ). done outcome count (restored xs (savedOf xs old) cells)) (made .entries))
+    finish-restores outcome count high =
+        rw (high, made .able) (ap (λ (xs : List ℕ). done outcome count (restored xs (savedOf xs old) cells)) (made .entries))
 
-    pub fails-match : (p count outcome : ℕ) → ltb outcome thrown ≡ false → Matches p (over (fails outcome count)) (finish v l count outcome cells)
-    unfolding settle
-    fails-match p count outcome high =
-        subst⁻¹ (Matches p (over (fails outcome count))) (finish-restores count outcome high)
+    pub fails-match : (outcome count : ℕ) → ltb outcome thrown ≡ false → Concludes (over (fails outcome count)) cells (ending outcome count)
+    unfolding settle concluded
+    fails-match outcome count high =
+        subst⁻¹ (Matches (over (fails outcome count))) (finish-restores outcome count high)
         (record { same-outcome = refl; same-count = refl; hold = hold-back table (made .few) es start σ old cells (made .known) first now })
 
   -- ---- an amount that moves between two balances
 
   module _ (σ : State) (cells : List ℤ) (now : Now table (writeSet es) start σ cells) (a b : ℕ) (la : a < 65536) (lb : b < 65536) (d : b ≡ a → ⊥)
-      (from : Covered es (changing (balanceKey a))) (to : Covered es (writing (balanceKey b))) (l : Local) (count : ℕ) (ρ : List ℤ) (m : ℤ) (short : ℕ) where
+      (from : Covered es (changing (balanceKey a))) (to : Covered es (writing (balanceKey b))) (place count : ℕ) (ρ : List ℤ) (m : ℤ) (short : ℕ) where
     holdsA : cellAt cells (cellNumber table (balanceKey a)) ≡ σ (balanceKey a)
     holdsA = now .hold .same (balanceKey a) (made .known (balanceKey a) (from .key))
 
@@ -123,13 +128,13 @@ module _ (v : View) (table : List ℕ) (es : List Access) (made : MadeOf v table
     holdsB = now .hold .same (balanceKey b) (made .known (balanceKey b) (to .key))
 
     pub transfer-short : ltZ (σ (balanceKey a)) m ≡ true
-        → transferCells v l count ρ m short (writing (balanceKey b)) cells (lookup v (changing (balanceKey a))) ≡ finish v l count short cells
+        → transferCells v place count ρ m short (writing (balanceKey b)) cells (lookup v (changing (balanceKey a))) ≡ ending short count
     unfolding transferCells
     transfer-short less = rw (made .found (changing (balanceKey a)) from, holdsA, limit-balance σ (now .limit) a la .0, less)
 
     pub transfer-moves : nonNeg m ≡ true → ltZ (σ (balanceKey a)) m ≡ false
-        → transferCells v l count ρ m short (writing (balanceKey b)) cells (lookup v (changing (balanceKey a)))
-        ≡ goOn l count ρ (l .place + 1) (movedCells table cells (balanceKey a) (balanceKey b) m)
+        → transferCells v place count ρ m short (writing (balanceKey b)) cells (lookup v (changing (balanceKey a)))
+        ≡ onward (place + 1) count ρ (movedCells table cells (balanceKey a) (balanceKey b) m)
     unfolding transferCells depositCell
     transfer-moves s enough =
         rw (
@@ -151,28 +156,26 @@ module _ (v : View) (table : List ℕ) (es : List Access) (made : MadeOf v table
 
   -- ---- one lemma for each thing that a place does
 
-  module _ (p : ℕ) (inside : p < size) (σ : State) (cells : List ℤ) (now : Now table (writeSet es) start σ cells) (ρ : List ℤ) (old-count n : ℕ) where
-    -- The call at instruction p.
-    abbrev here : Local
-    here = ruleLocal v table es size start old (p + 1) ρ old-count
-
-    go-match : (q : ℕ) (ρ′ : List ℤ) → p < q → q ≤ size → Matches p (before q ρ′ n σ) (goOn here n ρ′ (q + 1) cells)
-    go-match q ρ′ forward within = record { forward = forward; inside = within; here = refl; now = now }
+  module _ (p : ℕ) (σ : State) (cells : List ℤ) (now : Now table (writeSet es) start σ cells) (ρ : List ℤ) (n : ℕ) where
+    go-match : (q : ℕ) (ρ′ : List ℤ) → Concludes (before q ρ′ n σ) cells (onward (q + 1) n ρ′ cells)
+    unfolding concluded
+    go-match q ρ′ = record { here = refl; now = now }
 
     -- The next place, in a new state.
     next-match : (ρ′ : List ℤ) (τ : State) (cells′ : List ℤ) → Now table (writeSet es) start τ cells′
-        → Matches p (before (p + 1) ρ′ n τ) (goOn here n ρ′ (p + 1 + 1) cells′)
-    next-match ρ′ τ cells′ then′ = record { forward = omega arith; inside = omega arith; here = refl; now = then′ }
+        → Concludes (before (p + 1) ρ′ n τ) cells (onward (p + 1 + 1) n ρ′ cells′)
+    unfolding concluded
+    next-match ρ′ τ cells′ then′ = record { here = refl; now = then′ }
 
-    end-match : (outcome : ℕ) → ltb outcome thrown ≡ false → Matches p (over (fails outcome n)) (finish v here n outcome cells)
-    end-match outcome high = fails-match σ cells now here refl p n outcome high
+    end-match : (outcome : ℕ) → ltb outcome thrown ≡ false → Concludes (over (fails outcome n)) cells (ending outcome n)
+    end-match outcome high = fails-match σ cells now outcome n high
 
-    stop-match : Matches p (over (ends σ n false)) (finish v here n 0 cells)
-    unfolding finish settle
+    stop-match : Concludes (over (ends σ n false)) cells (ending 0 n)
+    unfolding concluded finish settle
     stop-match = record { same-outcome = refl; same-count = refl; hold = now .hold }
 
     checked-match : (as′ : List Access) (x : ℕ) (r : Checked)
-        → Matches p (rule.assignChecked p ρ n σ x r) (performAction v here n as′ (action.checkedAction (p + 1) ρ x r) cells)
+        → Concludes (rule.assignChecked p ρ n σ x r) cells (performAction v (p + 1) n as′ (action.checkedAction (p + 1) ρ x r) cells)
     unfolding rule.assignChecked action.checkedAction perform
     checked-match as′ x (checked.Value value) = next-match (set ρ x value) σ cells now
     checked-match as′ x checked.Overflow = end-match 4 refl
@@ -180,13 +183,13 @@ module _ (v : View) (table : List ℕ) (es : List Access) (made : MadeOf v table
 
     -- A loaded value is the state's; a balance is not below zero.
     load-match : (x k : ℕ) → Covered es (reading k) → (isBalance k && not (nonNeg (σ k))) ≡ false
-        → Matches p (before (p + 1) (set ρ x (σ k)) n σ) (loadCell here n ρ x (reading k) cells (lookup v (reading k)))
+        → Concludes (before (p + 1) (set ρ x (σ k)) n σ) cells (loadCell (p + 1) n ρ x (reading k) cells (lookup v (reading k)))
     unfolding loadCell
     load-match x k covered fine =
         rw (made .found (reading k) covered, now .hold .same k (made .known k (covered .key)), fine) (next-match (set ρ x (σ k)) σ cells now)
 
     store-match : (k : ℕ) (value : ℤ) → Covered es (writing k) → isBalance k ≡ false
-        → Matches p (before (p + 1) ρ n (update σ k value)) (storeCell here n ρ value cells (lookup v (writing k)))
+        → Concludes (before (p + 1) ρ n (update σ k value)) cells (storeCell (p + 1) n ρ value cells (lookup v (writing k)))
     unfolding storeCell
     store-match k value covered other =
         rw (made .found (writing k) covered)
@@ -197,7 +200,7 @@ module _ (v : View) (table : List ℕ) (es : List Access) (made : MadeOf v table
 
     module _ (c : Call) (in-range : CallBounded c) where
       abbrev Pays : ℤ → Payee → Type 0
-      Pays amount payee = Matches p (transfer c p ρ n σ amount payee) (performAction v here n (payAccesses c payee) (payAction ρ amount payee) cells)
+      Pays amount payee = Concludes (transfer c p ρ n σ amount payee) cells (performAction v (p + 1) n (payAccesses c payee) (payAction ρ amount payee) cells)
 
       abbrev account : ℕ → Payee
       account target = To (record { 0 = target })
@@ -219,12 +222,12 @@ module _ (v : View) (table : List ℕ) (es : List Access) (made : MadeOf v table
           go : (t : Bool) → nonNeg amount ≡ t → (u : Bool) → ltZ (σ (balanceKey a)) amount ≡ u → Pays amount (account target)
           go false s u less = rw s (end-match 5 refl)
           go true s true less =
-              rw (s, less, transfer-short σ cells now a target small (omega arith) apart from to here n ρ amount 5 less) (end-match 5 refl)
+              rw (s, less, transfer-short σ cells now a target small (omega arith) apart from to (p + 1) n ρ amount 5 less) (end-match 5 refl)
           go true s false enough =
-              rw (s, enough, transfer-moves σ cells now a target small (omega arith) apart from to here n ρ amount 5 s enough)
+              rw (s, enough, transfer-moves σ cells now a target small (omega arith) apart from to (p + 1) n ρ amount 5 s enough)
               (next-match ρ (credit (debit σ (balanceKey a) amount) (balanceKey target) amount)
               (movedCells table cells (balanceKey a) (balanceKey target) amount)
-              (transfer-now σ cells now a target small (omega arith) apart from to here n ρ amount 5 s enough))
+              (transfer-now σ cells now a target small (omega arith) apart from to (p + 1) n ρ amount 5 s enough))
 
       -- "PAY with 5 if the amount is negative, the target no account, or the contract's balance lower."
       pay-match : (amount : ℤ) (target : ℕ) → EachAccess (Covered es) (payAccesses c (payeeOf target)) → Pays amount (payeeOf target)
@@ -243,34 +246,34 @@ module _ (v : View) (table : List ℕ) (es : List Access) (made : MadeOf v table
           (source-below c b (in-range .ranges) (fits .second)) (λ e. omega (arith, fits .above))
 
       -- A jump, or the next instruction.
-      jump-match : (t : Bool) (to : ℕ) → (p < to) × (to ≤ size)
-          → Matches p (before (if t then to else p + 1) ρ n σ) (goOn here n ρ (if t then to + 1 else p + 1 + 1) cells)
-      jump-match true to placed = go-match to ρ (placed .0) (placed .1)
-      jump-match false to placed = next-match ρ σ cells now
+      jump-match : (t : Bool) (to : ℕ)
+          → Concludes (before (if t then to else p + 1) ρ n σ) cells (onward (if t then to + 1 else p + 1 + 1) n ρ cells)
+      jump-match true to = go-match to ρ
+      jump-match false to = next-match ρ σ cells now
 
       -- An instruction: its own step and its own turn.
-      pub instr-match : (i : Instr) → InstrLawful (2 ^ 16) p size i → EachAccess (Covered es) (accesses c i)
-          → Matches p (execute c p ρ n σ i) (performAction v here n (accesses c i) (instrAction c (p + 1) ρ i) cells)
+      pub instr-match : (i : Instr) → InstrFits (2 ^ 16) i → EachAccess (Covered es) (accesses c i)
+          → Concludes (execute c p ρ n σ i) cells (performAction v (p + 1) n (accesses c i) (instrAction c (p + 1) ρ i) cells)
       unfolding execute accesses instrAction perform
-      instr-match Stop lawful covered = stop-match
-      instr-match Throw lawful covered = end-match 3 refl
-      instr-match (Set x value) lawful covered = next-match (set ρ x value) σ cells now
-      instr-match (Arg x k) lawful covered = next-match (set ρ x (pos (argument c k))) σ cells now
-      instr-match (Sender x) lawful covered = next-match (set ρ x (pos (c .sender .0))) σ cells now
-      instr-match (Value x) lawful covered = next-match (set ρ x (c .value)) σ cells now
-      instr-match (Add x y z) lawful covered = checked-match [] x (addOf (getD ρ y (pos 0)) (getD ρ z (pos 0)))
-      instr-match (Sub x y z) lawful covered = checked-match [] x (subOf (getD ρ y (pos 0)) (getD ρ z (pos 0)))
-      instr-match (Mul x y z) lawful covered = checked-match [] x (mulOf (getD ρ y (pos 0)) (getD ρ z (pos 0)))
-      instr-match (Div x y z) lawful covered = checked-match [] x (divOf (getD ρ y (pos 0)) (getD ρ z (pos 0)))
-      instr-match (Get x field a b) lawful covered =
-          load-match x (cellKey c field a b) (covered .0) (ap (λ (t : Bool). t && not (nonNeg (σ (cellKey c field a b)))) (cell-other field a b (lawful .0)))
-      instr-match (Put x field a b) lawful covered =
-          store-match (cellKey c field a b) (getD ρ x (pos 0)) (covered .0) (cell-other field a b (lawful .0))
-      instr-match (Bal x) lawful covered =
+      instr-match Stop fit covered = stop-match
+      instr-match Throw fit covered = end-match 3 refl
+      instr-match (Set x value) fit covered = next-match (set ρ x value) σ cells now
+      instr-match (Arg x k) fit covered = next-match (set ρ x (pos (argument c k))) σ cells now
+      instr-match (Sender x) fit covered = next-match (set ρ x (pos (c .sender .0))) σ cells now
+      instr-match (Value x) fit covered = next-match (set ρ x (c .value)) σ cells now
+      instr-match (Add x y z) fit covered = checked-match [] x (addOf (getD ρ y (pos 0)) (getD ρ z (pos 0)))
+      instr-match (Sub x y z) fit covered = checked-match [] x (subOf (getD ρ y (pos 0)) (getD ρ z (pos 0)))
+      instr-match (Mul x y z) fit covered = checked-match [] x (mulOf (getD ρ y (pos 0)) (getD ρ z (pos 0)))
+      instr-match (Div x y z) fit covered = checked-match [] x (divOf (getD ρ y (pos 0)) (getD ρ z (pos 0)))
+      instr-match (Get x field a b) fit covered =
+          load-match x (cellKey c field a b) (covered .0) (ap (λ (t : Bool). t && not (nonNeg (σ (cellKey c field a b)))) (cell-other field a b fit))
+      instr-match (Put x field a b) fit covered =
+          store-match (cellKey c field a b) (getD ρ x (pos 0)) (covered .0) (cell-other field a b fit)
+      instr-match (Bal x) fit covered =
           load-match x (balanceKey (c .contract .0)) (covered .0)
           (ap (λ (t : Bool). isBalance (balanceKey (c .contract .0)) && not t) (limit-balance σ (now .limit) (c .contract .0) (in-range .ranges .contract) .0)
           ∙ and-false (isBalance (balanceKey (c .contract .0))))
-      instr-match (Pay x target) lawful covered = pay-match (getD ρ x (pos 0)) (sourceValue c target) covered
-      instr-match (Jeq x y to) lawful covered =
-          rw (jeq-same (getD ρ x (pos 0)) (getD ρ y (pos 0)) (p + 1) to) (jump-match (eqZ (getD ρ x (pos 0)) (getD ρ y (pos 0))) to (lawful .1))
-      instr-match (Jlt x y to) lawful covered = jump-match (ltZ (getD ρ x (pos 0)) (getD ρ y (pos 0))) to (lawful .1)
+      instr-match (Pay x target) fit covered = pay-match (getD ρ x (pos 0)) (sourceValue c target) covered
+      instr-match (Jeq x y to) fit covered =
+          rw (jeq-same (getD ρ x (pos 0)) (getD ρ y (pos 0)) (p + 1) to) (jump-match (eqZ (getD ρ x (pos 0)) (getD ρ y (pos 0))) to)
+      instr-match (Jlt x y to) fit covered = jump-match (ltZ (getD ρ x (pos 0)) (getD ρ y (pos 0))) to

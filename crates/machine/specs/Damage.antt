@@ -3,26 +3,29 @@ use mathlib.Core.List.{List, [], _∷_}
 use Prim.Native.Nat.{ℕ, _-_}
 use lib.IntN.{ℤ}
 use lib.ListN.{length, set, take}
-use Rattle.machine.specs.Run.{Run, seatOf, withSeat}
+use Rattle.machine.specs.Run.{Run, withHeld, withSeat}
 use Rattle.machine.specs.declared.Head.{Head}
 
 abbrev pub withHead : Run → Head → Run
-withHead r h = record { head = h; plan = r .plan; keys = r .keys; cells = r .cells; status = r .status; saved = r .saved }
+withHead r h = record { head = h; plan = r .plan; keys = r .keys; cells = r .cells; status = r .status; seats = r .seats; frames = r .frames }
 
 abbrev pub withPlan : Run → List ℕ → Run
-withPlan r plan = record { head = r .head; plan = plan; keys = r .keys; cells = r .cells; status = r .status; saved = r .saved }
+withPlan r plan = record { head = r .head; plan = plan; keys = r .keys; cells = r .cells; status = r .status; seats = r .seats; frames = r .frames }
 
 abbrev pub withKeys : Run → List ℕ → Run
-withKeys r keys = record { head = r .head; plan = r .plan; keys = keys; cells = r .cells; status = r .status; saved = r .saved }
+withKeys r keys = record { head = r .head; plan = r .plan; keys = keys; cells = r .cells; status = r .status; seats = r .seats; frames = r .frames }
 
 abbrev pub withCells : Run → List ℤ → Run
-withCells r cells = record { head = r .head; plan = r .plan; keys = r .keys; cells = cells; status = r .status; saved = r .saved }
+withCells r cells = record { head = r .head; plan = r .plan; keys = r .keys; cells = cells; status = r .status; seats = r .seats; frames = r .frames }
 
 abbrev pub withStatus : Run → List ℕ → Run
-withStatus r status = record { head = r .head; plan = r .plan; keys = r .keys; cells = r .cells; status = status; saved = r .saved }
+withStatus r status = record { head = r .head; plan = r .plan; keys = r .keys; cells = r .cells; status = status; seats = r .seats; frames = r .frames }
 
-abbrev pub withSaved : Run → List ℤ → Run
-withSaved r saved = record { head = r .head; plan = r .plan; keys = r .keys; cells = r .cells; status = r .status; saved = saved }
+abbrev pub withSeats : Run → List ℕ → Run
+withSeats r seats = record { head = r .head; plan = r .plan; keys = r .keys; cells = r .cells; status = r .status; seats = seats; frames = r .frames }
+
+abbrev pub withFrames : Run → List ℤ → Run
+withFrames r frames = record { head = r .head; plan = r .plan; keys = r .keys; cells = r .cells; status = r .status; seats = r .seats; frames = frames }
 
 -- A list without its last element.
 abbrev pub shorter {ℓ} : {A : Type ℓ} → List A → List A
@@ -33,7 +36,8 @@ unfoldable pub tooShort : Run → List Run
 tooShort r =
     withPlan r (shorter (r .plan))
     ∷ withKeys r (shorter (r .keys))
-    ∷ withCells r (shorter (r .cells)) ∷ withStatus r (shorter (r .status)) ∷ withSaved r (shorter (r .saved)) ∷ []
+    ∷ withCells r (shorter (r .cells)) ∷ withStatus r (shorter (r .status))
+    ∷ withSeats r (shorter (r .seats)) ∷ withFrames r (shorter (r .frames)) ∷ []
 
 -- One word of a buffer changed.
 abbrev pub planAt : ℕ → ℕ → Run → Run
@@ -48,21 +52,27 @@ valueAt i v r = withCells r (set (r .cells) i v)
 abbrev pub statusAt : ℕ → ℕ → Run → Run
 statusAt i v r = withStatus r (set (r .status) i v)
 
-abbrev pub oldAt : ℕ → ℤ → Run → Run
-oldAt i v r = withSaved r (set (r .saved) i v)
+abbrev pub seatAt : ℕ → ℕ → Run → Run
+seatAt i v r = withSeats r (set (r .seats) i v)
 
--- The numbers of the head, and a seat's call, place and count.
+abbrev pub frameAt : ℕ → ℤ → Run → Run
+frameAt i v r = withFrames r (set (r .frames) i v)
+
+-- The numbers of the head, the call that a worker holds, and a seat's place and count.
 abbrev pub workersAs : ℕ → Run → Run
-workersAs n r = withHead r (record { workers = n; calls = r .head .calls; cells = r .head .cells; «first_call» = r .head .«first_call»; seats = r .head .seats })
+workersAs n r = withHead r (record { workers = n; calls = r .head .calls; cells = r .head .cells; «first_call» = r .head .«first_call»; held = r .head .held })
 
 abbrev pub callsAs : ℕ → Run → Run
-callsAs n r = withHead r (record { workers = r .head .workers; calls = n; cells = r .head .cells; «first_call» = r .head .«first_call»; seats = r .head .seats })
+callsAs n r = withHead r (record { workers = r .head .workers; calls = n; cells = r .head .cells; «first_call» = r .head .«first_call»; held = r .head .held })
 
 abbrev pub cellsAs : ℕ → Run → Run
-cellsAs n r = withHead r (record { workers = r .head .workers; calls = r .head .calls; cells = n; «first_call» = r .head .«first_call»; seats = r .head .seats })
+cellsAs n r = withHead r (record { workers = r .head .workers; calls = r .head .calls; cells = n; «first_call» = r .head .«first_call»; held = r .head .held })
 
 abbrev pub firstAs : ℕ → Run → Run
-firstAs n r = withHead r (record { workers = r .head .workers; calls = r .head .calls; cells = r .head .cells; «first_call» = n; seats = r .head .seats })
+firstAs n r = withHead r (record { workers = r .head .workers; calls = r .head .calls; cells = r .head .cells; «first_call» = n; held = r .head .held })
 
-abbrev pub seatAs : (worker call place count : ℕ) → Run → Run
-seatAs w call place count r = withHead r (withSeat (r .head) w (record { call = call; place = place; count = count; regs = seatOf (r .head) w .regs }))
+abbrev pub heldAs : (worker call : ℕ) → Run → Run
+heldAs worker call r = withHead r (withHeld (r .head) worker call)
+
+abbrev pub seatAs : (worker place count : ℕ) → Run → Run
+seatAs worker place count r = withSeats r (withSeat (r .seats) worker place count)

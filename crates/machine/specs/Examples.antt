@@ -12,7 +12,7 @@ use Rattle.machine.specs.Run.{Run}
 use Rattle.machine.specs.Opening.{openedForEight}
 use Rattle.machine.specs.Moves.{beginOf, stepOf, cancelOf, runAfter, answersOf}
 use Rattle.machine.specs.Serial.{serialSteps}
-use Rattle.machine.specs.Damage.{tooShort, planAt, withKeyAt, valueAt, statusAt, oldAt, workersAs, callsAs, firstAs, seatAs}
+use Rattle.machine.specs.Damage.{tooShort, planAt, withKeyAt, valueAt, statusAt, frameAt, workersAs, callsAs, firstAs, heldAs, seatAs}
 use Rattle.machine.specs.Computing.{computing}
 
 -- Block P: the table has the balances of 5, 7 and 32768, and field 1 of 32768, as cells 0 to 3. The plan of call 1 starts at word 32
@@ -73,8 +73,12 @@ pub record Moves-P : Type 0 where
   pub answered : answersOf P startP (Begin 1 1 ∷ Step 0 ∷ Cancel 0 ∷ Begin 8 0 ∷ Step 8 ∷ Begin 0 3 ∷ Begin 0 0 ∷ Begin 0 2 ∷ Begin 1 0 ∷ []) ≡ 25 ∷ 26 ∷ 26 ∷ 21 ∷ 21 ∷ 22 ∷ 0 ∷ 23 ∷ 24 ∷ []
   -- "Freeing waiters when a call is cancelled": call 1 still waits for call 0.
   pub cancelled : answersOf P begunP (Cancel 0 ∷ Begin 1 1 ∷ []) ≡ 0 ∷ 25 ∷ []
-  -- A cancelled PUT leaves no trace, and the call waits with all else as at the opening but the old values.
-  pub restored : runAfter P atPut (Step 0 ∷ Cancel 0 ∷ []) ≡ startP
+  -- A cancelled PUT leaves no trace: head, cells and status are as at the opening. The worker's seat and frame stand as its last step left them.
+  pub restored-head : runAfter P atPut (Step 0 ∷ Cancel 0 ∷ []) .head ≡ startP .head
+  pub restored-cells : runAfter P atPut (Step 0 ∷ Cancel 0 ∷ []) .cells ≡ startP .cells
+  pub restored-status : runAfter P atPut (Step 0 ∷ Cancel 0 ∷ []) .status ≡ startP .status
+  pub left-seat : take 3 (runAfter P atPut (Step 0 ∷ Cancel 0 ∷ []) .seats) ≡ 3 ∷ 2 ∷ 0 ∷ []
+  pub left-frame : take 2 (runAfter P atPut (Step 0 ∷ Cancel 0 ∷ []) .frames) ≡ pos 1 ∷ pos 0 ∷ []
   -- PUT then THROW: the cell is as before, outcome 3, count 2.
   pub thrown : take 2 (runAfter thrower atThrow (Step 0 ∷ []) .cells) ≡ pos 9 ∷ pos 0 ∷ []
   pub receipt : take 3 (runAfter thrower atThrow (Step 0 ∷ []) .status) ≡ 2 ∷ 3 ∷ 2 ∷ []
@@ -83,22 +87,22 @@ pub record Moves-P : Type 0 where
 
 pub moves-of-p : Moves-P
 unfolding computing text joinedParts P thrower endings startP begunP atPut atThrow
-moves-of-p = record { answered = refl; cancelled = refl; restored = refl; thrown = refl; receipt = refl; stepped = refl }
+moves-of-p = record { answered = refl; cancelled = refl; restored-head = refl; restored-cells = refl; restored-status = refl; left-seat = refl; left-frame = refl; thrown = refl; receipt = refl; stepped = refl }
 
 pub record Damaged : Type 0 where
   -- BEGIN: the sizes, the workers (then 21), the calls (then 22), the held call (then 23), the call's state (then 24), the states of
   -- earlier conflicting calls (then 25), the number of keys, and of each entry the flags and, where it is written, the cell number.
-  pub begin-sizes : begins 0 0 (tooShort startP) ≡ 20 ∷ 20 ∷ 20 ∷ 20 ∷ 20 ∷ []
-  pub begin-head : begins 0 0 (workersAs 0 startP ∷ workersAs 9 startP ∷ callsAs 257 startP ∷ seatAs 0 4 0 0 startP ∷ seatAs 0 3 0 0 startP ∷ []) ≡ 20 ∷ 20 ∷ 20 ∷ 20 ∷ 23 ∷ []
+  pub begin-sizes : begins 0 0 (tooShort startP) ≡ 20 ∷ 20 ∷ 20 ∷ 20 ∷ 20 ∷ 20 ∷ []
+  pub begin-head : begins 0 0 (workersAs 0 startP ∷ workersAs 9 startP ∷ callsAs 257 startP ∷ heldAs 0 4 startP ∷ heldAs 0 3 startP ∷ []) ≡ 20 ∷ 20 ∷ 20 ∷ 20 ∷ 23 ∷ []
   pub begin-state : begins 0 0 (statusAt 0 3 startP ∷ statusAt 0 2 startP ∷ statusAt 0 1 startP ∷ []) ≡ 20 ∷ 24 ∷ 24 ∷ []
   pub begin-earlier : begins 0 1 (statusAt 0 3 startP ∷ statusAt 0 1 startP ∷ statusAt 0 2 startP ∷ []) ≡ 20 ∷ 25 ∷ 0 ∷ []
   pub begin-entries : begins 0 1 (planAt 34 25 one ∷ planAt 35 0 one ∷ planAt 35 4098 one ∷ planAt 37 4097 one ∷ []) ≡ 20 ∷ 20 ∷ 20 ∷ 0 ∷ []
-  -- What a lower number answers first is not looked at: a damaged seat behind 21, a damaged state behind 23.
-  pub begin-order : begins 8 0 (callsAs 257 startP ∷ []) ++ begins 0 3 (seatAs 0 4 0 0 startP ∷ []) ++ begins 0 0 (statusAt 0 3 begunP ∷ []) ≡ 21 ∷ 22 ∷ 23 ∷ []
+  -- What a lower number answers first is not looked at: a damaged number of calls behind 21, a held call that is none behind 22, a damaged state behind 23.
+  pub begin-order : begins 8 0 (callsAs 257 startP ∷ []) ++ begins 0 3 (heldAs 0 4 startP ∷ []) ++ begins 0 0 (statusAt 0 3 begunP ∷ []) ≡ 21 ∷ 22 ∷ 23 ∷ []
   -- STEP: the held call, the place, the count, the call's record; the state word is not looked at.
-  pub step-sizes : steps P (tooShort begunP) ≡ 20 ∷ 20 ∷ 20 ∷ 20 ∷ 20 ∷ []
-  pub step-head : steps P (workersAs 0 begunP ∷ workersAs 9 begunP ∷ callsAs 257 begunP ∷ seatAs 0 4 0 0 begunP ∷ statusAt 0 7 begunP ∷ []) ≡ 20 ∷ 20 ∷ 20 ∷ 20 ∷ 0 ∷ []
-  pub step-place : steps P (seatAs 0 1 4 0 begunP ∷ seatAs 0 1 3 0 begunP ∷ planAt 1 66 begunP ∷ seatAs 0 1 0 65 begunP ∷ seatAs 0 1 0 64 begunP ∷ []) ≡ 20 ∷ 0 ∷ 20 ∷ 20 ∷ 0 ∷ []
+  pub step-sizes : steps P (tooShort begunP) ≡ 20 ∷ 20 ∷ 20 ∷ 20 ∷ 20 ∷ 20 ∷ []
+  pub step-head : steps P (workersAs 0 begunP ∷ workersAs 9 begunP ∷ callsAs 257 begunP ∷ heldAs 0 4 begunP ∷ statusAt 0 7 begunP ∷ []) ≡ 20 ∷ 20 ∷ 20 ∷ 20 ∷ 0 ∷ []
+  pub step-place : steps P (seatAs 0 4 0 begunP ∷ seatAs 0 3 0 begunP ∷ planAt 1 66 begunP ∷ seatAs 0 0 65 begunP ∷ seatAs 0 0 64 begunP ∷ []) ≡ 20 ∷ 0 ∷ 20 ∷ 20 ∷ 0 ∷ []
   pub step-record : steps P (firstAs 200 begunP ∷ firstAs 0 begunP ∷ []) ++ steps (set P 125 128) (begunP ∷ []) ≡ 20 ∷ 20 ∷ 20 ∷ []
   -- At an instruction: the code stretch, the instruction, the cell among the entries with the flag that is wanted.
   pub step-code : steps P (planAt 0 215 atPut ∷ []) ++ steps (set P 16 16) (atPut ∷ begunP ∷ []) ≡ 20 ∷ 20 ∷ 0 ∷ []
@@ -108,11 +112,11 @@ pub record Damaged : Type 0 where
   -- At the PAY of call 2 likewise.
   pub step-pay : steps P (valueAt 2 (negsuc 0) atPay ∷ valueAt 1 (negsuc 0) atPay ∷ valueAt 1 (pos (2 ^ 63 - 1)) atPay ∷ atPay ∷ []) ≡ 20 ∷ 20 ∷ 20 ∷ 0 ∷ []
   -- An abort needs the entries; "kept old values are restored untested".
-  pub step-abort : steps thrower (planAt 2 25 atThrow ∷ planAt 3 0 atThrow ∷ planAt 3 4098 atThrow ∷ oldAt 0 (negsuc 4) atThrow ∷ []) ≡ 20 ∷ 20 ∷ 20 ∷ 0 ∷ []
+  pub step-abort : steps thrower (planAt 2 25 atThrow ∷ planAt 3 0 atThrow ∷ planAt 3 4098 atThrow ∷ frameAt 8 (negsuc 4) atThrow ∷ []) ≡ 20 ∷ 20 ∷ 20 ∷ 0 ∷ []
   -- CANCEL: the held call, the number of keys and the entries.
-  pub cancel-sizes : cancels (tooShort begunP) ≡ 20 ∷ 20 ∷ 20 ∷ 20 ∷ 20 ∷ []
-  pub cancel-head : cancels (workersAs 0 begunP ∷ callsAs 257 begunP ∷ seatAs 0 4 0 0 begunP ∷ seatAs 0 1 99 99 begunP ∷ startP ∷ []) ≡ 20 ∷ 20 ∷ 20 ∷ 0 ∷ 26 ∷ []
-  pub cancel-entries : cancels (planAt 2 25 begunP ∷ planAt 3 0 begunP ∷ planAt 3 4098 begunP ∷ oldAt 0 (negsuc 4) begunP ∷ []) ≡ 20 ∷ 20 ∷ 20 ∷ 0 ∷ []
+  pub cancel-sizes : cancels (tooShort begunP) ≡ 20 ∷ 20 ∷ 20 ∷ 20 ∷ 20 ∷ 20 ∷ []
+  pub cancel-head : cancels (workersAs 0 begunP ∷ callsAs 257 begunP ∷ heldAs 0 4 begunP ∷ seatAs 0 99 99 begunP ∷ startP ∷ []) ≡ 20 ∷ 20 ∷ 20 ∷ 0 ∷ 26 ∷ []
+  pub cancel-entries : cancels (planAt 2 25 begunP ∷ planAt 3 0 begunP ∷ planAt 3 4098 begunP ∷ frameAt 8 (negsuc 4) begunP ∷ []) ≡ 20 ∷ 20 ∷ 20 ∷ 0 ∷ []
 
 pub damaged : Damaged
 unfolding computing text joinedParts P thrower startP begunP atPut one second atPay atThrow tooShort

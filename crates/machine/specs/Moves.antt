@@ -7,22 +7,21 @@
 use mathlib.Core.Bool.{Bool, true, false, _&&_, _||_, not}
 use mathlib.Core.List.{List, [], _∷_}
 use Prim.Native.Nat.{ℕ, zero, suc, _+_, _-_, _*_}
-use lib.IntN.{ℤ}
 use lib.Dec.{eqb, leb, ltb}
-use lib.ListN.{length, take, drop}
+use lib.ListN.{length, drop}
 use Rattle.footprint.specs.Plan.{codeStart, codeLength, keyCount}
 use Rattle.arith.specs.Choice.{if_then_else_}
-use Rattle.wire.specs.Bytes.{stored}
 use Rattle.wire.specs.Rows.{inRow}
-use Rattle.block.specs.Limits.{maxCalls, maxCallKeys, maxCode, maxWorkers}
-use Rattle.block.specs.Record.{headBytes, callBytes, callOf}
+use Rattle.block.specs.Limits.{maxCalls, maxCode, maxWorkers}
+use Rattle.block.specs.Outcomes.{maxCount}
+use Rattle.block.specs.Record.{headBytes, callRecordBytes, callOf}
 use Rattle.block.specs.declared.Call.{Call}
 use Rattle.block.specs.declared.CallBody.{CallBody}
 use Rattle.block.specs.declared.CallBody.the-variants.{InRange, OutOfRange}
 use Rattle.schedule.specs.declared.Move.{Move}
 use Rattle.schedule.specs.declared.Move.the-variants.{Begin, Step, Cancel}
 use Rattle.machine.specs.Answer.{answerNumber}
-use Rattle.machine.specs.Run.{Run, sizesOf, largeEnough, seatOf, withSeat, idleSeat, zeroRegisters, planWord, entriesOf, rowIn, stateOf, isState, withState, withReceipt, waiting, running, finished}
+use Rattle.machine.specs.Run.{Run, sizesOf, largeEnough, heldAt, withHeld, placeIn, countIn, withSeat, regsIn, withRegs, savedIn, withSaved, zeroRegisters, planWord, entriesOf, rowIn, stateOf, isState, withState, withReceipt, waiting, running, finished}
 use Rattle.machine.specs.Step.{View, Local, Stepped, damaged, more, done, restorable, savedOf, restored, stepCall}
 use Rattle.machine.specs.declared.Answer.{Answer}
 use Rattle.machine.specs.declared.Answer.the-variants.{Accepted, Damaged, NoWorker, NoCall, WorkerBusy, NotWaiting, EarlierUnfinished, WorkerIdle}
@@ -41,10 +40,6 @@ callKeyCount plan call = planWord plan call keyCount
 abbrev pub ownEntries : List ℕ → ℕ → List ℕ
 ownEntries plan call = entriesOf plan call (callKeyCount plan call)
 
--- The old values that a worker keeps for the n entries of its call.
-abbrev pub savedIn : List ℤ → ℕ → ℕ → List ℤ
-savedIn saved worker n = take n (drop (maxCallKeys * worker) saved)
-
 -- "25 uses the states of all earlier conflicting calls": among the first n, one is no state; and all are finished.
 unfoldable pub earlierBroken : List ℕ → List ℕ → ℕ → Bool
 earlierBroken row status zero = false
@@ -58,12 +53,13 @@ earlierFinished row status (suc n) = (not (inRow row n) || eqb (stateOf status n
 unfoldable pub beginCall : Run → ℕ → ℕ → Run
 beginCall r worker call =
     record {
-      head = withSeat (r .head) worker (record { call = call + 1; place = 0; count = 0; regs = zeroRegisters });
+      head = withHeld (r .head) worker (call + 1);
       plan = r .plan;
       keys = r .keys;
       cells = r .cells;
       status = withState (r .status) call running;
-      saved = stored (r .saved) (maxCallKeys * worker) (savedOf (ownEntries (r .plan) call) (r .cells));
+      seats = withSeat (r .seats) worker 0 0;
+      frames = withSaved (withRegs (r .frames) worker zeroRegisters) worker (savedOf (ownEntries (r .plan) call) (r .cells));
     }
 
 -- The call's state, 24; the states of its earlier conflicting calls, 25; its entries.
@@ -92,9 +88,9 @@ beginOf r worker call =
     then stay r Damaged
     else if leb (r .head .calls) call
     then stay r NoCall
-    else if ltb (r .head .calls) (seatOf (r .head) worker .call)
+    else if ltb (r .head .calls) (heldAt (r .head) worker)
     then stay r Damaged
-    else if not (eqb (seatOf (r .head) worker .call) 0)
+    else if not (eqb (heldAt (r .head) worker) 0)
     then stay r WorkerBusy
     else beginChecked r worker call
 
@@ -110,14 +106,14 @@ viewOf block r call body =
       keys = r .keys;
     }
 
--- The state of a running call, as its worker's seat and old values have it.
+-- The state of a running call, as its worker's seat and frame have it.
 abbrev pub localOf : Run → ℕ → ℕ → Local
 localOf r worker call =
     record {
-      place = seatOf (r .head) worker .place;
-      count = seatOf (r .head) worker .count;
-      regs = seatOf (r .head) worker .regs;
-      saved = savedIn (r .saved) worker (callKeyCount (r .plan) call);
+      place = placeIn (r .seats) worker;
+      count = countIn (r .seats) worker;
+      regs = regsIn (r .frames) worker;
+      saved = savedIn (r .frames) worker (callKeyCount (r .plan) call);
     }
 
 -- The run after a step of a call on a worker. "A finished or cancelled call frees its worker."
@@ -128,12 +124,13 @@ stepped r worker call (more l cells) =
       answer = Accepted;
       run =
           record {
-            head = withSeat (r .head) worker (record { call = call + 1; place = l .place; count = l .count; regs = l .regs });
+            head = r .head;
             plan = r .plan;
             keys = r .keys;
             cells = cells;
             status = r .status;
-            saved = r .saved;
+            seats = withSeat (r .seats) worker (l .place) (l .count);
+            frames = withRegs (r .frames) worker (l .regs);
           };
     }
 stepped r worker call (done outcome count cells) =
@@ -141,12 +138,13 @@ stepped r worker call (done outcome count cells) =
       answer = Accepted;
       run =
           record {
-            head = withSeat (r .head) worker idleSeat;
+            head = withHeld (r .head) worker 0;
             plan = r .plan;
             keys = r .keys;
             cells = cells;
             status = withReceipt (r .status) call outcome count;
-            saved = r .saved;
+            seats = r .seats;
+            frames = r .frames;
           };
     }
 
@@ -158,12 +156,12 @@ stepRecord block r worker call (InRange body) = stepped r worker call (stepCall 
 -- The place (entry, or 0 to the code's length), the count, and the call's record.
 unfoldable pub stepHeld : List ℕ → Run → ℕ → ℕ → Moved
 stepHeld block r worker call =
-    let at : ℕ = r .head .«first_call» + (headBytes + callBytes) * call in
-    if ltb (maxCode + 1) (planWord (r .plan) call codeLength) || ltb (planWord (r .plan) call codeLength) (seatOf (r .head) worker .place)
+    let at : ℕ = r .head .«first_call» + callRecordBytes * call in
+    if ltb (maxCode + 1) (planWord (r .plan) call codeLength) || ltb (planWord (r .plan) call codeLength) (placeIn (r .seats) worker)
     then stay r Damaged
-    else if ltb maxCode (seatOf (r .head) worker .count)
+    else if ltb maxCount (countIn (r .seats) worker)
     then stay r Damaged
-    else if ltb (length block) (at + (headBytes + callBytes))
+    else if ltb (length block) (at + callRecordBytes)
     then stay r Damaged
     else stepRecord block r worker call (callOf (drop (at + headBytes) block))
 
@@ -176,12 +174,13 @@ cancelHeld r worker call =
       answer = Accepted;
       run =
           record {
-            head = withSeat (r .head) worker idleSeat;
+            head = withHeld (r .head) worker 0;
             plan = r .plan;
             keys = r .keys;
-            cells = restored (ownEntries (r .plan) call) (savedIn (r .saved) worker (callKeyCount (r .plan) call)) (r .cells);
+            cells = restored (ownEntries (r .plan) call) (savedIn (r .frames) worker (callKeyCount (r .plan) call)) (r .cells);
             status = withState (r .status) call waiting;
-            saved = r .saved;
+            seats = r .seats;
+            frames = r .frames;
           };
     }
     else stay r Damaged
@@ -197,11 +196,11 @@ heldBy r worker =
     then answered Damaged
     else if leb (r .head .workers) worker
     then answered NoWorker
-    else if eqb (seatOf (r .head) worker .call) 0
+    else if eqb (heldAt (r .head) worker) 0
     then answered WorkerIdle
-    else if ltb maxCalls (r .head .calls) || ltb (r .head .calls) (seatOf (r .head) worker .call)
+    else if ltb maxCalls (r .head .calls) || ltb (r .head .calls) (heldAt (r .head) worker)
     then answered Damaged
-    else holds (seatOf (r .head) worker .call - 1)
+    else holds (heldAt (r .head) worker - 1)
 
 unfoldable pub stepFor : List ℕ → Run → ℕ → Held → Moved
 stepFor block r worker (answered a) = stay r a

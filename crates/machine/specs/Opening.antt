@@ -13,7 +13,7 @@ use Rattle.block.specs.declared.Refusal.the-variants.{Workers, Buffers}
 use Rattle.block.specs.declared.Verdict.{Verdict}
 use Rattle.block.specs.declared.Verdict.the-variants as verdict
 use Rattle.footprint.specs.Plan.{Prepared, prepareRead}
-use Rattle.machine.specs.Run.{Run, Sizes, fixedSizes, roomIn, largeEnough, idleSeat}
+use Rattle.machine.specs.Run.{Run, Sizes, fixedSizes, roomIn, largeEnough}
 use Rattle.machine.specs.declared.Head.{Head}
 
 pub record Opened : Type 0 where
@@ -22,7 +22,7 @@ pub record Opened : Type 0 where
 
 abbrev pub headOf : (workers calls cells start : ℕ) → Head
 headOf workers calls cells start =
-    record { workers = workers; calls = calls; cells = cells; «first_call» = start; seats = repeated maxWorkers idleSeat }
+    record { workers = workers; calls = calls; cells = cells; «first_call» = start; held = repeated maxWorkers 0 }
 
 -- "every buffer lent to be written is zero"
 unfoldable pub refusedRun : Sizes → Refusal → Opened
@@ -36,7 +36,8 @@ refusedRun s why =
             keys = repeated (s .keys) 0;
             cells = repeated (s .cells) (pos 0);
             status = repeated (s .status) 0;
-            saved = repeated (s .saved) (pos 0);
+            seats = repeated (s .seats) 0;
+            frames = repeated (s .frames) (pos 0);
           };
     }
 
@@ -53,7 +54,8 @@ openPrepared s workers p verdict.Accepted =
             keys = p .keys;
             cells = p .values;
             status = repeated (s .status) 0;
-            saved = repeated (s .saved) (pos 0);
+            seats = repeated (s .seats) 0;
+            frames = repeated (s .frames) (pos 0);
           };
     }
 

@@ -1,4 +1,4 @@
--- The run that a caller lends: a head and five buffers, and where each thing stands in them.
+-- The run that a caller lends: a head and six buffers, and where each thing stands in them.
 use mathlib.Core.Bool.{Bool, _&&_}
 use mathlib.Core.List.{List, [], _∷_}
 use Prim.Native.Nat.{ℕ, _+_, _*_}
@@ -6,9 +6,9 @@ use lib.IntN.{ℤ, pos}
 use lib.Dec.{eqb, leb}
 use lib.ListN.{length, getD, take, drop, set}
 use Rattle.block.specs.Limits.{maxCalls, maxCallKeys, maxWorkers}
+use Rattle.wire.specs.Bytes.{stored}
 use Rattle.wire.specs.Rows.{rowWords}
 use Rattle.footprint.specs.Plan.{planWords, highWord, lowWord, Room, fixedRoom, roomEnough, firstEntry, firstRowWord, keyWords}
-use Rattle.machine.specs.declared.Seat.{Seat}
 use Rattle.machine.specs.declared.Head.{Head}
 
 pub record Run : Type 0 where
@@ -17,19 +17,31 @@ pub record Run : Type 0 where
   pub keys : List ℕ
   pub cells : List ℤ
   pub status : List ℕ
-  pub saved : List ℤ
+  pub seats : List ℕ
+  pub frames : List ℤ
 
--- A call has 32 words of the plan and 4 of the status; a worker has 24 old values.
+-- A call has 32 words of the plan and 4 of the status. A worker has 16 words of the seats: its call's place and count, and room for return
+-- points; and 32 values of the frames: its call's eight registers, and behind them 24 old values.
 abbrev pub statusWords : ℕ
 statusWords = 4
 
--- The lengths of the five buffers.
+abbrev pub seatWords : ℕ
+seatWords = 16
+
+abbrev pub registers : ℕ
+registers = 8
+
+abbrev pub frameValues : ℕ
+frameValues = registers + maxCallKeys
+
+-- The lengths of the six buffers.
 pub record Sizes : Type 0 where
   pub plan : ℕ
   pub keys : ℕ
   pub cells : ℕ
   pub status : ℕ
-  pub saved : ℕ
+  pub seats : ℕ
+  pub frames : ℕ
 
 abbrev pub sizesOf : Run → Sizes
 sizesOf r =
@@ -38,7 +50,8 @@ sizesOf r =
       keys = length (r .keys);
       cells = length (r .cells);
       status = length (r .status);
-      saved = length (r .saved);
+      seats = length (r .seats);
+      frames = length (r .frames);
     }
 
 -- "the fixed size for the limits above"
@@ -49,7 +62,8 @@ fixedSizes =
       keys = fixedRoom .keys;
       cells = fixedRoom .cells;
       status = maxCalls * statusWords;
-      saved = maxWorkers * maxCallKeys;
+      seats = maxWorkers * seatWords;
+      frames = maxWorkers * frameValues;
     }
 
 -- The three buffers that an opening prepares.
@@ -58,20 +72,43 @@ roomIn s = record { plan = s .plan; keys = s .keys; cells = s .cells }
 
 -- 20: "a lent buffer .. shorter than the fixed size"
 unfoldable pub largeEnough : Sizes → Bool
-largeEnough s = roomEnough (roomIn s) && leb (fixedSizes .status) (s .status) && leb (fixedSizes .saved) (s .saved)
+largeEnough s =
+    roomEnough (roomIn s)
+    && leb (fixedSizes .status) (s .status) && leb (fixedSizes .seats) (s .seats) && leb (fixedSizes .frames) (s .frames)
 
 -- "A worker's eight registers start at zero at each BEGIN."
 abbrev pub zeroRegisters : List ℤ
 zeroRegisters = pos 0 ∷ pos 0 ∷ pos 0 ∷ pos 0 ∷ pos 0 ∷ pos 0 ∷ pos 0 ∷ pos 0 ∷ []
 
-abbrev pub idleSeat : Seat
-idleSeat = record { call = 0; place = 0; count = 0; regs = zeroRegisters }
+-- The call that a worker holds, as its number plus 1; 0 for none.
+abbrev pub heldAt : Head → ℕ → ℕ
+heldAt h worker = getD (h .held) worker 0
 
-abbrev pub seatOf : Head → ℕ → Seat
-seatOf h worker = getD (h .seats) worker idleSeat
+abbrev pub withHeld : Head → ℕ → ℕ → Head
+withHeld h worker n = record { workers = h .workers; calls = h .calls; cells = h .cells; «first_call» = h .«first_call»; held = set (h .held) worker n }
 
-abbrev pub withSeat : Head → ℕ → Seat → Head
-withSeat h worker s = record { workers = h .workers; calls = h .calls; cells = h .cells; «first_call» = h .«first_call»; seats = set (h .seats) worker s }
+-- The place and the count of a worker's call: 0 at its entry, p + 1 at instruction p.
+abbrev pub placeIn : List ℕ → ℕ → ℕ
+placeIn seats worker = getD seats (seatWords * worker) 0
+
+abbrev pub countIn : List ℕ → ℕ → ℕ
+countIn seats worker = getD seats (seatWords * worker + 1) 0
+
+abbrev pub withSeat : List ℕ → ℕ → (place count : ℕ) → List ℕ
+withSeat seats worker place count = set (set seats (seatWords * worker) place) (seatWords * worker + 1) count
+
+-- Its registers, and the old values that the worker keeps for the n entries of its call.
+abbrev pub regsIn : List ℤ → ℕ → List ℤ
+regsIn frames worker = take registers (drop (frameValues * worker) frames)
+
+abbrev pub withRegs : List ℤ → ℕ → List ℤ → List ℤ
+withRegs frames worker regs = stored frames (frameValues * worker) regs
+
+abbrev pub savedIn : List ℤ → ℕ → ℕ → List ℤ
+savedIn frames worker n = take n (drop (frameValues * worker + registers) frames)
+
+abbrev pub withSaved : List ℤ → ℕ → List ℤ → List ℤ
+withSaved frames worker saved = stored frames (frameValues * worker + registers) saved
 
 -- The words of a call in the plan.
 abbrev pub planWord : List ℕ → ℕ → ℕ → ℕ

@@ -6,7 +6,7 @@ use lib.Dec.{eqb}
 use Rattle.arith.specs.Choice.{if_then_else_}
 use Rattle.wire.specs.Bytes.{below}
 use Rattle.block.specs.Limits.{maxCode, maxCalls}
-use Rattle.machine.specs.Run.{Run, seatOf}
+use Rattle.machine.specs.Run.{Run, heldAt}
 use Rattle.machine.specs.Moves.{beginOf, stepOf}
 
 -- "A call's steps are its entry, its counted instructions, and one for reaching the end, so at most 66."
@@ -15,7 +15,7 @@ maxSteps = maxCode + 2
 
 -- The serial run uses worker 0.
 abbrev pub isSerialIdle : Run → Bool
-isSerialIdle r = eqb (seatOf (r .head) 0 .call) 0
+isSerialIdle r = eqb (heldAt (r .head) 0) 0
 
 -- Steps until the worker is free, `left` at most; and how many they are.
 unfoldable pub stepToEnd : ℕ → List ℕ → Run → Run

@@ -44,6 +44,13 @@ pub record Local : Type 0 where
   pub regs : List ℤ
   pub saved : List ℤ
 
+-- What a place of a call comes to: it finds the lent run damaged (20); or the call goes on, with a place, a count, registers and cells; or
+-- it ends with an outcome and a count, and no cell is changed.
+pub data Performed : Type 0 where
+  broken : Performed
+  onward : (place count : ℕ) (regs cells : List ℤ) → Performed
+  ending : (outcome count : ℕ) → Performed
+
 -- A step finds the lent run damaged (20); or the call goes on; or it is finished with an outcome and a count.
 pub data Stepped : Type 0 where
   damaged : Stepped
@@ -88,94 +95,101 @@ restored (e ∷ es) [] cells = cells
 restored (e ∷ es) (old ∷ saved) cells =
     restored es saved (if entryWrites e then set cells (entryCell e) old else cells)
 
--- The end of a call. "On 3, 4, 5 the same step restores every cell of the write set."
-unfoldable pub finish : View → Local → ℕ → ℕ → List ℤ → Stepped
-finish v l count outcome cells =
-    if ltb outcome thrown
-    then done outcome count cells
-    else if restorable (v .count) (v .entries)
-    then done outcome count (restored (v .entries) (l .saved) cells)
-    else damaged
-
-abbrev pub goOn : Local → ℕ → List ℤ → ℕ → List ℤ → Stepped
-goOn l count regs place cells = more (record { place = place; count = count; regs = regs; saved = l .saved }) cells
-
--- A loaded value; of a balance, "below zero" is 20.
-unfoldable pub loadCell : Local → ℕ → List ℤ → ℕ → Access → List ℤ → Lookup → Stepped
-loadCell l count regs x a cells NoCell = damaged
-loadCell l count regs x a cells (Cell n) =
+-- A loaded value; of a balance, "below zero" is 20. `count` is the count with this place's own instruction.
+unfoldable pub loadCell : (place count : ℕ) → List ℤ → ℕ → Access → List ℤ → Lookup → Performed
+loadCell place count regs x a cells NoCell = broken
+loadCell place count regs x a cells (Cell n) =
     if isBalance (a .key) && not (nonNeg (cellAt cells n))
-    then damaged
-    else goOn l count (set regs x (cellAt cells n)) (l .place + 1) cells
+    then broken
+    else onward (place + 1) count (set regs x (cellAt cells n)) cells
 
-unfoldable pub storeCell : Local → ℕ → List ℤ → ℤ → List ℤ → Lookup → Stepped
-storeCell l count regs value cells NoCell = damaged
-storeCell l count regs value cells (Cell n) = goOn l count regs (l .place + 1) (set cells n value)
+unfoldable pub storeCell : (place count : ℕ) → List ℤ → ℤ → List ℤ → Lookup → Performed
+storeCell place count regs value cells NoCell = broken
+storeCell place count regs value cells (Cell n) = onward (place + 1) count regs (set cells n value)
 
 -- The amount leaves cell n and reaches another; there "a balance .. below zero or passing 2^63 - 1" is 20.
-unfoldable pub depositCell : Local → ℕ → List ℤ → ℤ → ℕ → List ℤ → Lookup → Stepped
-depositCell l count regs amount n cells NoCell = damaged
-depositCell l count regs amount n cells (Cell m) =
+unfoldable pub depositCell : (place count : ℕ) → List ℤ → ℤ → ℕ → List ℤ → Lookup → Performed
+depositCell place count regs amount n cells NoCell = broken
+depositCell place count regs amount n cells (Cell m) =
     if nonNeg (cellAt cells m) && leZ (cellAt cells m +ℤ amount) largest
     then
-    goOn l count regs (l .place + 1)
+    onward (place + 1) count regs
     (set (set cells n (cellAt cells n -ℤ amount)) m (cellAt cells m +ℤ amount))
-    else damaged
+    else broken
 
 -- The second cell is looked at only where the first holds enough.
-unfoldable pub transferCells : View → Local → ℕ → List ℤ → ℤ → ℕ → Access → List ℤ → Lookup → Stepped
-transferCells v l count regs amount short to cells NoCell = damaged
-transferCells v l count regs amount short to cells (Cell n) =
+unfoldable pub transferCells : View → (place count : ℕ) → List ℤ → ℤ → ℕ → Access → List ℤ → Lookup → Performed
+transferCells v place count regs amount short to cells NoCell = broken
+transferCells v place count regs amount short to cells (Cell n) =
     if not (nonNeg (cellAt cells n))
-    then damaged
+    then broken
     else if ltZ (cellAt cells n) amount
-    then finish v l count short cells
-    else depositCell l count regs amount n cells (lookup v to)
+    then ending short count
+    else depositCell place count regs amount n cells (lookup v to)
 
 -- The first and second access of a place; a place that uses one has it.
 abbrev pub accessAt : List Access → ℕ → Access
 accessAt as′ k = getD as′ k (reading 0)
 
--- An action is done on the cells that the place accesses. `count` is the count with this place's own instruction.
-unfoldable pub perform : View → Local → ℕ → List Access → List ℤ → Next → List ℤ → Stepped
-perform v l count as′ regs (Go place) cells = goOn l count regs place cells
-perform v l count as′ regs (End outcome) cells = finish v l count outcome cells
-perform v l count as′ regs (Load x) cells =
-    loadCell l count regs x (accessAt as′ 0) cells (lookup v (accessAt as′ 0))
-perform v l count as′ regs (Store value) cells = storeCell l count regs value cells (lookup v (accessAt as′ 0))
-perform v l count as′ regs (Transfer amount short) cells =
-    transferCells v l count regs amount short (accessAt as′ 1) cells (lookup v (accessAt as′ 0))
+-- An action is done on the cells that the place accesses.
+unfoldable pub perform : View → (place count : ℕ) → List Access → List ℤ → Next → List ℤ → Performed
+perform v place count as′ regs (Go to) cells = onward to count regs cells
+perform v place count as′ regs (End outcome) cells = ending outcome count
+perform v place count as′ regs (Load x) cells =
+    loadCell place count regs x (accessAt as′ 0) cells (lookup v (accessAt as′ 0))
+perform v place count as′ regs (Store value) cells = storeCell place count regs value cells (lookup v (accessAt as′ 0))
+perform v place count as′ regs (Transfer amount short) cells =
+    transferCells v place count regs amount short (accessAt as′ 1) cells (lookup v (accessAt as′ 0))
 
-abbrev pub performAction : View → Local → ℕ → List Access → Action → List ℤ → Stepped
-performAction v l count as′ a cells = perform v l count as′ (a .regs) (a .next) cells
+abbrev pub performAction : View → (place count : ℕ) → List Access → Action → List ℤ → Performed
+performAction v place count as′ a cells = perform v place count as′ (a .regs) (a .next) cells
 
 -- "STEP(worker), at entry: unknown function, outcome 1"
-unfoldable pub stepEntry : View → Local → List ℤ → Stepped
-stepEntry v l cells =
+unfoldable pub stepEntry : View → (place count : ℕ) → (regs cells : List ℤ) → Performed
+stepEntry v place count regs cells =
     if eqb (v .code) 0
-    then done unknownFunction (l .count) cells
-    else performAction v l (l .count) (entryAccesses (v .call)) (entryAction (v .call) (l .regs)) cells
+    then ending unknownFunction count
+    else performAction v place count (entryAccesses (v .call)) (entryAction (v .call) regs) cells
 
 -- "Else one instruction runs and counts 1, also the one that fails."
-unfoldable pub stepDecoded : View → Local → List ℤ → Decoded → Stepped
-stepDecoded v l cells Invalid = damaged
-stepDecoded v l cells (Valid i) =
-    performAction v l (l .count + 1) (accesses (v .call) i) (instrAction (v .call) (l .place) (l .regs) i) cells
+unfoldable pub stepDecoded : View → (place count : ℕ) → (regs cells : List ℤ) → Decoded → Performed
+stepDecoded v place count regs cells Invalid = broken
+stepDecoded v place count regs cells (Valid i) =
+    performAction v place (count + 1) (accesses (v .call) i) (instrAction (v .call) place regs i) cells
 
 -- The code stretch lies in the lent block, and its instruction at this place is valid; 20 otherwise.
-unfoldable pub stepInstr : View → Local → List ℤ → Stepped
-stepInstr v l cells =
-    let index : ℕ = l .place - 1 in
+unfoldable pub stepInstr : View → (place count : ℕ) → (regs cells : List ℤ) → Performed
+stepInstr v place count regs cells =
+    let index : ℕ = place - 1 in
     let size : ℕ = v .code - 1 in
     if leb (v .start + instrBytes * size) (length (v .block))
-    then stepDecoded v l cells (decode index size (drop (v .start + instrBytes * index) (v .block)))
+    then stepDecoded v place count regs cells (decode index size (drop (v .start + instrBytes * index) (v .block)))
+    else broken
+
+-- The place of a call. "At place = length: outcome 0."
+unfoldable pub stepPlace : View → (place count : ℕ) → (regs cells : List ℤ) → Performed
+stepPlace v place count regs cells =
+    if eqb place 0
+    then stepEntry v place count regs cells
+    else if eqb place (v .code)
+    then ending ended count
+    else stepInstr v place count regs cells
+
+-- The end of a call. "On 3, 4, 5 the same step restores every cell of the write set."
+unfoldable pub finish : View → (saved : List ℤ) → (outcome count : ℕ) → (cells : List ℤ) → Stepped
+finish v saved outcome count cells =
+    if ltb outcome thrown
+    then done outcome count cells
+    else if restorable (v .count) (v .entries)
+    then done outcome count (restored (v .entries) saved cells)
     else damaged
 
--- One step of a call. "At place = length: outcome 0."
+-- What a step of a call makes of what its place comes to, from its old values and its cells.
+unfoldable pub concluded : View → (saved cells : List ℤ) → Performed → Stepped
+concluded v saved cells broken = damaged
+concluded v saved cells (onward place count regs after) = more (record { place = place; count = count; regs = regs; saved = saved }) after
+concluded v saved cells (ending outcome count) = finish v saved outcome count cells
+
+-- One step of a call.
 unfoldable pub stepCall : View → Local → List ℤ → Stepped
-stepCall v l cells =
-    if eqb (l .place) 0
-    then stepEntry v l cells
-    else if eqb (l .place) (v .code)
-    then done ended (l .count) cells
-    else stepInstr v l cells
+stepCall v l cells = concluded v (l .saved) cells (stepPlace v (l .place) (l .count) (l .regs) cells)

@@ -2,23 +2,14 @@
 pub mod layout;
 pub mod numbers;
 
-// A worker's seat: the call it holds, as its number plus 1, or 0 for none; the call's place (0 at its entry, p + 1 at
-// instruction p); the count of its executed instructions; its registers.
-pub struct Seat {
-    pub call: usize,
-    pub place: usize,
-    pub count: u64,
-    pub regs: [i64; 8],
-}
-
-// The part of a run that is passed by value: the numbers of workers, calls and cells, the offset of the first call record,
-// and the seats.
+// The part of a run that every move asks: the numbers of workers, calls and cells, the offset of the first call record, and the call that
+// each worker holds, as its number plus 1, or 0 for none.
 pub struct Head {
     pub workers: usize,
     pub calls: usize,
     pub cells: usize,
     pub first_call: usize,
-    pub seats: [Seat; 8],
+    pub held: [u16; 8],
 }
 
 // What a move, or the closing sheet, answers. specs/Answer.antt has document 01's numbers.

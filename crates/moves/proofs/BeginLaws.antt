@@ -9,13 +9,11 @@ use lib.Dec.{eqb, leb, ltb}
 use lib.IntN.{ℤ}
 use lib.ListN.{set}
 use Rattle.arith.specs.Choice.{if_then_else_}
-use Rattle.wire.specs.Bytes.{stored}
 use Rattle.block.specs.Limits.{maxCalls, maxCallKeys}
-use Rattle.machine.specs.Run.{Run, entriesOf, largeEnough, rowIn, seatOf, sizesOf, stateOf, withSeat, zeroRegisters}
+use Rattle.machine.specs.Run.{Run, entriesOf, heldAt, largeEnough, rowIn, sizesOf, stateOf, withHeld, withRegs, withSaved, withSeat, zeroRegisters}
 use Rattle.machine.specs.Step.{restorable, savedOf}
 use Rattle.machine.specs.Moves.{Moved, stay, callKeyCount, earlierBroken, earlierFinished, beginCall, beginChecked, beginOf}
 use Rattle.machine.specs.declared.Head.{Head}
-use Rattle.machine.specs.declared.Seat.{Seat}
 use Rattle.machine.specs.declared.Answer.{Answer}
 use Rattle.machine.specs.declared.Answer.the-variants.{Accepted, Damaged, NoCall, WorkerBusy, NotWaiting, EarlierUnfinished}
 use Rattle.moves.specs.Lent.{lent, moved}
@@ -106,27 +104,27 @@ module _ (calls busy c : ℕ) where
       go false true r s e = let z : _≡_ {A = ℕ} 0 1 = cc in absurd (omega arith)
       go false false r s e = (refl, refl)
 
-module _ (h : Head) (w c : ℕ) (plan keys status : List ℕ) (cells saved : List ℤ) {large : Bool} (sized : large ≡ largeEnough (sizesOf (lent h plan keys cells status saved)))
+module _ (h : Head) (w c : ℕ) (plan keys status : List ℕ) (cells : List ℤ) (seats : List ℕ) (frames : List ℤ) {large : Bool} (sized : large ≡ largeEnough (sizesOf (lent h plan keys cells status seats frames)))
     {t : Tested} (tested : t ≡ workerTested large (h .workers) w) where
-  -- What is left behind the tests of the worker, from the number of calls and the seat's entry.
+  -- What is left behind the tests of the worker, from the number of calls and the held call.
   abbrev behindWorker : Moved
   behindWorker =
-      unlessRefused (headTested (h .calls) (seatOf h w .call) c) (stay (lent h plan keys cells status saved)) (beginChecked (lent h plan keys cells status saved) w c)
+      unlessRefused (headTested (h .calls) (heldAt h w) c) (stay (lent h plan keys cells status seats frames)) (beginChecked (lent h plan keys cells status seats frames) w c)
 
-  begin-behind : unlessRefused t (stay (lent h plan keys cells status saved)) behindWorker ≡ beginOf (lent h plan keys cells status saved) w c
+  begin-behind : unlessRefused t (stay (lent h plan keys cells status seats frames)) behindWorker ≡ beginOf (lent h plan keys cells status seats frames) w c
   unfolding beginOf
   begin-behind =
       rw
-      (tested, sized, head-behind (h .calls) (seatOf h w .call) c (stay (lent h plan keys cells status saved)) (beginChecked (lent h plan keys cells status saved) w c))
+      (tested, sized, head-behind (h .calls) (heldAt h w) c (stay (lent h plan keys cells status seats frames)) (beginChecked (lent h plan keys cells status seats frames) w c))
       (worker-behind _ _ _ _ _)
 
-  pub begin-refused : {a : Answer} → t ≡ Refused a → stay (lent h plan keys cells status saved) a ≡ beginOf (lent h plan keys cells status saved) w c
+  pub begin-refused : {a : Answer} → t ≡ Refused a → stay (lent h plan keys cells status seats frames) a ≡ beginOf (lent h plan keys cells status seats frames) w c
   begin-refused e = rw e at begin-behind
 
-  pub begin-seated : t ≡ Passed → {s : Seat} → s ≡ seatOf h w → {u : Tested} → u ≡ headTested (h .calls) (s .call) c
-      → unlessRefused u (stay (lent h plan keys cells status saved)) (beginChecked (lent h plan keys cells status saved) w c)
-      ≡ beginOf (lent h plan keys cells status saved) w c
-  begin-seated on seat told = rw (told, seat) (rw on at begin-behind)
+  pub begin-headed : t ≡ Passed → {n : ℕ} → n ≡ heldAt h w → {u : Tested} → u ≡ headTested (h .calls) n c
+      → unlessRefused u (stay (lent h plan keys cells status seats frames)) (beginChecked (lent h plan keys cells status seats frames) w c)
+      ≡ beginOf (lent h plan keys cells status seats frames) w c
+  begin-headed on own told = rw (told, own) (rw on at begin-behind)
 
 -- ---- what the plan and the states tell
 
@@ -147,46 +145,48 @@ on-earlier row status c x y z = go (earlierBroken row status c) (earlierFinished
     go false true = refl
     go false false = refl
 
-module _ (h : Head) (plan keys status : List ℕ) (cells saved : List ℤ) (w c : ℕ) {s : ℕ} (state : s ≡ stateOf status c) where
-  pub checked-broken : 2 < s → stay (lent h plan keys cells status saved) Damaged ≡ beginChecked (lent h plan keys cells status saved) w c
+module _ (h : Head) (plan keys status : List ℕ) (cells : List ℤ) (seats : List ℕ) (frames : List ℤ) (w c : ℕ) {s : ℕ} (state : s ≡ stateOf status c) where
+  pub checked-broken : 2 < s → stay (lent h plan keys cells status seats frames) Damaged ≡ beginChecked (lent h plan keys cells status seats frames) w c
   unfolding beginChecked
   checked-broken l = rw (← state, lt-leb s 2 l)
 
-  pub checked-begun : s ≤ 2 → (s ≡ 0 → ⊥) → stay (lent h plan keys cells status saved) NotWaiting ≡ beginChecked (lent h plan keys cells status saved) w c
+  pub checked-begun : s ≤ 2 → (s ≡ 0 → ⊥) → stay (lent h plan keys cells status seats frames) NotWaiting ≡ beginChecked (lent h plan keys cells status seats frames) w c
   unfolding beginChecked
   checked-begun l some = rw (← state, le-leb s 2 l, ne-eqb s 0 some)
 
   -- A waiting call: its earlier conflicting calls, and then its entries.
   module _ (l : s ≤ 2) (waits : s ≡ 0) {row : List ℕ} (is-row : row ≡ rowIn plan c) {e : Earlier} (is-earlier : e ≡ earlierOf row status c) where
-    waiting : onEarlier e (stay (lent h plan keys cells status saved) Damaged) (stay (lent h plan keys cells status saved) EarlierUnfinished)
+    waiting : onEarlier e (stay (lent h plan keys cells status seats frames) Damaged) (stay (lent h plan keys cells status seats frames) EarlierUnfinished)
         (if not (restorable (callKeyCount plan c) (entriesOf plan c (callKeyCount plan c)))
-        then stay (lent h plan keys cells status saved) Damaged
-        else moved Accepted (beginCall (lent h plan keys cells status saved) w c))
-        ≡ beginChecked (lent h plan keys cells status saved) w c
+        then stay (lent h plan keys cells status seats frames) Damaged
+        else moved Accepted (beginCall (lent h plan keys cells status seats frames) w c))
+        ≡ beginChecked (lent h plan keys cells status seats frames) w c
     unfolding beginChecked
     waiting = rw (← state, le-leb s 2 l, eq-eqb s 0 waits, is-earlier, is-row) (on-earlier _ _ _ _ _ _)
 
-    pub waiting-broken : e ≡ Broken → stay (lent h plan keys cells status saved) Damaged ≡ beginChecked (lent h plan keys cells status saved) w c
+    pub waiting-broken : e ≡ Broken → stay (lent h plan keys cells status seats frames) Damaged ≡ beginChecked (lent h plan keys cells status seats frames) w c
     waiting-broken f = rw f at waiting
 
-    pub waiting-unfinished : e ≡ Unfinished → stay (lent h plan keys cells status saved) EarlierUnfinished ≡ beginChecked (lent h plan keys cells status saved) w c
+    pub waiting-unfinished : e ≡ Unfinished → stay (lent h plan keys cells status seats frames) EarlierUnfinished ≡ beginChecked (lent h plan keys cells status seats frames) w c
     waiting-unfinished f = rw f at waiting
 
     module _ (f : e ≡ Finished) {n : ℕ} (count : n ≡ callKeyCount plan c) where
-      pub waiting-damaged : false ≡ restorable n (entriesOf plan c n) → stay (lent h plan keys cells status saved) Damaged ≡ beginChecked (lent h plan keys cells status saved) w c
+      pub waiting-damaged : false ≡ restorable n (entriesOf plan c n) → stay (lent h plan keys cells status seats frames) Damaged ≡ beginChecked (lent h plan keys cells status seats frames) w c
       waiting-damaged r = rw (f, ← count, ← r) at waiting
 
       pub waiting-good : true ≡ restorable n (entriesOf plan c n)
-          → moved Accepted (beginCall (lent h plan keys cells status saved) w c) ≡ beginChecked (lent h plan keys cells status saved) w c
+          → moved Accepted (beginCall (lent h plan keys cells status seats frames) w c) ≡ beginChecked (lent h plan keys cells status seats frames) w c
       waiting-good r = rw (f, ← count, ← r) at waiting
 
 -- ---- the change
 
-pub begin-done : (h : Head) (plan keys status : List ℕ) (cells saved : List ℤ) (w c : ℕ) {n : ℕ} → n ≡ callKeyCount plan c
-    → {status′ : List ℕ} {saved′ : List ℤ}
-    → saved′ ≡ stored saved (maxCallKeys * w) (savedOf (entriesOf plan c n) cells)
+pub begin-done : (h : Head) (plan keys status : List ℕ) (cells : List ℤ) (seats : List ℕ) (frames : List ℤ) (w c : ℕ) {n : ℕ} → n ≡ callKeyCount plan c
+    → {status′ seats′ : List ℕ} {mid frames′ : List ℤ}
+    → seats′ ≡ withSeat seats w 0 0
+    → mid ≡ withRegs frames w zeroRegisters
+    → frames′ ≡ withSaved mid w (savedOf (entriesOf plan c n) cells)
     → status′ ≡ set status (4 * c) 1
-    → moved Accepted (lent (withSeat h w (record { call = c + 1; place = 0; count = 0; regs = zeroRegisters })) plan keys cells status′ saved′)
-    ≡ moved Accepted (beginCall (lent h plan keys cells status saved) w c)
+    → moved Accepted (lent (withHeld h w (c + 1)) plan keys cells status′ seats′ frames′)
+    ≡ moved Accepted (beginCall (lent h plan keys cells status seats frames) w c)
 unfolding beginCall
-begin-done h plan keys status cells saved w c count e f = rw (e, f, count)
+begin-done h plan keys status cells seats frames w c count s r e f = rw (s, e, r, f, count)

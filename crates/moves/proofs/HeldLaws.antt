@@ -1,25 +1,22 @@
 -- The mathematics of the proofs of `held`, over plain variables: the sizes, the first tests of every move, and the held call.
 use mathlib.Core.Path.{_≡_, refl, sym, ap, _∙_}
 use mathlib.Core.Bool.{Bool, true, false, _&&_, _||_, not}
-use mathlib.Core.List.{List, [], _∷_}
-use Prim.Native.Nat.{ℕ, zero, suc, _-_, _≤_, _<_}
+use mathlib.Core.List.{List}
+use Prim.Native.Nat.{ℕ, _-_, _≤_, _<_}
 use native.Mathlib.Omega.{arith}
 use borrow.Author.Tests.{eq-eqb, ne-eqb, lt-ltb, le-ltb, le-leb, lt-leb, leb-true, ltb-false, leb-false}
 use lib.Dec.{eqb, leb, ltb}
 use lib.IntN.{ℤ}
-use lib.ListN.{length, getD}
 use lib.Seq.{set-getD}
-use native.Mathlib.Nat.{not-suc-le-zero, le-of-suc-le-suc}
 use Rattle.arith.specs.Choice.{if_then_else_}
 use Rattle.block.specs.Limits.{maxCalls, maxWorkers}
 use Rattle.footprint.specs.Plan.{roomEnough}
-use Rattle.machine.specs.Run.{Sizes, fixedSizes, idleSeat, roomIn, largeEnough, seatOf, sizesOf, withSeat}
-use Rattle.machine.specs.Moves.{Moved, stay, answered, holds, heldBy}
+use Rattle.machine.specs.Run.{Sizes, fixedSizes, roomIn, largeEnough, heldAt, sizesOf, withHeld}
+use Rattle.machine.specs.Moves.{answered, holds, heldBy}
 use Rattle.machine.specs.declared.Head.{Head}
-use Rattle.machine.specs.declared.Seat.{Seat}
 use Rattle.machine.specs.declared.Answer.{Answer}
 use Rattle.machine.specs.declared.Answer.the-variants.{Damaged, NoWorker, WorkerIdle}
-use Rattle.moves.specs.Lent.{lent, moved}
+use Rattle.moves.specs.Lent.{lent}
 use Rattle.moves.specs.Tests.{unlessRefused, workerTested}
 use Rattle.moves.specs.HeldCall.{asHeld, heldFrom, HeldInRun}
 use Rattle.moves.specs.declared.Holding.{Holding}
@@ -48,39 +45,34 @@ or-left false b e = refl
 -- ---- the sizes
 
 module _ (s : Sizes) (large : true ≡ largeEnough s) where
-  pub large-plan : fixedSizes .plan ≤ s .plan
-  unfolding largeEnough roomEnough
-  large-plan = leb-true _ _ (sym (and-left _ _ (and-left _ _ (and-left _ _ (and-left _ _ large)))))
-
-  pub large-saved : fixedSizes .saved ≤ s .saved
+  sizes : (true ≡ roomEnough (roomIn s)) × (true ≡ leb (fixedSizes .frames) (s .frames))
   unfolding largeEnough
-  large-saved =
-      leb-true _ _
-      (sym (and-right (roomEnough (roomIn s) && leb (fixedSizes .status) (s .status)) _ large))
+  sizes = (
+    and-left (roomEnough (roomIn s)) (leb (fixedSizes .status) (s .status)) (and-left (roomEnough (roomIn s) && leb (fixedSizes .status) (s .status)) (leb (fixedSizes .seats) (s .seats)) (and-left (roomEnough (roomIn s) && leb (fixedSizes .status) (s .status) && leb (fixedSizes .seats) (s .seats)) (leb (fixedSizes .frames) (s .frames)) large)),
+    and-right (roomEnough (roomIn s) && leb (fixedSizes .status) (s .status) && leb (fixedSizes .seats) (s .seats)) (leb (fixedSizes .frames) (s .frames)) large,
+  )
 
--- ---- the seats
+  pub large-plan : fixedSizes .plan ≤ s .plan
+  unfolding roomEnough
+  large-plan = leb-true _ _ (sym (and-left _ _ (and-left _ _ (sizes .0))))
 
--- An element inside a list does not depend on the default.
-pub getD-inside : {A : Type 0} (l : List A) (i : ℕ) (a b : A) → i < length l → getD l i a ≡ getD l i b
-getD-inside [] i a b h = absurd (not-suc-le-zero h)
-getD-inside (x ∷ l) zero a b h = refl
-getD-inside (x ∷ l) (suc i) a b h = getD-inside l i a b (le-of-suc-le-suc h)
+  pub large-keys : fixedSizes .keys ≤ s .keys
+  unfolding roomEnough
+  large-keys = leb-true _ _ (sym (and-right (leb (fixedSizes .plan) (s .plan)) _ (and-left _ _ (sizes .0))))
 
--- There are eight seats, so that of a worker is there.
-pub seat-read : (h : Head) (w : ℕ) (d : Seat) → length (h .seats) ≡ 8 → w < maxWorkers → getD (h .seats) w d ≡ seatOf h w
-seat-read h w d long l = getD-inside (h .seats) w d idleSeat (omega arith)
+  pub large-frames : fixedSizes .frames ≤ s .frames
+  large-frames = leb-true _ _ (sym (sizes .1))
 
--- A seat that is put back where it was leaves the head, and so the run.
-seat-same : (h : Head) (w : ℕ) → withSeat h w (seatOf h w) ≡ h
-seat-same h w =
-    ap (λ (l : List Seat). record { workers = h .workers; calls = h .calls; cells = h .cells; «first_call» = h .«first_call»; seats = l })
-    (set-getD (h .seats) w idleSeat)
+-- ---- the held calls
 
-pub seat-kept : (h : Head) (w : ℕ) (plan keys status : List ℕ) (cells saved : List ℤ) {s : Seat} {a : Answer} {m : Moved} → s ≡ seatOf h w
-    → stay (lent h plan keys cells status saved) a ≡ m → moved a (lent (withSeat h w s) plan keys cells status saved) ≡ m
-seat-kept h w plan keys status cells saved {s} {a} e f =
-    let same : withSeat h w s ≡ h = ap (withSeat h w) e ∙ seat-same h w in
-    ap (λ (g : Head). moved a (lent g plan keys cells status saved)) same ∙ f
+-- A held call that is put back where it was leaves the head.
+held-same : (h : Head) (w : ℕ) → withHeld h w (heldAt h w) ≡ h
+held-same h w =
+    ap (λ (l : List ℕ). record { workers = h .workers; calls = h .calls; cells = h .cells; «first_call» = h .«first_call»; held = l })
+    (set-getD (h .held) w 0)
+
+pub held-kept : (h : Head) (w : ℕ) {n : ℕ} → n ≡ heldAt h w → withHeld h w n ≡ h
+held-kept h w e = ap (withHeld h w) e ∙ held-same h w
 
 -- ---- the worker
 
@@ -158,22 +150,22 @@ module _ (calls call : ℕ) where
 pub held-known : {c : ℕ} {k : Holding} → k ≡ Holds c → HeldInRun k → c < maxCalls
 held-known e h = rw e at h
 
--- The tests of the worker, and behind them its seat, decide what is held.
-module _ (h : Head) (w : ℕ) (plan keys status : List ℕ) (cells saved : List ℤ) {large : Bool} (sized : large ≡ largeEnough (sizesOf (lent h plan keys cells status saved)))
+-- The tests of the worker, and behind them its held call, decide what is held.
+module _ (h : Head) (w : ℕ) (plan keys status : List ℕ) (cells : List ℤ) (seats : List ℕ) (frames : List ℤ) {large : Bool} (sized : large ≡ largeEnough (sizesOf (lent h plan keys cells status seats frames)))
     {t : Tested} (tested : t ≡ workerTested large (h .workers) w) where
-  held-behind : unlessRefused t answered (heldFrom (h .calls) (seatOf h w .call)) ≡ heldBy (lent h plan keys cells status saved) w
+  held-behind : unlessRefused t answered (heldFrom (h .calls) (heldAt h w)) ≡ heldBy (lent h plan keys cells status seats frames) w
   unfolding heldBy
   held-behind = rw (tested, sized) (worker-behind _ _ _ _ _)
 
-  pub held-refused : {a : Answer} → t ≡ Refused a → answered a ≡ heldBy (lent h plan keys cells status saved) w
+  pub held-refused : {a : Answer} → t ≡ Refused a → answered a ≡ heldBy (lent h plan keys cells status seats frames) w
   held-refused e = rw e at held-behind
 
-  module _ (on : t ≡ Passed) {s : Seat} (seat : s ≡ seatOf h w) (k : Holding) (found : asHeld k ≡ heldFrom (h .calls) (s .call)) where
-    held-on : asHeld k ≡ heldBy (lent h plan keys cells status saved) w
-    held-on = found ∙ (rw seat (rw on at held-behind))
+  module _ (on : t ≡ Passed) {n : ℕ} (own : n ≡ heldAt h w) (k : Holding) (found : asHeld k ≡ heldFrom (h .calls) n) where
+    held-on : asHeld k ≡ heldBy (lent h plan keys cells status seats frames) w
+    held-on = found ∙ (rw own (rw on at held-behind))
 
-    pub held-answered : {a : Answer} → k ≡ Answered a → answered a ≡ heldBy (lent h plan keys cells status saved) w
+    pub held-answered : {a : Answer} → k ≡ Answered a → answered a ≡ heldBy (lent h plan keys cells status seats frames) w
     held-answered e = ap asHeld (sym e) ∙ held-on
 
-    pub held-call : {c : ℕ} → k ≡ Holds c → holds c ≡ heldBy (lent h plan keys cells status saved) w
+    pub held-call : {c : ℕ} → k ≡ Holds c → holds c ≡ heldBy (lent h plan keys cells status seats frames) w
     held-call e = ap asHeld (sym e) ∙ held-on

@@ -1,4 +1,4 @@
--- The mathematics of the proofs of `step` on a run, over plain variables: the seat and status behind a turn, the tests before it, and the held call.
+-- The mathematics of the proofs of `step` on a run, over plain variables: the tests before a turn, the run behind it, and the held call.
 use mathlib.Core.Path.{_≡_, refl, sym, ap, _∙_}
 use mathlib.Core.Bool.{Bool, true, false, _&&_, _||_, not}
 use mathlib.Core.List.{List}
@@ -10,43 +10,30 @@ use lib.IntN.{ℤ}
 use lib.ListN.{length, set, drop}
 use Rattle.arith.specs.Choice.{if_then_else_}
 use Rattle.block.specs.Limits.{maxCode}
-use Rattle.block.specs.Record.{callOf}
+use Rattle.block.specs.Outcomes.{maxCount, thrown}
+use Rattle.block.specs.Record.{callOf, callRecordBytes}
 use Rattle.block.specs.declared.Call.{Call}
 use Rattle.block.specs.declared.CallBody.{CallBody}
 use Rattle.block.specs.declared.CallBody.the-variants.{InRange, OutOfRange}
-use Rattle.machine.specs.Run.{Run, planWord, seatOf, withSeat, idleSeat, withReceipt, finished}
-use Rattle.machine.specs.Step.{Stepped, damaged, more, done, stepCall}
-use Rattle.machine.specs.Moves.{Moved, answered, holds, heldBy, localOf, stay, stepFor, stepHeld, stepOf, stepRecord, stepped, viewOf}
+use Rattle.machine.specs.Run.{Run, entriesOf, heldAt, placeIn, countIn, planWord, regsIn, savedIn, withHeld, withRegs, withSeat, withReceipt, finished}
+use Rattle.machine.specs.Step.{View, Performed, broken, onward, ending, concluded, finish, restorable, restored, stepCall, stepPlace}
+use Rattle.machine.specs.Moves.{Moved, answered, callKeyCount, holds, heldBy, localOf, stay, stepFor, stepHeld, stepOf, stepRecord, stepped, viewOf}
 use Rattle.machine.specs.declared.Answer.{Answer}
 use Rattle.machine.specs.declared.Answer.the-variants.{Accepted, Damaged}
 use Rattle.machine.specs.declared.Head.{Head}
-use Rattle.machine.specs.declared.Seat.{Seat}
 use Rattle.moves.specs.Lent.{lent, moved}
-use Rattle.moves.specs.Turn.{Settled, StandsForStep, TurnWithCells, brokenTurn, localIn, workerSaved, settledBy, settledIn, settledRun, turned, viewIn, SeatInRange}
+use Rattle.moves.specs.Turn.{StandsForPlace, TurnWithCells, brokenTurn, cellView, performedOf, turnSettled, turned, viewIn, workerSaved, SiteInRange}
 use Rattle.moves.specs.declared.Fate.the-variants.{Broken, Going, Over}
-use Rattle.moves.specs.declared.Seated.{Seated}
+use Rattle.moves.specs.declared.Site.{Site}
 use Rattle.moves.specs.declared.Turn.{Turn}
-use Rattle.moves.proofs.HeldLaws.{seat-kept}
+use Rattle.moves.proofs.HeldLaws.{held-kept}
+use Rattle.moves.proofs.PerformLaws.{finish-damaged, finish-kept, finish-restored}
 
--- ---- the seat and the status behind a turn
+-- ---- the status behind a turn
 
 pub receipt : (status : List ℕ) (c outcome count : ℕ) {one two three : List ℕ} → one ≡ set status (4 * c) finished → two ≡ set one (4 * c + 1) outcome → three ≡ set two (4 * c + 2) count
     → three ≡ withReceipt status c outcome count
 receipt status c outcome count e f g = rw (g, f, e)
-
-module _ (s : Seat) (status : List ℕ) (c : ℕ) (t : Turn) where
-  pub settle-broken : t .fate ≡ Broken → _≡_ {A = Settled} (record { seated = record { seat = s; answer = Damaged }; status = status }) (settledBy s status c t)
-  settle-broken e = rw e
-
-  pub settle-going : {place : ℕ} → t .fate ≡ Going place
-      → _≡_ {A = Settled}
-      (record { seated = record { seat = record { call = c + 1; place = place; count = t .count; regs = t .regs }; answer = Accepted }; status = status })
-      (settledBy s status c t)
-  settle-going e = rw e
-
-  pub settle-over : {outcome : ℕ} → t .fate ≡ Over outcome → {seat : Seat} {after : List ℕ} → seat ≡ idleSeat → after ≡ withReceipt status c outcome (t .count)
-      → _≡_ {A = Settled} (record { seated = record { seat = seat; answer = Accepted }; status = after }) (settledBy s status c t)
-  settle-over e f g = rw (e, f, g)
 
 -- ---- the tests before a turn
 
@@ -58,38 +45,38 @@ not-above a b = go (leb a b) refl
     go false e = rw (lt-ltb b a (leb-false a b e))
 
 -- The place and the count are in their ranges.
-abbrev pub inRange : ℕ → Seat → Bool
-inRange code s = not (ltb (maxCode + 1) code || ltb code (s .place)) && not (ltb maxCode (s .count))
+abbrev pub inRange : ℕ → Site → Bool
+inRange code s = not (ltb (maxCode + 1) code || ltb code (s .place)) && not (ltb maxCount (s .count))
 
-module _ (s : Seat) {code : ℕ} {word : ℕ} (own : code ≡ word) where
+module _ (s : Site) {code : ℕ} {word : ℕ} (own : code ≡ word) where
   pub range-code : maxCode + 1 < code → false ≡ inRange word s
   range-code h = rw (← own, lt-ltb (maxCode + 1) code h)
 
   pub range-place : code ≤ maxCode + 1 → code < s .place → false ≡ inRange word s
   range-place g h = rw (← own, le-ltb (maxCode + 1) code g, lt-ltb code (s .place) h)
 
-  pub range-count : code ≤ maxCode + 1 → s .place ≤ code → leb (s .count) maxCode ≡ inRange word s
-  range-count g h = rw (← own, le-ltb (maxCode + 1) code g, le-ltb code (s .place) h) (not-above (s .count) maxCode)
+  pub range-count : code ≤ maxCode + 1 → s .place ≤ code → leb (s .count) maxCount ≡ inRange word s
+  range-count g h = rw (← own, le-ltb (maxCode + 1) code g, le-ltb code (s .place) h) (not-above (s .count) maxCount)
 
-pub record-short : (len first c : ℕ) → len < 34 * c + 34 → false ≡ not (ltb len (first + 34 * c + 34))
-record-short len first c h = let short : len < first + 34 * c + 34 = omega arith in rw (lt-ltb len (first + 34 * c + 34) short)
+pub record-short : (len first c : ℕ) → len < callRecordBytes * c + callRecordBytes → false ≡ not (ltb len (first + callRecordBytes * c + callRecordBytes))
+record-short len first c h = let short : len < first + callRecordBytes * c + callRecordBytes = omega arith in rw (lt-ltb len (first + callRecordBytes * c + callRecordBytes) short)
 
-pub record-there : (len first c : ℕ) → 34 * c + 34 ≤ len → leb first (len - (34 * c + 34)) ≡ not (ltb len (first + 34 * c + 34))
-record-there len first c h = go (leb first (len - (34 * c + 34))) refl
+pub record-there : (len first c : ℕ) → callRecordBytes * c + callRecordBytes ≤ len → leb first (len - (callRecordBytes * c + callRecordBytes)) ≡ not (ltb len (first + callRecordBytes * c + callRecordBytes))
+record-there len first c h = go (leb first (len - (callRecordBytes * c + callRecordBytes))) refl
   where
-    go : (t : Bool) → leb first (len - (34 * c + 34)) ≡ t → t ≡ not (ltb len (first + 34 * c + 34))
+    go : (t : Bool) → leb first (len - (callRecordBytes * c + callRecordBytes)) ≡ t → t ≡ not (ltb len (first + callRecordBytes * c + callRecordBytes))
     go true e =
-        let below : first ≤ len - (34 * c + 34) = leb-true first (len - (34 * c + 34)) e in
-        let fits : first + 34 * c + 34 ≤ len = omega arith in
-        rw (le-ltb len (first + 34 * c + 34) fits)
+        let below : first ≤ len - (callRecordBytes * c + callRecordBytes) = leb-true first (len - (callRecordBytes * c + callRecordBytes)) e in
+        let fits : first + callRecordBytes * c + callRecordBytes ≤ len = omega arith in
+        rw (le-ltb len (first + callRecordBytes * c + callRecordBytes) fits)
     go false e =
-        let above : len - (34 * c + 34) < first = leb-false first (len - (34 * c + 34)) e in
-        let short : len < first + 34 * c + 34 = omega arith in
-        rw (lt-ltb len (first + 34 * c + 34) short)
+        let above : len - (callRecordBytes * c + callRecordBytes) < first = leb-false first (len - (callRecordBytes * c + callRecordBytes)) e in
+        let short : len < first + callRecordBytes * c + callRecordBytes = omega arith in
+        rw (lt-ltb len (first + callRecordBytes * c + callRecordBytes) short)
 
 -- What the tests tell.
-pub record-inside : {b : Bool} (len first c : ℕ) → b ≡ not (ltb len (first + 34 * c + 34)) → b ≡ true → first + 34 * c + 34 ≤ len
-record-inside len first c e f = ltb-false len (first + 34 * c + 34) (off (ltb len (first + 34 * c + 34)) (sym e ∙ f))
+pub record-inside : {b : Bool} (len first c : ℕ) → b ≡ not (ltb len (first + callRecordBytes * c + callRecordBytes)) → b ≡ true → first + callRecordBytes * c + callRecordBytes ≤ len
+record-inside len first c e f = ltb-false len (first + callRecordBytes * c + callRecordBytes) (off (ltb len (first + callRecordBytes * c + callRecordBytes)) (sym e ∙ f))
   where
     off : (t : Bool) → not t ≡ true → t ≡ false
     off true h = sym h
@@ -106,13 +93,13 @@ both-passed false false ok x y e f = refl
 both-passed true q ok x y e f = let z : _≡_ {A = ℕ} 0 1 = cc in absurd (omega arith)
 both-passed false true ok x y e f = let z : _≡_ {A = ℕ} 0 1 = cc in absurd (omega arith)
 
-pub in-place : (plan : List ℕ) (c : ℕ) (s : Seat) {ok : Bool} → ok ≡ inRange (planWord plan c 1) s → ok ≡ true → SeatInRange plan c s
-in-place plan c s {ok} e f =
-    let all = go (ltb (maxCode + 1) (planWord plan c 1)) (ltb (planWord plan c 1) (s .place)) (ltb maxCode (s .count)) ok e f in
+pub in-place : (plan : List ℕ) (s : Site) {ok : Bool} → ok ≡ inRange (planWord plan (s .call) 1) s → ok ≡ true → SiteInRange plan s
+in-place plan s {ok} e f =
+    let all = go (ltb (maxCode + 1) (planWord plan (s .call) 1)) (ltb (planWord plan (s .call) 1) (s .place)) (ltb maxCount (s .count)) ok e f in
     record {
-      code = ltb-false (maxCode + 1) (planWord plan c 1) (all .0);
-      place = ltb-false (planWord plan c 1) (s .place) (all .1);
-      count = ltb-false maxCode (s .count) (all .2);
+      code = ltb-false (maxCode + 1) (planWord plan (s .call) 1) (all .0);
+      place = ltb-false (planWord plan (s .call) 1) (s .place) (all .1);
+      count = ltb-false maxCount (s .count) (all .2);
     }
   where
     go : (p q r ok : Bool) → ok ≡ (not (p || q) && not r) → ok ≡ true → (p ≡ false) × (q ≡ false) × (r ≡ false)
@@ -123,52 +110,66 @@ in-place plan c s {ok} e f =
 
 -- ---- a step on a run
 
-module _ (head : Head) (block plan keys : List ℕ) (cells : List ℤ) (status : List ℕ) (saved : List ℤ) (w c : ℕ) where
+-- What concludes a step looks at the entries of its view alone.
+concluded-view : (block plan keys : List ℕ) (c : ℕ) (call : Call) (saved cells : List ℤ) (p : Performed)
+    → concluded (cellView plan keys c) saved cells p ≡ concluded (viewIn block plan keys c call) saved cells p
+unfolding concluded finish
+concluded-view block plan keys c call saved cells broken = refl
+concluded-view block plan keys c call saved cells (onward place count regs after) = refl
+concluded-view block plan keys c call saved cells (ending outcome count) = refl
+
+module _ (head : Head) (block plan keys : List ℕ) (cells : List ℤ) (status seats : List ℕ) (frames : List ℤ) (w c : ℕ) where
   abbrev run : Run
-  run = lent head plan keys cells status saved
+  run = lent head plan keys cells status seats frames
 
   -- A damaged turn leaves the run.
-  pub broken-stays : {t : Turn} {m : Moved} → t ≡ brokenTurn → stay run Damaged ≡ m → settledRun head plan keys cells status saved w c t ≡ m
-  broken-stays {t} {m} e p = ap (settledRun head plan keys cells status saved w c) e ∙ seat-kept head w plan keys status cells saved {s = seatOf head w} refl p
+  pub broken-stays : {t : Turn} {m : Moved} → t ≡ brokenTurn → stay run Damaged ≡ m → turnSettled head plan keys cells status seats frames w c t ≡ m
+  unfolding concluded stepped
+  broken-stays e p = rw e p
 
-  -- The run behind a step is made of the turn's cells and of what it settles.
-  settled-run : (s : Stepped) → settledRun head plan keys (turned cells s .cells) status saved w c (turned cells s .turn) ≡ stepped run w c s
-  unfolding stepped
-  settled-run damaged = broken-stays refl refl
-  settled-run (more l after) = refl
-  settled-run (done outcome count after) = refl
+  -- The run behind a turn is that behind the step that it stands for.
+  stands-settled : (v : View) (saved : List ℤ) (p : Performed) → stepped (lent head plan keys (turned cells p .cells) status seats frames) w c (concluded v saved (turned cells p .cells) (performedOf (turned cells p .turn) (turned cells p .cells)))
+      ≡ stepped run w c (concluded v saved cells p)
+  unfolding concluded stepped
+  stands-settled v saved broken = refl
+  stands-settled v saved (onward place count regs after) = refl
+  stands-settled v saved (ending outcome count) = refl
 
-  pub record-stepped : (call : Call) {seat : Seat} {t : Turn} {after : List ℤ} → seat ≡ seatOf head w
-      → StandsForStep t after cells (stepCall (viewIn block plan keys c call) (localIn seat (workerSaved plan saved w c)) cells)
-      → settledRun head plan keys after status saved w c t ≡ stepped run w c (stepCall (viewOf block run c call) (localOf run w c) cells)
-  record-stepped call e p =
-      let own = p ∙ ap (λ (s : Seat). turned cells (stepCall (viewIn block plan keys c call) (localIn s (workerSaved plan saved w c)) cells)) e in
-      ap (λ (x : TurnWithCells). settledRun head plan keys (x .cells) status saved w c (x .turn)) own
-      ∙ settled-run (stepCall (viewOf block run c call) (localOf run w c) cells)
+  pub place-settled : (call : Call) {place count : ℕ} {regs : List ℤ} {t : Turn} {after : List ℤ} → place ≡ placeIn seats w → count ≡ countIn seats w → regs ≡ regsIn frames w
+      → StandsForPlace t after cells (stepPlace (viewIn block plan keys c call) place count regs cells)
+      → turnSettled head plan keys after status seats frames w c t ≡ stepped run w c (stepCall (viewOf block run c call) (localOf run w c) cells)
+  unfolding stepCall
+  place-settled call e f g p =
+      let here : Performed = stepPlace (viewIn block plan keys c call) (placeIn seats w) (countIn seats w) (regsIn frames w) cells in
+      let own : StandsForPlace _ _ cells here = rw (e, f, g) at p in
+      ap (λ (x : TurnWithCells). turnSettled head plan keys (x .cells) status seats frames w c (x .turn)) own
+      ∙ stands-settled (cellView plan keys c) (workerSaved plan frames w c) here
+      ∙ ap (stepped run w c) (concluded-view block plan keys c call (workerSaved plan frames w c) cells here)
 
   -- A step behind the tests of the seat, with the first call record at a place; and behind those of the record.
   abbrev behindSeat : ℕ → Moved
   behindSeat first =
-      if ltb (length block) (first + 34 * c + 34)
+      if ltb (length block) (first + callRecordBytes * c + callRecordBytes)
       then stay run Damaged
-      else stepRecord block run w c (callOf (drop (first + 34 * c + 4) block))
+      else stepRecord block run w c (callOf (drop (first + callRecordBytes * c + 4) block))
 
   abbrev badPlace : Bool
-  badPlace = ltb (maxCode + 1) (planWord plan c 1) || ltb (planWord plan c 1) (seatOf head w .place)
+  badPlace = ltb (maxCode + 1) (planWord plan c 1) || ltb (planWord plan c 1) (placeIn seats w)
 
   abbrev badCount : Bool
-  badCount = ltb maxCode (seatOf head w .count)
+  badCount = ltb maxCount (countIn seats w)
 
-  module _ {seat : Seat} {ok : Bool} (own : seat ≡ seatOf head w) (tested : ok ≡ inRange (planWord plan c 1) seat) where
-    same-test : ok ≡ inRange (planWord plan c 1) (seatOf head w)
-    same-test = tested ∙ ap (inRange (planWord plan c 1)) own
+  module _ {place count : ℕ} {ok : Bool} (placed : place ≡ placeIn seats w) (counted : count ≡ countIn seats w)
+      (tested : ok ≡ inRange (planWord plan c 1) (record { call = c; place = place; count = count })) where
+    same-test : ok ≡ inRange (planWord plan c 1) (record { call = c; place = placeIn seats w; count = countIn seats w })
+    same-test = rw (← placed, ← counted) tested
 
     pub held-unseated : ok ≡ false → stay run Damaged ≡ stepHeld block run w c
     unfolding stepHeld
     held-unseated = two-tests badPlace badCount ok (stay run Damaged) (behindSeat (head .«first_call»)) same-test
 
     module _ (seated : ok ≡ true) {first : ℕ} (starts : first ≡ head .«first_call»)
-        {there : Bool} (found : there ≡ not (ltb (length block) (first + 34 * c + 34))) where
+        {there : Bool} (found : there ≡ not (ltb (length block) (first + callRecordBytes * c + callRecordBytes))) where
       on-head : behindSeat (head .«first_call») ≡ stepHeld block run w c
       unfolding stepHeld
       on-head = both-passed badPlace badCount ok (stay run Damaged) (behindSeat (head .«first_call»)) same-test seated
@@ -177,23 +178,23 @@ module _ (head : Head) (block plan keys : List ℕ) (cells : List ℤ) (status :
       on-seat = ap behindSeat starts ∙ on-head
 
       pub held-cut : there ≡ false → stay run Damaged ≡ stepHeld block run w c
-      held-cut e = cut (ltb (length block) (first + 34 * c + 34)) (sym found ∙ e) ∙ on-seat
+      held-cut e = cut (ltb (length block) (first + callRecordBytes * c + callRecordBytes)) (sym found ∙ e) ∙ on-seat
         where
           cut : (t : Bool) → not t ≡ false
-              → stay run Damaged ≡ (if t then stay run Damaged else stepRecord block run w c (callOf (drop (first + 34 * c + 4) block)))
+              → stay run Damaged ≡ (if t then stay run Damaged else stepRecord block run w c (callOf (drop (first + callRecordBytes * c + 4) block)))
           cut true h = refl
           cut false h = let z : _≡_ {A = ℕ} 0 1 = cc in absurd (omega arith)
 
-      on-record : there ≡ true → stepRecord block run w c (callOf (drop (first + 34 * c + 4) block)) ≡ stepHeld block run w c
-      on-record e = whole (ltb (length block) (first + 34 * c + 34)) (sym found ∙ e) ∙ on-seat
+      on-record : there ≡ true → stepRecord block run w c (callOf (drop (first + callRecordBytes * c + 4) block)) ≡ stepHeld block run w c
+      on-record e = whole (ltb (length block) (first + callRecordBytes * c + callRecordBytes)) (sym found ∙ e) ∙ on-seat
         where
           whole : (t : Bool) → not t ≡ true
-              → stepRecord block run w c (callOf (drop (first + 34 * c + 4) block))
-              ≡ (if t then stay run Damaged else stepRecord block run w c (callOf (drop (first + 34 * c + 4) block)))
+              → stepRecord block run w c (callOf (drop (first + callRecordBytes * c + 4) block))
+              ≡ (if t then stay run Damaged else stepRecord block run w c (callOf (drop (first + callRecordBytes * c + 4) block)))
           whole true h = let z : _≡_ {A = ℕ} 0 1 = cc in absurd (omega arith)
           whole false h = refl
 
-      module _ (whole : there ≡ true) {body : CallBody} (read : body ≡ callOf (drop (first + 34 * c + 4) block)) where
+      module _ (whole : there ≡ true) {body : CallBody} (read : body ≡ callOf (drop (first + callRecordBytes * c + 4) block)) where
         pub held-broken : body ≡ OutOfRange → stay run Damaged ≡ stepHeld block run w c
         unfolding stepRecord
         held-broken e = ap (stepRecord block run w c) (sym e ∙ read) ∙ on-record whole
@@ -204,20 +205,58 @@ module _ (head : Head) (block plan keys : List ℕ) (cells : List ℤ) (status :
 
 -- ---- the held call
 
-module _ (head : Head) (block plan keys : List ℕ) (cells : List ℤ) (status : List ℕ) (saved : List ℤ) (w : ℕ) where
-  pub step-answered : {a : Answer} → answered a ≡ heldBy (lent head plan keys cells status saved) w
-      → moved a (lent head plan keys cells status saved) ≡ stepOf block (lent head plan keys cells status saved) w
+module _ (head : Head) (block plan keys : List ℕ) (cells : List ℤ) (status seats : List ℕ) (frames : List ℤ) (w : ℕ) where
+  pub step-answered : {a : Answer} → answered a ≡ heldBy (lent head plan keys cells status seats frames) w
+      → moved a (lent head plan keys cells status seats frames) ≡ stepOf block (lent head plan keys cells status seats frames) w
   unfolding stepFor
-  step-answered e = ap (stepFor block (lent head plan keys cells status saved) w) e
+  step-answered e = ap (stepFor block (lent head plan keys cells status seats frames) w) e
 
-  pub step-holds : {c : ℕ} {m : Moved} → holds c ≡ heldBy (lent head plan keys cells status saved) w → m ≡ stepHeld block (lent head plan keys cells status saved) w c
-      → m ≡ stepOf block (lent head plan keys cells status saved) w
+  pub step-holds : {c : ℕ} {m : Moved} → holds c ≡ heldBy (lent head plan keys cells status seats frames) w
+      → m ≡ stepHeld block (lent head plan keys cells status seats frames) w c → m ≡ stepOf block (lent head plan keys cells status seats frames) w
   unfolding stepFor
-  step-holds e p = p ∙ ap (stepFor block (lent head plan keys cells status saved) w) e
+  step-holds e p = p ∙ ap (stepFor block (lent head plan keys cells status seats frames) w) e
 
-  -- The turn settled on the worker's seat.
-  pub step-settled : (c : ℕ) {seat : Seat} (t : Turn) {after : List ℤ} {next : Seated} {left : List ℕ} {m : Moved} → seat ≡ seatOf head w
-      → _≡_ {A = Settled} (record { seated = next; status = left }) (settledBy seat status c t)
-      → settledRun head plan keys after status saved w c t ≡ m
-      → moved (next .answer) (lent (withSeat head w (next .seat)) plan keys after left saved) ≡ m
-  step-settled c {seat} t {after} own e p = ap (settledIn head plan keys after saved w) (e ∙ ap (λ (s : Seat). settledBy s status c t) own) ∙ p
+-- ---- what a turn leaves
+
+module _ (head : Head) (plan keys : List ℕ) (cells : List ℤ) (status seats : List ℕ) (frames : List ℤ) (w c : ℕ) {held : ℕ} (own : held ≡ heldAt head w) where
+  abbrev start : Run
+  start = lent head plan keys cells status seats frames
+
+  abbrev old : List ℤ
+  old = workerSaved plan frames w c
+
+  -- The end of a call.
+  module _ (outcome count : ℕ) where
+    abbrev finished-run : Moved
+    finished-run = stepped start w c (finish (cellView plan keys c) old outcome count cells)
+
+    pub end-damaged : thrown ≤ outcome → {n : ℕ} → n ≡ callKeyCount plan c → false ≡ restorable n (entriesOf plan c n)
+        → moved Damaged (lent (withHeld head w held) plan keys cells status seats frames) ≡ finished-run
+    unfolding stepped
+    end-damaged high n r = rw (held-kept head w own, finish-damaged (cellView plan keys c) old outcome count cells high (sym (rw (← n) r)))
+
+    pub end-restored : thrown ≤ outcome → {n : ℕ} → n ≡ callKeyCount plan c → true ≡ restorable n (entriesOf plan c n)
+        → {cells′ : List ℤ} {status′ : List ℕ} → cells′ ≡ restored (entriesOf plan c n) (savedIn frames w n) cells → status′ ≡ withReceipt status c outcome count
+        → moved Accepted (lent (withHeld head w 0) plan keys cells′ status′ seats frames) ≡ finished-run
+    unfolding stepped
+    end-restored high n r e f = rw (e, f, n, finish-restored (cellView plan keys c) old outcome count cells high (sym (rw (← n) r)))
+
+    pub end-kept : outcome < thrown → {status′ : List ℕ} → status′ ≡ withReceipt status c outcome count
+        → moved Accepted (lent (withHeld head w 0) plan keys cells status′ seats frames) ≡ finished-run
+    unfolding stepped
+    end-kept low f = rw (f, finish-kept (cellView plan keys c) old outcome count cells low)
+
+  -- A turn.
+  module _ (t : Turn) where
+    pub settle-broken : t .fate ≡ Broken → moved Damaged (lent (withHeld head w held) plan keys cells status seats frames) ≡ turnSettled head plan keys cells status seats frames w c t
+    unfolding concluded stepped
+    settle-broken e = rw (held-kept head w own, e)
+
+    pub settle-going : {place : ℕ} → t .fate ≡ Going place → {seats′ : List ℕ} {frames′ : List ℤ} → seats′ ≡ withSeat seats w place (t .count) → frames′ ≡ withRegs frames w (t .regs)
+        → moved Accepted (lent (withHeld head w held) plan keys cells status seats′ frames′) ≡ turnSettled head plan keys cells status seats frames w c t
+    unfolding concluded stepped
+    settle-going e s r = rw (held-kept head w own, e, s, r)
+
+    pub settle-over : {outcome : ℕ} → t .fate ≡ Over outcome → {m : Moved} → m ≡ finished-run outcome (t .count) → m ≡ turnSettled head plan keys cells status seats frames w c t
+    unfolding concluded
+    settle-over e p = p ∙ rw e

@@ -6,6 +6,7 @@ mod BeginLaws
 mod LookupCodeLaws
 mod ViewCodeLaws
 mod PerformLaws
+mod SeatLaws
 mod StepCodeLaws
 mod LentRunLaws
 mod CancelLaws

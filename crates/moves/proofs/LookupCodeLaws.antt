@@ -1,5 +1,5 @@
 -- The mathematics of the proofs of `lookup`, over plain variables: the words of a key, and the search among a call's entries.
-use mathlib.Core.Path.{_≡_, ap, _∙_}
+use mathlib.Core.Path.{_≡_, _∙_}
 use mathlib.Core.Bool.{true, false, _&&_, _||_, not}
 use mathlib.Core.List.{List, _∷_}
 use Prim.Native.Nat.{ℕ, _+_, _*_, _≤_, _<_}
@@ -12,7 +12,7 @@ use Rattle.block.specs.Limits.{maxCalls, maxCallKeys, maxKeys}
 use Rattle.footprint.specs.Plan.{planWords, highWord, lowWord, entryCell, entryReads, entryWrites}
 use Rattle.footprint.specs.Access.{Access}
 use Rattle.footprint.specs.declared.KeyUse.{KeyUse}
-use Rattle.machine.specs.Run.{planWord, hasKey}
+use Rattle.machine.specs.Run.{hasKey}
 use Rattle.machine.specs.Step.{findEntry}
 use Rattle.machine.specs.Moves.{callKeyCount}
 use Rattle.machine.specs.declared.Lookup.{Lookup}
@@ -59,19 +59,16 @@ module _ (plan keys : List ℕ) (c : ℕ) (a : Access) (n : ℕ) (own : n ≡ ca
     lookup-start = rw own (let h : callKeyCount plan c ≤ maxCallKeys = omega arith in rw (le-leb (callKeyCount plan c) maxCallKeys h))
 
     module _ (call : c < maxCalls) (long : maxCalls * planWords ≤ length plan) (k e : ℕ) where
-      entry : k < n → e ≡ planWord plan c (3 + k) → searchLeft k ≡ findEntry keys (e ∷ drop (k + 1) (take n (drop (planWords * c + 3) plan))) a
-      entry l w =
-          let here : getD plan (planWords * c + 3 + k) 0 ≡ getD plan (planWords * c + (3 + k)) 0 =
-          let same : planWords * c + 3 + k ≡ planWords * c + (3 + k) = omega arith in ap (λ (i : ℕ). getD plan i 0) same in
-          rw (part-some plan (planWords * c + 3) n (omega arith) 0 k l, w, here)
+      entry : k < n → e ≡ getD plan (planWords * c + 3 + k) 0 → searchLeft k ≡ findEntry keys (e ∷ drop (k + 1) (take n (drop (planWords * c + 3) plan))) a
+      entry l w = rw (part-some plan (planWords * c + 3) n (omega arith) 0 k l, w)
 
-      pub left-past : k < n → e ≡ planWord plan c (3 + k) → maxKeys ≤ entryCell e → searchLeft k ≡ NoCell
+      pub left-past : k < n → e ≡ getD plan (planWords * c + 3 + k) 0 → maxKeys ≤ entryCell e → searchLeft k ≡ NoCell
       left-past l w h = entry l w ∙ find-past keys e _ a h
 
-      pub left-here : k < n → e ≡ planWord plan c (3 + k) → entryCell e < maxKeys → hasKey keys (entryCell e) (a .key) ≡ true → searchLeft k ≡ keptBy e a
+      pub left-here : k < n → e ≡ getD plan (planWords * c + 3 + k) 0 → entryCell e < maxKeys → hasKey keys (entryCell e) (a .key) ≡ true → searchLeft k ≡ keptBy e a
       left-here l w h t = entry l w ∙ find-here keys e _ a h t
 
-      pub left-next : k < n → e ≡ planWord plan c (3 + k) → entryCell e < maxKeys → hasKey keys (entryCell e) (a .key) ≡ false → searchLeft k ≡ searchLeft (k + 1)
+      pub left-next : k < n → e ≡ getD plan (planWords * c + 3 + k) 0 → entryCell e < maxKeys → hasKey keys (entryCell e) (a .key) ≡ false → searchLeft k ≡ searchLeft (k + 1)
       left-next l w h t = entry l w ∙ find-next keys e _ a h t
 
     pub left-none : c < maxCalls → maxCalls * planWords ≤ length plan → (k : ℕ) → n ≤ k → searchLeft k ≡ NoCell

@@ -1,7 +1,7 @@
--- The mathematics of the proofs of `perform`, over plain variables: the ends of a step, and for each action the tests that lead to an end.
+-- The mathematics of the proofs of `perform`, over plain variables: the end of a call, and for each action the tests that lead to an end.
 use mathlib.Core.Path.{_≡_, refl, sym, ap, _∙_}
 use mathlib.Core.Bool.{Bool, true, false, _&&_, not, and-false}
-use mathlib.Core.List.{List, []}
+use mathlib.Core.List.{List}
 use Prim.Native.Nat.{ℕ, _+_, _*_, _/_, _%_, _^_, _-_, _≤_, _<_}
 use native.Mathlib.Omega.{arith}
 use borrow.Author.Tests.{le-ltb, lt-ltb}
@@ -19,23 +19,14 @@ use Rattle.block.proofs.Laws.{negative, not-negative}
 use Rattle.footprint.specs.Access.{Access}
 use Rattle.footprint.specs.declared.KeyUse.{KeyUse}
 use Rattle.footprint.specs.declared.Uses.{Uses}
-use Rattle.machine.specs.Step.{View, Local, Stepped, damaged, done, cellAt, restorable, restored, finish, loadCell, storeCell, depositCell, transferCells, perform, lookup}
+use Rattle.machine.specs.Step.{View, Performed, damaged, done, cellAt, restorable, restored, finish, loadCell, storeCell, depositCell, transferCells, perform, lookup}
 use Rattle.block.specs.Outcomes.{thrown}
 use Rattle.machine.specs.declared.Next.{Next}
 use Rattle.machine.specs.declared.Next.the-variants.{Go, End, Load, Store, Transfer}
 use Rattle.machine.specs.declared.Lookup.{Lookup}
 use Rattle.machine.specs.declared.Lookup.the-variants.{Cell, NoCell}
-use Rattle.moves.specs.Turn.{StandsForStep, accessOf, accessesOf, brokenTurn, cellView, going, actionLocal, lookupIn, over, turned, Payable, KeyWorded}
+use Rattle.moves.specs.Turn.{StandsForPlace, accessOf, accessesOf, brokenTurn, cellView, going, lookupIn, over, turned, Payable, KeyWorded}
 use Rattle.moves.specs.declared.Turn.{Turn}
-
--- ---- the ends of a step
-
-pub stays : {t : Turn} (cells : List ℤ) {s : Stepped} → t ≡ brokenTurn → s ≡ damaged → StandsForStep t cells cells s
-stays cells e f = rw (e, f)
-
-pub ends : {t : Turn} (before : List ℤ) {after : List ℤ} {s : Stepped} {outcome count : ℕ} {left : List ℤ} → t ≡ over outcome count → after ≡ left
-    → s ≡ done outcome count left → StandsForStep t after before s
-ends before e f g = rw (e, f, g)
 
 -- ---- a key's field
 
@@ -46,17 +37,17 @@ balance-words u h =
 
 -- ---- the end of a call
 
-module _ (v : View) (l : Local) (count outcome : ℕ) (cells : List ℤ) where
-  pub finish-kept : outcome < thrown → finish v l count outcome cells ≡ done outcome count cells
+module _ (v : View) (saved : List ℤ) (outcome count : ℕ) (cells : List ℤ) where
+  pub finish-kept : outcome < thrown → finish v saved outcome count cells ≡ done outcome count cells
   unfolding finish
   finish-kept h = rw (lt-ltb outcome thrown h)
 
   pub finish-restored : thrown ≤ outcome → restorable (v .count) (v .entries) ≡ true
-      → finish v l count outcome cells ≡ done outcome count (restored (v .entries) (l .saved) cells)
+      → finish v saved outcome count cells ≡ done outcome count (restored (v .entries) saved cells)
   unfolding finish
   finish-restored h e = rw (le-ltb outcome thrown h, e)
 
-  pub finish-damaged : thrown ≤ outcome → restorable (v .count) (v .entries) ≡ false → finish v l count outcome cells ≡ damaged
+  pub finish-damaged : thrown ≤ outcome → restorable (v .count) (v .entries) ≡ false → finish v saved outcome count cells ≡ damaged
   unfolding finish
   finish-damaged h e = rw (le-ltb outcome thrown h, e)
 
@@ -84,32 +75,32 @@ sign-test v f {balance} {whole} e h =
 -- ---- a load and a store
 
 module _ (place count : ℕ) (regs : List ℤ) (x : ℕ) (a : Access) (cells : List ℤ) {found : Lookup} {t : Turn} where
-  pub load-nowhere : found ≡ NoCell → t ≡ brokenTurn → (saved : List ℤ)
-      → StandsForStep t cells cells (loadCell (actionLocal place saved) count regs x a cells found)
+  pub load-nowhere : found ≡ NoCell → t ≡ brokenTurn
+      → StandsForPlace t cells cells (loadCell place count regs x a cells found)
   unfolding loadCell
-  load-nowhere e f saved = rw (e, f)
+  load-nowhere e f = rw (e, f)
 
   module _ (v : ℤ) (fits : SFits w64 v) {n : ℕ} {balance : Bool} (here : found ≡ Cell n) (at : v ≡ cellAt cells n) (known : balance ≡ isBalance (a .key)) where
-    pub load-damaged : (balance && ltZ (read v) (pos 0)) ≡ true → t ≡ brokenTurn → (saved : List ℤ)
-        → StandsForStep t cells cells (loadCell (actionLocal place saved) count regs x a cells found)
+    pub load-damaged : (balance && ltZ (read v) (pos 0)) ≡ true → t ≡ brokenTurn
+        → StandsForPlace t cells cells (loadCell place count regs x a cells found)
     unfolding loadCell
-    load-damaged e f saved = rw (f, here, ← at, sign-test v fits known e)
+    load-damaged e f = rw (f, here, ← at, sign-test v fits known e)
 
-    pub load-done : (balance && ltZ (read v) (pos 0)) ≡ false → {loaded : List ℤ} → loaded ≡ set regs x (read v) → t ≡ going (place + 1) count loaded → (saved : List ℤ)
-        → StandsForStep t cells cells (loadCell (actionLocal place saved) count regs x a cells found)
+    pub load-done : (balance && ltZ (read v) (pos 0)) ≡ false → {loaded : List ℤ} → loaded ≡ set regs x (read v) → t ≡ going (place + 1) count loaded
+        → StandsForPlace t cells cells (loadCell place count regs x a cells found)
     unfolding loadCell
-    load-done e l f saved = rw (f, l, read-back fits, here, ← at, sign-test v fits known e)
+    load-done e l f = rw (f, l, read-back fits, here, ← at, sign-test v fits known e)
 
 module _ (place count : ℕ) (regs : List ℤ) (value : ℤ) (cells : List ℤ) {found : Lookup} {t : Turn} where
-  pub store-nowhere : found ≡ NoCell → t ≡ brokenTurn → (saved : List ℤ)
-      → StandsForStep t cells cells (storeCell (actionLocal place saved) count regs value cells found)
+  pub store-nowhere : found ≡ NoCell → t ≡ brokenTurn
+      → StandsForPlace t cells cells (storeCell place count regs value cells found)
   unfolding storeCell
-  store-nowhere e f saved = rw (e, f)
+  store-nowhere e f = rw (e, f)
 
-  pub store-done : SFits w64 value → {n : ℕ} {after : List ℤ} → found ≡ Cell n → after ≡ set cells n (read value) → t ≡ going (place + 1) count regs → (saved : List ℤ)
-      → StandsForStep t after cells (storeCell (actionLocal place saved) count regs value cells found)
+  pub store-done : SFits w64 value → {n : ℕ} {after : List ℤ} → found ≡ Cell n → after ≡ set cells n (read value) → t ≡ going (place + 1) count regs
+      → StandsForPlace t after cells (storeCell place count regs value cells found)
   unfolding storeCell
-  store-done fits e a f saved = rw (e, a, f, read-back fits)
+  store-done fits e a f = rw (e, a, f, read-back fits)
 
 -- ---- the second half of a transfer
 
@@ -153,68 +144,67 @@ pub from-fits : {held amount : ℤ} → SFits w64 held → SFits w64 amount → 
 from-fits f g nonneg e = rw (read-back f, read-back g) (rest-fits f g nonneg e)
 
 module _ (place count : ℕ) (regs : List ℤ) {amount : ℤ} (g : SFits w64 amount) (n m : ℕ) (cells : List ℤ) {there : ℤ} (f : SFits w64 there) (at : there ≡ cellAt cells m) {t : Turn} where
-  pub deposit-below : ltZ (read there) (pos 0) ≡ true → t ≡ brokenTurn → (saved : List ℤ)
-      → StandsForStep t cells cells (depositCell (actionLocal place saved) count regs amount n cells (Cell m))
+  pub deposit-below : ltZ (read there) (pos 0) ≡ true → t ≡ brokenTurn
+      → StandsForPlace t cells cells (depositCell place count regs amount n cells (Cell m))
   unfolding depositCell
-  deposit-below e b saved = rw (b, ← at, read-below f e)
+  deposit-below e b = rw (b, ← at, read-below f e)
 
-  pub deposit-full : ltZ (read there) (pos 0) ≡ false → ltZ (read (largest -ℤ read there)) (read amount) ≡ true → t ≡ brokenTurn → (saved : List ℤ)
-      → StandsForStep t cells cells (depositCell (actionLocal place saved) count regs amount n cells (Cell m))
+  pub deposit-full : ltZ (read there) (pos 0) ≡ false → ltZ (read (largest -ℤ read there)) (read amount) ≡ true → t ≡ brokenTurn
+      → StandsForPlace t cells cells (depositCell place count regs amount n cells (Cell m))
   unfolding depositCell
-  deposit-full e r b saved = rw (b, ← at, no-room f e g r, and-false (nonNeg there))
+  deposit-full e r b = rw (b, ← at, no-room f e g r, and-false (nonNeg there))
 
   pub deposit-done : ltZ (read there) (pos 0) ≡ false → ltZ (read (largest -ℤ read there)) (read amount) ≡ false → nonNeg amount ≡ true
       → {held : ℤ} → SFits w64 held → held ≡ cellAt cells n → ltZ held amount ≡ false → {mid after : List ℤ}
-      → mid ≡ set cells n (read (read held -ℤ read amount)) → after ≡ set mid m (read (read there +ℤ read amount)) → t ≡ going (place + 1) count regs → (saved : List ℤ)
-      → StandsForStep t after cells (depositCell (actionLocal place saved) count regs amount n cells (Cell m))
+      → mid ≡ set cells n (read (read held -ℤ read amount)) → after ≡ set mid m (read (read there +ℤ read amount)) → t ≡ going (place + 1) count regs
+      → StandsForPlace t after cells (depositCell place count regs amount n cells (Cell m))
   unfolding depositCell
-  deposit-done e r nonneg {held} h from holds p q b saved =
+  deposit-done e r nonneg {held} h from holds p q b =
       let paid : read (read held -ℤ read amount) ≡ held -ℤ amount = read-back (from-fits h g nonneg holds) ∙ rw (read-back h, read-back g) in
       let taken : read (read there +ℤ read amount) ≡ there +ℤ amount = read-back (into-fits f e g nonneg r) ∙ rw (read-back f, read-back g) in
       rw (b, q, p, paid, taken, ← at, ← from, read-above f e, has-room f e g r)
 
 -- ---- the whole of a transfer
 
-pub deposit-nowhere : (place count : ℕ) (regs : List ℤ) (amount : ℤ) (n : ℕ) (cells : List ℤ) {found : Lookup} {t : Turn} → found ≡ NoCell → t ≡ brokenTurn → (saved : List ℤ)
-    → StandsForStep t cells cells (depositCell (actionLocal place saved) count regs amount n cells found)
+pub deposit-nowhere : (place count : ℕ) (regs : List ℤ) (amount : ℤ) (n : ℕ) (cells : List ℤ) {found : Lookup} {t : Turn} → found ≡ NoCell → t ≡ brokenTurn
+    → StandsForPlace t cells cells (depositCell place count regs amount n cells found)
 unfolding depositCell
-deposit-nowhere place count regs amount n cells e f saved = rw (e, f)
+deposit-nowhere place count regs amount n cells e f = rw (e, f)
 
 pub deposit-found : (place count : ℕ) (regs : List ℤ) {amount : ℤ} → SFits w64 amount → (n : ℕ) (cells : List ℤ) {found : Lookup} (m : ℕ) {t : Turn} {after : List ℤ} → found ≡ Cell m
-    → ((saved : List ℤ) → StandsForStep t after cells (depositCell (actionLocal place saved) count regs (read amount) n cells (Cell m)))
-    → (saved : List ℤ) → StandsForStep t after cells (depositCell (actionLocal place saved) count regs amount n cells found)
-deposit-found place count regs {amount} g n cells m e p saved =
-    p saved ∙ ap (λ (x : ℤ). turned cells (depositCell (actionLocal place saved) count regs x n cells (Cell m))) (read-back g)
-    ∙ sym (ap (λ (x : Lookup). turned cells (depositCell (actionLocal place saved) count regs amount n cells x)) e)
+    → StandsForPlace t after cells (depositCell place count regs (read amount) n cells (Cell m))
+    → StandsForPlace t after cells (depositCell place count regs amount n cells found)
+deposit-found place count regs {amount} g n cells m e p =
+    p ∙ ap (λ (x : ℤ). turned cells (depositCell place count regs x n cells (Cell m))) (read-back g)
+    ∙ sym (ap (λ (x : Lookup). turned cells (depositCell place count regs amount n cells x)) e)
 
-module _ (plan keys : List ℕ) (c place : ℕ) (saved : List ℤ) (count : ℕ) (regs : List ℤ) {amount : ℤ} (g : SFits w64 amount) (short : ℕ) (to : Access) (cells : List ℤ) where
-  abbrev transferred : Lookup → Stepped
-  transferred = transferCells (cellView plan keys c) (actionLocal place saved) count regs amount short to cells
+module _ (plan keys : List ℕ) (c place count : ℕ) (regs : List ℤ) {amount : ℤ} (g : SFits w64 amount) (short : ℕ) (to : Access) (cells : List ℤ) where
+  abbrev transferred : Lookup → Performed
+  transferred = transferCells (cellView plan keys c) place count regs amount short to cells
 
   module _ {found : Lookup} {t : Turn} where
-    pub transfer-nowhere : found ≡ NoCell → t ≡ brokenTurn → StandsForStep t cells cells (transferred found)
+    pub transfer-nowhere : found ≡ NoCell → t ≡ brokenTurn → StandsForPlace t cells cells (transferred found)
     unfolding transferCells
     transfer-nowhere e f = rw (e, f)
 
     module _ {n : ℕ} (here : found ≡ Cell n) {held : ℤ} (f : SFits w64 held) (at : held ≡ cellAt cells n) where
-      pub transfer-below : ltZ (read held) (pos 0) ≡ true → t ≡ brokenTurn → StandsForStep t cells cells (transferred found)
+      pub transfer-below : ltZ (read held) (pos 0) ≡ true → t ≡ brokenTurn → StandsForPlace t cells cells (transferred found)
       unfolding transferCells
       transfer-below e b = rw (b, here, ← at, read-below f e)
 
       module _ (above : ltZ (read held) (pos 0) ≡ false) {after : List ℤ} where
-        pub transfer-short-turn : ltZ (read held) (read amount) ≡ true
-            → StandsForStep t after cells (finish (cellView plan [] c) (actionLocal 0 saved) count short cells)
-            → StandsForStep t after cells (transferred found)
-        unfolding transferCells finish
-        transfer-short-turn e p = rw (here, ← at, read-above f above, read-less f g e) p
+        pub transfer-short-turn : ltZ (read held) (read amount) ≡ true → t ≡ over short count → after ≡ cells
+            → StandsForPlace t after cells (transferred found)
+        unfolding transferCells
+        transfer-short-turn e o a = rw (o, a, here, ← at, read-above f above, read-less f g e)
 
         pub transfer-enough : ltZ (read held) (read amount) ≡ false
-            → ((old : List ℤ) → StandsForStep t after cells (depositCell (actionLocal place old) count regs (read amount) n cells (lookupIn plan keys c to)))
-            → StandsForStep t after cells (transferred found)
+            → StandsForPlace t after cells (depositCell place count regs (read amount) n cells (lookupIn plan keys c to))
+            → StandsForPlace t after cells (transferred found)
         unfolding transferCells lookup
         transfer-enough e p =
             rw (here, ← at, read-above f above, read-less f g e)
-            (p saved ∙ ap (λ (x : ℤ). turned cells (depositCell (actionLocal place saved) count regs x n cells (lookupIn plan keys c to))) (read-back g))
+            (p ∙ ap (λ (x : ℤ). turned cells (depositCell place count regs x n cells (lookupIn plan keys c to))) (read-back g))
 
 -- The first cell holds enough.
 pub enough : {held : ℤ} (amount : ℤ) {x : ℤ} {b : Bool} → SFits w64 held → held ≡ x → ltZ (read held) (read amount) ≡ b → ltZ x (read amount) ≡ b
@@ -228,40 +218,38 @@ still-nonneg f e = rw (read-back f) e
 pub payable : {next : Next} {amount : ℤ} {short : ℕ} → next ≡ Transfer amount short → Payable next → nonNeg amount ≡ true
 payable e p = rw e at p
 
-module _ (plan keys : List ℕ) (c place : ℕ) (saved : List ℤ) (count : ℕ) (us : Uses) (regs : List ℤ) (cells : List ℤ) where
-  abbrev performed : Next → Stepped
-  performed next = perform (cellView plan keys c) (actionLocal place saved) count (accessesOf us) regs next cells
+module _ (plan keys : List ℕ) (c place count : ℕ) (us : Uses) (regs : List ℤ) (cells : List ℤ) where
+  abbrev performed : Next → Performed
+  performed next = perform (cellView plan keys c) place count (accessesOf us) regs next cells
 
   module _ {next : Next} {t : Turn} {after : List ℤ} where
-    pub perform-go : {to : ℕ} → next ≡ Go to → t ≡ going to count regs → after ≡ cells → StandsForStep t after cells (performed next)
+    pub perform-go : {to : ℕ} → next ≡ Go to → t ≡ going to count regs → after ≡ cells → StandsForPlace t after cells (performed next)
     unfolding perform
     perform-go e f a = rw (e, f, a)
 
-    pub perform-end : {outcome : ℕ} → next ≡ End outcome
-        → StandsForStep t after cells (finish (cellView plan [] c) (actionLocal 0 saved) count outcome cells)
-        → StandsForStep t after cells (performed next)
-    unfolding perform finish
-    perform-end e p = rw e p
+    pub perform-end : {outcome : ℕ} → next ≡ End outcome → t ≡ over outcome count → after ≡ cells → StandsForPlace t after cells (performed next)
+    unfolding perform
+    perform-end e f a = rw (e, f, a)
 
     pub perform-load : {x : ℕ} → next ≡ Load x
-        → ((old : List ℤ) → StandsForStep t after cells (loadCell (actionLocal place old) count regs x (accessOf (us .first)) cells (lookupIn plan keys c (accessOf (us .first)))))
-        → StandsForStep t after cells (performed next)
+        → StandsForPlace t after cells (loadCell place count regs x (accessOf (us .first)) cells (lookupIn plan keys c (accessOf (us .first))))
+        → StandsForPlace t after cells (performed next)
     unfolding perform lookup
-    perform-load e p = rw e (p saved)
+    perform-load e p = rw e p
 
     pub perform-store : {v : ℤ} → SFits w64 v → next ≡ Store v
-        → ((old : List ℤ) → StandsForStep t after cells (storeCell (actionLocal place old) count regs (read v) cells (lookupIn plan keys c (accessOf (us .first)))))
-        → StandsForStep t after cells (performed next)
+        → StandsForPlace t after cells (storeCell place count regs (read v) cells (lookupIn plan keys c (accessOf (us .first))))
+        → StandsForPlace t after cells (performed next)
     unfolding perform lookup
     perform-store f e p =
-        rw e (p saved ∙ ap (λ (x : ℤ). turned cells (storeCell (actionLocal place saved) count regs x cells (lookupIn plan keys c (accessOf (us .first))))) (read-back f))
+        rw e (p ∙ ap (λ (x : ℤ). turned cells (storeCell place count regs x cells (lookupIn plan keys c (accessOf (us .first))))) (read-back f))
 
     pub perform-transfer : {amount : ℤ} {short : ℕ} → SFits w64 amount → next ≡ Transfer amount short
-        → StandsForStep t after cells (transferCells (cellView plan keys c) (actionLocal place saved) count regs (read amount) short (accessOf (us .second)) cells (lookupIn plan keys c (accessOf (us .first))))
-        → StandsForStep t after cells (performed next)
+        → StandsForPlace t after cells (transferCells (cellView plan keys c) place count regs (read amount) short (accessOf (us .second)) cells (lookupIn plan keys c (accessOf (us .first))))
+        → StandsForPlace t after cells (performed next)
     unfolding perform lookup
     perform-transfer {short = short} f e p =
         rw e
         (p
-        ∙ ap (λ (x : ℤ). turned cells (transferCells (cellView plan keys c) (actionLocal place saved) count regs x short (accessOf (us .second)) cells (lookupIn plan keys c (accessOf (us .first)))))
+        ∙ ap (λ (x : ℤ). turned cells (transferCells (cellView plan keys c) place count regs x short (accessOf (us .second)) cells (lookupIn plan keys c (accessOf (us .first)))))
         (read-back f))

@@ -1,6 +1,8 @@
--- The mathematics of the proofs of `step` up to one turn of a call, over plain variables: the entry, the instruction in the block, and the place that decides.
+-- The mathematics of the proofs of `step` up to what a place comes to, over plain variables: the entry, the instruction in the block, the
+-- place that decides, and what is due there.
 use mathlib.Core.Path.{_≡_, sym, ap, _∙_}
-use mathlib.Core.List.{List}
+use mathlib.Core.Bool.{true, false}
+use mathlib.Core.List.{List, []}
 use Prim.Native.Nat.{ℕ, _+_, _-_, _*_, _≤_, _<_}
 use native.Mathlib.Omega.{arith}
 use borrow.Author.Tests.{eq-eqb, ne-eqb, le-leb, lt-leb}
@@ -10,6 +12,7 @@ use lib.Seq.{getD-take, getD-drop}
 use Rattle.wire.specs.Bytes.{readLe}
 use Rattle.wire.proofs.BytesLaws.{read-same}
 use Rattle.block.specs.Instruction.{decode, instrBytes}
+use Rattle.block.specs.Limits.{maxCode}
 use Rattle.block.specs.Record.{codeAt}
 use Rattle.block.specs.declared.Call.{Call}
 use Rattle.block.specs.declared.Decoded.{Decoded}
@@ -21,12 +24,12 @@ use Rattle.footprint.specs.declared.Uses.{Uses}
 use Rattle.machine.specs.Action.{entryAction, instrAction}
 use Rattle.block.specs.Outcomes.{ended, unknownFunction}
 use Rattle.machine.specs.Run.{planWord}
-use Rattle.machine.specs.Step.{perform, stepCall, stepDecoded, stepEntry, stepInstr}
+use Rattle.machine.specs.Step.{Performed, broken, perform, stepDecoded, stepEntry, stepInstr, stepPlace}
 use Rattle.machine.specs.declared.Action.{Action}
-use Rattle.machine.specs.declared.Seat.{Seat}
 use Rattle.action.specs.Acted.{actedOf, actionOf}
-use Rattle.moves.specs.Turn.{StandsForStep, accessesOf, brokenTurn, cellView, actionLocal, localIn, over, turned, viewIn, Payable, KeyWorded}
+use Rattle.moves.specs.Turn.{StandsForPlace, accessesOf, brokenTurn, cellView, dueDone, endDue, nothingDue, turned, viewIn, DueDoable, Payable, KeyWorded}
 use Rattle.action.specs.declared.Acted.{Acted}
+use Rattle.moves.specs.declared.Due.{Due}
 use Rattle.moves.specs.declared.Turn.{Turn}
 use Rattle.moves.proofs.ViewCodeLaws.{NextHasAccesses, entry-fits, first-worded, fitting-payable, instr-fits, perform-held, second-worded}
 
@@ -82,82 +85,109 @@ module _ (block : List ℕ) (start size index : ℕ) (inside : index < size) whe
   decode-in-code =
       rw (same-read 1 0 (omega arith), same-read 1 1 (omega arith), same-read 1 2 (omega arith), same-read 1 3 (omega arith), same-read 4 4 (omega arith))
 
--- ---- one turn of a call
+-- ---- what is due at a place
 
-module _ (block plan keys : List ℕ) (c : ℕ) (call : Call) (seat : Seat) (saved cells : List ℤ) {t : Turn} where
-  pub entry-unknown : {code : ℕ} → code ≡ planWord plan c 1 → code ≡ 0 → t ≡ over unknownFunction (seat .count)
-      → StandsForStep t cells cells (stepEntry (viewIn block plan keys c call) (localIn seat saved) cells)
-  unfolding stepEntry
+-- No use of a key is one that has its words.
+pub none-worded : KeyWorded (usesOf [] .first) × KeyWorded (usesOf [] .second)
+none-worded = (first-worded [], second-worded [])
+
+-- Nothing, or an end, can be done.
+pub nothing-doable : {place : ℕ} {d : Due} → d ≡ nothingDue → place ≤ maxCode + 1 → DueDoable place d
+nothing-doable e early = rw e (record { early = early; first = none-worded .0; second = none-worded .1; payable = tt })
+
+pub end-doable : {place outcome count : ℕ} {d : Due} → d ≡ endDue outcome count → place ≤ maxCode + 1 → DueDoable place d
+end-doable e early = rw e (record { early = early; first = none-worded .0; second = none-worded .1; payable = tt })
+
+module _ (block plan keys : List ℕ) (c : ℕ) (call : Call) (place count : ℕ) (regs cells : List ℤ) where
+  abbrev doneAt : Due → Performed
+  doneAt d = dueDone (cellView plan keys c) place d cells
+
+  pub entry-unknown : {d : Due} {code : ℕ} → code ≡ planWord plan c 1 → code ≡ 0 → d ≡ endDue unknownFunction count
+      → doneAt d ≡ stepEntry (viewIn block plan keys c call) place count regs cells
+  unfolding stepEntry perform
   entry-unknown w z e = rw (e, eq-eqb (planWord plan c 1) 0 (sym w ∙ z))
 
-  pub decoded-invalid : (d : Decoded) → d ≡ Invalid → t ≡ brokenTurn → StandsForStep t cells cells (stepDecoded (viewIn block plan keys c call) (localIn seat saved) cells d)
+  pub decoded-invalid : {d : Due} (x : Decoded) → x ≡ Invalid → d ≡ nothingDue → doneAt d ≡ stepDecoded (viewIn block plan keys c call) place count regs cells x
   unfolding stepDecoded
-  decoded-invalid d e b = rw (b, e)
+  decoded-invalid x e b = rw (b, e)
 
-  pub instr-outside : {start code : ℕ} → start ≡ planWord plan c 0 → code ≡ planWord plan c 1 → length block < start + 8 * (code - 1) → t ≡ brokenTurn
-      → StandsForStep t cells cells (stepInstr (viewIn block plan keys c call) (localIn seat saved) cells)
+  pub instr-outside : {d : Due} {start code : ℕ} → start ≡ planWord plan c 0 → code ≡ planWord plan c 1 → length block < start + 8 * (code - 1) → d ≡ nothingDue
+      → doneAt d ≡ stepInstr (viewIn block plan keys c call) place count regs cells
   unfolding stepInstr
   instr-outside e f h b =
       let short : length block < planWord plan c 0 + 8 * (planWord plan c 1 - 1) = rw (e, f) at h in
       rw (b, lt-leb (planWord plan c 0 + 8 * (planWord plan c 1 - 1)) (length block) short)
 
-  pub call-ended : (seat .place ≡ 0 → ⊥) → {code : ℕ} → code ≡ planWord plan c 1 → seat .place ≡ code → t ≡ over ended (seat .count)
-      → StandsForStep t cells cells (stepCall (viewIn block plan keys c call) (localIn seat saved) cells)
-  unfolding stepCall
-  call-ended some w e o = rw (o, ne-eqb (seat .place) 0 some, eq-eqb (seat .place) (planWord plan c 1) (e ∙ w))
+  pub call-ended : {d : Due} → (place ≡ 0 → ⊥) → {code : ℕ} → code ≡ planWord plan c 1 → place ≡ code → d ≡ endDue ended count
+      → doneAt d ≡ stepPlace (viewIn block plan keys c call) place count regs cells
+  unfolding stepPlace perform
+  call-ended some w e o = rw (o, ne-eqb place 0 some, eq-eqb place (planWord plan c 1) (e ∙ w))
 
-  module _ {after : List ℤ} where
-    -- An action that the code did stands for the definition's.
-    acted-stands : (count : ℕ) (as′ : List Access) (wanted : Action) → NextHasAccesses (wanted .next) as′ → {us : Uses} {a : Action} → us ≡ usesOf as′ → a ≡ wanted
-        → StandsForStep t after cells (perform (cellView plan keys c) (actionLocal (seat .place) saved) count (accessesOf us) (a .regs) (a .next) cells)
-        → StandsForStep t after cells (perform (viewIn block plan keys c call) (localIn seat saved) count as′ (wanted .regs) (wanted .next) cells)
-    acted-stands count as′ wanted fits u e p =
-        rw (perform-held (localIn seat saved) count (wanted .regs) cells block plan keys c call as′ (wanted .next) fits) (rw (u, e) at p)
+  -- An action that the code has stands for the definition's.
+  acted-stands : (count′ : ℕ) (as′ : List Access) (wanted : Action) → NextHasAccesses (wanted .next) as′ → {us : Uses} {a : Action} → us ≡ usesOf as′ → a ≡ wanted
+      → doneAt (record { sound = true; count = count′; uses = us; action = a }) ≡ perform (viewIn block plan keys c call) place count′ as′ (wanted .regs) (wanted .next) cells
+  acted-stands count′ as′ wanted fits u e =
+      rw (u, e, perform-held place count′ (wanted .regs) cells block plan keys c call as′ (wanted .next) fits)
 
-    pub entry-known : {code : ℕ} → code ≡ planWord plan c 1 → (code ≡ 0 → ⊥) → {us : Uses} {a : Action} → us ≡ usesOf (entryAccesses call) → a ≡ entryAction call (seat .regs)
-        → StandsForStep t after cells (perform (cellView plan keys c) (actionLocal (seat .place) saved) (seat .count) (accessesOf us) (a .regs) (a .next) cells)
-        → StandsForStep t after cells (stepEntry (viewIn block plan keys c call) (localIn seat saved) cells)
-    unfolding stepEntry
-    entry-known w n u e p =
-        rw (ne-eqb (planWord plan c 1) 0 (λ z. n (w ∙ z)))
-        (acted-stands (seat .count) (entryAccesses call) (entryAction call (seat .regs)) (entry-fits call (seat .regs)) u e p)
+  pub entry-known : {code : ℕ} → code ≡ planWord plan c 1 → (code ≡ 0 → ⊥) → {us : Uses} {a : Action} → us ≡ usesOf (entryAccesses call) → a ≡ entryAction call regs
+      → doneAt (record { sound = true; count = count; uses = us; action = a }) ≡ stepEntry (viewIn block plan keys c call) place count regs cells
+  unfolding stepEntry
+  entry-known w n u e =
+      rw (ne-eqb (planWord plan c 1) 0 (λ z. n (w ∙ z)))
+      (acted-stands count (entryAccesses call) (entryAction call regs) (entry-fits call regs) u e)
 
-    pub decoded-valid : 0 < seat .place → (d : Decoded) {acted : Acted} → acted ≡ actedOf call (seat .place - 1 + 1) (seat .regs) d → (i : Instr) → acted .decoded ≡ Valid i
-        → {us : Uses} → us ≡ usesOf (accesses call i)
-        → StandsForStep t after cells (perform (cellView plan keys c) (actionLocal (seat .place) saved) (seat .count + 1) (accessesOf us) (acted .action .regs) (acted .action .next) cells)
-        → StandsForStep t after cells (stepDecoded (viewIn block plan keys c call) (localIn seat saved) cells d)
-    unfolding stepDecoded
-    decoded-valid some d known i valid u p =
-        rw (acted-decoded call (seat .place) (seat .regs) d known i valid)
-        (acted-stands (seat .count + 1) (accesses call i) (instrAction call (seat .place) (seat .regs) i) (instr-fits call (seat .place) (seat .regs) i) u (acted-action call (seat .place) (seat .regs) d known i valid some) p)
+  pub decoded-valid : 0 < place → (x : Decoded) {acted : Acted} → acted ≡ actedOf call (place - 1 + 1) regs x → (i : Instr) → acted .decoded ≡ Valid i
+      → {us : Uses} → us ≡ usesOf (accesses call i)
+      → doneAt (record { sound = true; count = count + 1; uses = us; action = acted .action }) ≡ stepDecoded (viewIn block plan keys c call) place count regs cells x
+  unfolding stepDecoded
+  decoded-valid some x known i valid u =
+      rw (acted-decoded call place regs x known i valid)
+      (acted-stands (count + 1) (accesses call i) (instrAction call place regs i) (instr-fits call place regs i) u (acted-action call place regs x known i valid some))
 
-    pub instr-inside : {start code : ℕ} → start ≡ planWord plan c 0 → code ≡ planWord plan c 1 → start + 8 * (code - 1) ≤ length block → seat .place - 1 < code - 1
-        → {found : List ℕ} → found ≡ codeAt block start (code - 1)
-        → StandsForStep t after cells (stepDecoded (viewIn block plan keys c call) (localIn seat saved) cells (decode (seat .place - 1) (code - 1) (drop (instrBytes * (seat .place - 1)) found)))
-        → StandsForStep t after cells (stepInstr (viewIn block plan keys c call) (localIn seat saved) cells)
-    unfolding stepInstr
-    instr-inside {start} {code} e f h place {found} g p =
-        let from : ℕ = planWord plan c 0 in
-        let size : ℕ = planWord plan c 1 - 1 in
-        let fits : from + 8 * size ≤ length block = rw (e, f) at h in
-        let before : seat .place - 1 < size = rw f at place in
-        let same : code - 1 ≡ size = ap (λ (n : ℕ). n - 1) f in
-        let stretch : drop (instrBytes * (seat .place - 1)) found ≡ drop (instrBytes * (seat .place - 1)) (codeAt block from size) =
-        ap (drop (instrBytes * (seat .place - 1))) (g ∙ ap (λ (n : ℕ). codeAt block n (code - 1)) e ∙ ap (codeAt block from) same) in
-        let here : decode (seat .place - 1) (code - 1) (drop (instrBytes * (seat .place - 1)) found) ≡ decode (seat .place - 1) size (drop (from + instrBytes * (seat .place - 1)) block) =
-        ap (λ (n : ℕ). decode (seat .place - 1) n (drop (instrBytes * (seat .place - 1)) found)) same
-        ∙ ap (decode (seat .place - 1) size) stretch
-        ∙ decode-in-code block from size (seat .place - 1) before in
-        rw (le-leb (from + 8 * size) (length block) fits)
-        (p ∙ ap (λ (d : Decoded). turned cells (stepDecoded (viewIn block plan keys c call) (localIn seat saved) cells d)) here)
+  pub instr-inside : (d : Due) {start code : ℕ} → start ≡ planWord plan c 0 → code ≡ planWord plan c 1 → start + 8 * (code - 1) ≤ length block → place - 1 < code - 1
+      → {found : List ℕ} → found ≡ codeAt block start (code - 1)
+      → doneAt d ≡ stepDecoded (viewIn block plan keys c call) place count regs cells (decode (place - 1) (code - 1) (drop (instrBytes * (place - 1)) found))
+      → doneAt d ≡ stepInstr (viewIn block plan keys c call) place count regs cells
+  unfolding stepInstr
+  instr-inside d {start} {code} e f h early {found} g p =
+      let from : ℕ = planWord plan c 0 in
+      let size : ℕ = planWord plan c 1 - 1 in
+      let fits : from + 8 * size ≤ length block = rw (e, f) at h in
+      let before : place - 1 < size = rw f at early in
+      let same : code - 1 ≡ size = ap (λ (n : ℕ). n - 1) f in
+      let stretch : drop (instrBytes * (place - 1)) found ≡ drop (instrBytes * (place - 1)) (codeAt block from size) =
+      ap (drop (instrBytes * (place - 1))) (g ∙ ap (λ (n : ℕ). codeAt block n (code - 1)) e ∙ ap (codeAt block from) same) in
+      let here : decode (place - 1) (code - 1) (drop (instrBytes * (place - 1)) found) ≡ decode (place - 1) size (drop (from + instrBytes * (place - 1)) block) =
+      ap (λ (n : ℕ). decode (place - 1) n (drop (instrBytes * (place - 1)) found)) same
+      ∙ ap (decode (place - 1) size) stretch
+      ∙ decode-in-code block from size (place - 1) before in
+      rw (le-leb (from + 8 * size) (length block) fits)
+      (p ∙ ap (stepDecoded (viewIn block plan keys c call) place count regs cells) here)
 
-    pub call-entry : seat .place ≡ 0 → StandsForStep t after cells (stepEntry (viewIn block plan keys c call) (localIn seat saved) cells)
-        → StandsForStep t after cells (stepCall (viewIn block plan keys c call) (localIn seat saved) cells)
-    unfolding stepCall
-    call-entry e p = rw (eq-eqb (seat .place) 0 e) p
+  pub place-entry : (d : Due) → place ≡ 0 → doneAt d ≡ stepEntry (viewIn block plan keys c call) place count regs cells
+      → doneAt d ≡ stepPlace (viewIn block plan keys c call) place count regs cells
+  unfolding stepPlace
+  place-entry d e p = rw (eq-eqb place 0 e) p
 
-    pub call-instr : (seat .place ≡ 0 → ⊥) → {code : ℕ} → code ≡ planWord plan c 1 → (seat .place ≡ code → ⊥)
-        → StandsForStep t after cells (stepInstr (viewIn block plan keys c call) (localIn seat saved) cells)
-        → StandsForStep t after cells (stepCall (viewIn block plan keys c call) (localIn seat saved) cells)
-    unfolding stepCall
-    call-instr some w n p = rw (ne-eqb (seat .place) 0 some, ne-eqb (seat .place) (planWord plan c 1) (λ z. n (z ∙ sym w))) p
+  pub place-instr : (d : Due) → (place ≡ 0 → ⊥) → {code : ℕ} → code ≡ planWord plan c 1 → (place ≡ code → ⊥)
+      → doneAt d ≡ stepInstr (viewIn block plan keys c call) place count regs cells
+      → doneAt d ≡ stepPlace (viewIn block plan keys c call) place count regs cells
+  unfolding stepPlace
+  place-instr d some w n p = rw (ne-eqb place 0 some, ne-eqb place (planWord plan c 1) (λ z. n (z ∙ sym w))) p
+
+  -- ---- what is due, done
+
+  unsound : (d : Due) → d .sound ≡ false → doneAt d ≡ broken
+  unsound d e = rw e
+
+  sound : (d : Due) → d .sound ≡ true → doneAt d ≡ perform (cellView plan keys c) place (d .count) (accessesOf (d .uses)) (d .action .regs) (d .action .next) cells
+  sound d e = rw e
+
+  module _ (d : Due) (known : doneAt d ≡ stepPlace (viewIn block plan keys c call) place count regs cells) {t : Turn} where
+    pub due-none : d .sound ≡ false → t ≡ brokenTurn → StandsForPlace t cells cells (stepPlace (viewIn block plan keys c call) place count regs cells)
+    due-none e b = rw b (ap (turned cells) (sym (unsound d e) ∙ known))
+
+    pub due-done : {after : List ℤ} → d .sound ≡ true
+        → StandsForPlace t after cells (perform (cellView plan keys c) place (d .count) (accessesOf (d .uses)) (d .action .regs) (d .action .next) cells)
+        → StandsForPlace t after cells (stepPlace (viewIn block plan keys c call) place count regs cells)
+    due-done e p = p ∙ ap (turned cells) (sym (sound d e) ∙ known)

@@ -1,4 +1,4 @@
--- A step's actions against what the code holds: the accesses as words of keys, and what an action looks at of the view and the local state.
+-- A step's actions against what the code holds: the accesses as words of keys, and what an action looks at of the view.
 use mathlib.Core.Path.{_≡_, refl}
 use mathlib.Core.Bool.{Bool, true, false}
 use mathlib.Core.List.{List, [], _∷_}
@@ -20,12 +20,12 @@ use Rattle.footprint.specs.Access.{Access, accesses, entryAccesses, payAccesses
 use Rattle.block.specs.Naming.{targetOf}
 use Rattle.footprint.specs.Uses.{useOf, usesOf}
 use Rattle.machine.specs.Action.{checkedAction, payAction, instrAction, entryAction}
-use Rattle.machine.specs.Step.{Local, accessAt, depositCell, finish, loadCell, lookup, perform, storeCell, transferCells}
+use Rattle.machine.specs.Step.{accessAt, lookup, perform, transferCells}
 use Rattle.machine.specs.declared.Next.{Next}
 use Rattle.machine.specs.declared.Next.the-variants.{Go, End, Load, Store, Transfer}
 use Rattle.machine.specs.declared.Lookup.{Lookup}
 use Rattle.machine.specs.declared.Lookup.the-variants.{Cell, NoCell}
-use Rattle.moves.specs.Turn.{accessOf, accessesOf, cellView, actionLocal, viewIn, Payable, KeyWorded}
+use Rattle.moves.specs.Turn.{accessOf, accessesOf, cellView, viewIn, Payable, KeyWorded}
 
 -- ---- accesses and their words
 
@@ -125,44 +125,24 @@ entry-fits c regs = go (ltZ (pos 0) (c .value)) refl
 
 -- ---- what an action looks at
 
--- Of the local state, its place and its old values.
-module _ (l : Local) (count : ℕ) (regs : List ℤ) (cells : List ℤ) where
-  abbrev short-local : Local
-  short-local = actionLocal (l .place) (l .saved)
+-- Of the view, its entries and keys.
+module _ (place count : ℕ) (regs : List ℤ) (cells : List ℤ) (block plan keys : List ℕ) (c : ℕ) (call : Call) where
+  transfer-view : (amount : ℤ) (short : ℕ) (to : Access) (found : Lookup)
+      → transferCells (viewIn block plan keys c call) place count regs amount short to cells found
+      ≡ transferCells (cellView plan keys c) place count regs amount short to cells found
+  unfolding transferCells lookup
+  transfer-view amount short to NoCell = refl
+  transfer-view amount short to (Cell n) = refl
 
-  load-local : (x : ℕ) (a : Access) (found : Lookup) → loadCell l count regs x a cells found ≡ loadCell short-local count regs x a cells found
-  unfolding loadCell
-  load-local x a NoCell = refl
-  load-local x a (Cell n) = refl
-
-  store-local : (v : ℤ) (found : Lookup) → storeCell l count regs v cells found ≡ storeCell short-local count regs v cells found
-  unfolding storeCell
-  store-local v NoCell = refl
-  store-local v (Cell n) = refl
-
-  deposit-local : (amount : ℤ) (n : ℕ) (found : Lookup) → depositCell l count regs amount n cells found ≡ depositCell short-local count regs amount n cells found
-  unfolding depositCell
-  deposit-local amount n NoCell = refl
-  deposit-local amount n (Cell m) = refl
-
-  -- Of the view, its entries and keys.
-  module _ (block plan keys : List ℕ) (c : ℕ) (call : Call) where
-    transfer-local : (amount : ℤ) (short : ℕ) (to : Access) (found : Lookup)
-        → transferCells (viewIn block plan keys c call) l count regs amount short to cells found
-        ≡ transferCells (cellView plan keys c) short-local count regs amount short to cells found
-    unfolding transferCells finish lookup
-    transfer-local amount short to NoCell = refl
-    transfer-local amount short to (Cell n) = rw (deposit-local amount n (lookup (viewIn block plan keys c call) to))
-
-    pub perform-held : (as′ : List Access) (next : Next) → NextHasAccesses next as′
-        → perform (viewIn block plan keys c call) l count as′ regs next cells
-        ≡ perform (cellView plan keys c) short-local count (accessesOf (usesOf as′)) regs next cells
-    unfolding perform finish lookup
-    perform-held as′ (Go place) f = refl
-    perform-held as′ (End outcome) f = refl
-    perform-held as′ (Load x) f = rw (first-access as′ f) (load-local x (accessAt as′ 0) (lookup (cellView plan keys c) (accessAt as′ 0)))
-    perform-held as′ (Store v) f = rw (first-access as′ f) (store-local v (lookup (cellView plan keys c) (accessAt as′ 0)))
-    perform-held as′ (Transfer amount short) f =
-        let one : 1 ≤ length as′ = omega (arith, f .1) in
-        rw (first-access as′ one, second-access as′ (f .1))
-        (transfer-local amount short (accessAt as′ 1) (lookup (cellView plan keys c) (accessAt as′ 0)))
+  pub perform-held : (as′ : List Access) (next : Next) → NextHasAccesses next as′
+      → perform (viewIn block plan keys c call) place count as′ regs next cells
+      ≡ perform (cellView plan keys c) place count (accessesOf (usesOf as′)) regs next cells
+  unfolding perform lookup
+  perform-held as′ (Go to) f = refl
+  perform-held as′ (End outcome) f = refl
+  perform-held as′ (Load x) f = rw (first-access as′ f)
+  perform-held as′ (Store v) f = rw (first-access as′ f)
+  perform-held as′ (Transfer amount short) f =
+      let one : 1 ≤ length as′ = omega (arith, f .1) in
+      rw (first-access as′ one, second-access as′ (f .1))
+      (transfer-view amount short (accessAt as′ 1) (lookup (cellView plan keys c) (accessAt as′ 0)))

@@ -1,4 +1,4 @@
--- What STEP and CANCEL test of the worker's seat, in the type of their definition, and what is known of the held call.
+-- What STEP and CANCEL test of what the worker holds, in the type of their definition, and what is known of the held call.
 use mathlib.Core.Bool.{_||_}
 use Prim.Native.Nat.{ℕ, _-_, _<_}
 use lib.Dec.{eqb, ltb}
@@ -13,7 +13,7 @@ abbrev pub asHeld : Holding → definition.Held
 asHeld (Answered a) = definition.answered a
 asHeld (Holds call) = definition.holds call
 
--- What is held, from the number of calls and the seat's entry.
+-- What is held, from the number of calls and what the head has for the worker.
 abbrev pub heldFrom : ℕ → ℕ → definition.Held
 heldFrom calls call =
     if eqb call 0

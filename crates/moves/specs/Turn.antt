@@ -1,6 +1,6 @@
--- What the functions of a step hold and answer, beside the definitions of a step: the view and the local state from the lent buffers, an
--- access from its two words, and the turn that stands for a step.
-use mathlib.Core.Bool.{true}
+-- What the functions of a step hold and answer, beside the definitions of a step: the view from the lent buffers, an access from its two
+-- words, what is due at a place, and the turn that stands for what the place comes to.
+use mathlib.Core.Bool.{true, false}
 use mathlib.Core.Path.{_≡_}
 use mathlib.Core.List.{List, [], _∷_}
 use Prim.Native.Nat.{ℕ, _+_, _*_, _^_, _≤_, _<_}
@@ -9,24 +9,25 @@ use lib.Dec.{leb}
 use lib.Signed.{nonNeg}
 use lib.ListN.{length}
 use Rattle.arith.specs.Choice.{if_then_else_}
-use Rattle.block.specs.Limits.{maxCalls, maxCallKeys, maxWorkers, maxCode}
+use Rattle.block.specs.Limits.{maxCalls, maxCallKeys, maxCode, maxKeys, maxWorkers}
+use Rattle.block.specs.Outcomes.{maxCount}
 use Rattle.block.specs.declared.Call.{Call}
 use Rattle.footprint.specs.Access.{Access}
-use Rattle.footprint.specs.Plan.{planWords, codeStart, codeLength}
+use Rattle.footprint.specs.Plan.{planWords, keyWords, codeStart, codeLength}
+use Rattle.footprint.specs.Uses.{usesOf}
 use Rattle.footprint.specs.declared.KeyUse.{KeyUse}
 use Rattle.footprint.specs.declared.Uses.{Uses}
-use Rattle.machine.specs.Run.{planWord, zeroRegisters, seatOf, withSeat, idleSeat, withReceipt}
-use Rattle.machine.specs.Step.{View, Local, Stepped, damaged, more, done, findEntry}
-use Rattle.machine.specs.Moves.{Moved, callKeyCount, ownEntries, savedIn}
-use Rattle.machine.specs.declared.Seat.{Seat}
+use Rattle.machine.specs.Run.{frameValues, planWord, savedIn, zeroRegisters}
+use Rattle.machine.specs.Step.{View, Performed, broken, onward, ending, concluded, findEntry, perform}
+use Rattle.machine.specs.Moves.{Moved, callKeyCount, ownEntries, stepped}
 use Rattle.machine.specs.declared.Head.{Head}
-use Rattle.machine.specs.declared.Answer.the-variants.{Accepted, Damaged}
 use Rattle.machine.specs.declared.Next.{Next}
 use Rattle.machine.specs.declared.Next.the-variants.{Go, End, Load, Store, Transfer}
 use Rattle.machine.specs.declared.Lookup.{Lookup}
 use Rattle.machine.specs.declared.Lookup.the-variants.{NoCell}
-use Rattle.moves.specs.Lent.{lent, moved}
-use Rattle.moves.specs.declared.Seated.{Seated}
+use Rattle.moves.specs.Lent.{lent}
+use Rattle.moves.specs.declared.Due.{Due}
+use Rattle.moves.specs.declared.Site.{Site}
 use Rattle.moves.specs.declared.Turn.{Turn}
 use Rattle.moves.specs.declared.Fate.{Fate}
 use Rattle.moves.specs.declared.Fate.the-variants.{Broken, Going, Over}
@@ -63,15 +64,7 @@ cellView plan keys call = viewIn [] plan keys call noCall
 
 -- The old values that a worker keeps for its call.
 abbrev pub workerSaved : List ℕ → List ℤ → ℕ → ℕ → List ℤ
-workerSaved plan saved worker call = savedIn saved worker (callKeyCount plan call)
-
--- The local state of a call from its worker's seat.
-abbrev pub localIn : Seat → List ℤ → Local
-localIn s saved = record { place = s .place; count = s .count; regs = s .regs; saved = saved }
-
--- What an action needs of it.
-abbrev pub actionLocal : ℕ → List ℤ → Local
-actionLocal place saved = record { place = place; count = 0; regs = []; saved = saved }
+workerSaved plan frames worker call = savedIn frames worker (callKeyCount plan call)
 
 -- An access from the words of its key.
 abbrev pub accessOf : KeyUse → Access
@@ -84,18 +77,23 @@ accessesOf us = accessOf (us .first) ∷ accessOf (us .second) ∷ []
 abbrev pub lookupIn : List ℕ → List ℕ → ℕ → Access → Lookup
 lookupIn plan keys call a = if leb (callKeyCount plan call) maxCallKeys then findEntry keys (ownEntries plan call) a else NoCell
 
--- Plan and old values have their fixed sizes, and worker and call are in their ranges: what a move has tested before it uses an entry.
-pub record Ready (plan : List ℕ) (saved : List ℤ) (w c : ℕ) : Type 0 where
+-- Plan and keys have their fixed sizes, and the call is in its range: what a move has tested before it uses an entry.
+pub record EntriesReady (plan keys : List ℕ) (call : ℕ) : Type 0 where
   pub plans : maxCalls * planWords ≤ length plan
-  pub kept : maxWorkers * maxCallKeys ≤ length saved
-  pub worker : w < maxWorkers
-  pub call : c < maxCalls
+  pub keyed : maxKeys * keyWords ≤ length keys
+  pub below : call < maxCalls
 
--- The place (entry, or 0 to the code's length) and the count of a seat are in their ranges.
-pub record SeatInRange (plan : List ℕ) (call : ℕ) (s : Seat) : Type 0 where
-  pub code : planWord plan call codeLength ≤ maxCode + 1
-  pub place : s .place ≤ planWord plan call codeLength
-  pub count : s .count ≤ maxCode
+-- So do the frames, and the worker is in its range: what it has tested before it uses a frame.
+pub record Ready (plan keys : List ℕ) (frames : List ℤ) (worker call : ℕ) : Type 0 where
+  pub entries : EntriesReady plan keys call
+  pub framed : maxWorkers * frameValues ≤ length frames
+  pub seated : worker < maxWorkers
+
+-- The place (entry, or 0 to the code's length) and the count of a call are in their ranges.
+pub record SiteInRange (plan : List ℕ) (site : Site) : Type 0 where
+  pub code : planWord plan (site .call) codeLength ≤ maxCode + 1
+  pub place : site .place ≤ planWord plan (site .call) codeLength
+  pub count : site .count ≤ maxCount
 
 -- The words of a key stand for it.
 abbrev pub KeyWorded : KeyUse → Type 0
@@ -111,12 +109,28 @@ Payable (Transfer amount short) = nonNeg amount ≡ true
 
 -- What an action asks of its place, its uses and itself.
 pub record Doable (place : ℕ) (us : Uses) (next : Next) : Type 0 where
-  pub early : place ≤ maxCode
+  pub early : place ≤ maxCode + 1
   pub first : KeyWorded (us .first)
   pub second : KeyWorded (us .second)
   pub payable : Payable next
 
--- A turn for each end of a step.
+-- What is due at a place, done on the cells; where nothing is, the lent run is damaged.
+abbrev pub dueDone : View → (place : ℕ) → Due → List ℤ → Performed
+dueDone v place d cells =
+    if d .sound then perform v place (d .count) (accessesOf (d .uses)) (d .action .regs) (d .action .next) cells else broken
+
+-- Nothing is due; the call ends with an outcome.
+abbrev pub nothingDue : Due
+nothingDue = record { sound = false; count = 0; uses = usesOf []; action = record { next = Go 0; regs = zeroRegisters } }
+
+abbrev pub endDue : (outcome count : ℕ) → Due
+endDue outcome count = record { sound = true; count = count; uses = usesOf []; action = record { next = End outcome; regs = zeroRegisters } }
+
+-- What is due can be done.
+abbrev pub DueDoable : (place : ℕ) → Due → Type 0
+DueDoable place d = Doable place (d .uses) (d .action .next)
+
+-- A turn for each end of a place.
 abbrev pub brokenTurn : Turn
 brokenTurn = record { fate = Broken; count = 0; regs = zeroRegisters }
 
@@ -131,37 +145,27 @@ pub record TurnWithCells : Type 0 where
   pub turn : Turn
   pub cells : List ℤ
 
--- What a step comes to on these cells: "Number only; nothing changes" where it finds damage.
-abbrev pub turned : List ℤ → Stepped → TurnWithCells
-turned cells damaged = record { turn = brokenTurn; cells = cells }
-turned cells (more l after) = record { turn = going (l .place) (l .count) (l .regs); cells = after }
-turned cells (done outcome count after) = record { turn = over outcome count; cells = after }
+-- What a place comes to on these cells: "Number only; nothing changes" where it finds damage.
+abbrev pub turned : List ℤ → Performed → TurnWithCells
+turned cells broken = record { turn = brokenTurn; cells = cells }
+turned cells (onward place count regs after) = record { turn = going place count regs; cells = after }
+turned cells (ending outcome count) = record { turn = over outcome count; cells = cells }
 
--- A turn that leaves these cells stands for a step.
-abbrev pub StandsForStep : Turn → List ℤ → List ℤ → Stepped → Type 0
-StandsForStep t after cells s = _≡_ {A = TurnWithCells} (record { turn = t; cells = after }) (turned cells s)
+-- A turn that leaves these cells stands for what a place comes to.
+abbrev pub StandsForPlace : Turn → List ℤ → List ℤ → Performed → Type 0
+StandsForPlace t after cells p = _≡_ {A = TurnWithCells} (record { turn = t; cells = after }) (turned cells p)
 
--- What a turn of a call changes beside the cells, from its worker's seat and the status: "A finished or cancelled call frees its worker."
-pub record Settled : Type 0 where
-  pub seated : Seated
-  pub status : List ℕ
+-- What a turn that leaves these cells stands for.
+abbrev pub performedAs : ℕ → List ℤ → List ℤ → Fate → Performed
+performedAs count regs cells Broken = broken
+performedAs count regs cells (Going place) = onward place count regs cells
+performedAs count regs cells (Over outcome) = ending outcome count
 
-abbrev pub settledAs : Seat → List ℕ → ℕ → ℕ → List ℤ → Fate → Settled
-settledAs s status call count regs Broken = record { seated = record { seat = s; answer = Damaged }; status = status }
-settledAs s status call count regs (Going place) =
-    record {
-      seated = record { seat = record { call = call + 1; place = place; count = count; regs = regs }; answer = Accepted };
-      status = status;
-    }
-settledAs s status call count regs (Over outcome) =
-    record { seated = record { seat = idleSeat; answer = Accepted }; status = withReceipt status call outcome count }
+abbrev pub performedOf : Turn → List ℤ → Performed
+performedOf t cells = performedAs (t .count) (t .regs) cells (t .fate)
 
-abbrev pub settledBy : Seat → List ℕ → ℕ → Turn → Settled
-settledBy s status call t = settledAs s status call (t .count) (t .regs) (t .fate)
-
--- The run behind it, with the cells that the turn leaves.
-abbrev pub settledIn : Head → List ℕ → List ℕ → List ℤ → List ℤ → ℕ → Settled → Moved
-settledIn h plan keys cells saved worker s = moved (s .seated .answer) (lent (withSeat h worker (s .seated .seat)) plan keys cells (s .status) saved)
-
-abbrev pub settledRun : Head → List ℕ → List ℕ → List ℤ → List ℕ → List ℤ → ℕ → ℕ → Turn → Moved
-settledRun h plan keys cells status saved worker call t = settledIn h plan keys cells saved worker (settledBy (seatOf h worker) status call t)
+-- The run behind a turn of a call that leaves these cells: the step that it stands for, concluded.
+abbrev pub turnSettled : Head → List ℕ → List ℕ → List ℤ → List ℕ → List ℕ → List ℤ → ℕ → ℕ → Turn → Moved
+turnSettled head plan keys cells status seats frames worker call t =
+    stepped (lent head plan keys cells status seats frames) worker call
+    (concluded (cellView plan keys call) (workerSaved plan frames worker call) cells (performedOf t cells))

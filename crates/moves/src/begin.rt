@@ -7,12 +7,13 @@ use crate::entries::key_count;
 use crate::entries::restorable;
 use crate::entries::save;
 use crate::held::worker_tested;
+use crate::seat::put_regs;
+use crate::seat::put_seat;
 use block::limits::MAX_CALLS;
 use footprint::layout::FIRST_ROW_WORD;
 use footprint::layout::PLAN_WORDS;
 use machine::Answer;
 use machine::Head;
-use machine::Seat;
 use machine::layout::FINISHED;
 use machine::layout::RUNNING;
 use machine::layout::STATUS_WORDS;
@@ -25,7 +26,7 @@ ghost use lib.IntN.{ℤ};
 ghost use lib.ListN.{length};
 ghost use Rattle.arith.specs.Choice.{if_then_else_};
 ghost use Rattle.block.specs.Limits.{maxCalls, maxWorkers};
-ghost use Rattle.machine.specs.Run.{fixedSizes, rowIn, seatOf, stateOf, withSeat};
+ghost use Rattle.machine.specs.Run.{fixedSizes, heldAt, rowIn, stateOf, withHeld};
 ghost use Rattle.machine.specs.Moves.{beginCall, beginChecked, beginOf, callKeyCount, stay};
 ghost use Rattle.machine.specs.declared.Head.{Head};
 ghost use Rattle.machine.specs.declared.Answer.the-variants.{Accepted};
@@ -107,10 +108,10 @@ fn head_tested(calls: usize, busy: usize, call: usize) -> Tested
 fn call_tested(plan: &[u64], status: &[u64], call: usize) -> Tested
     requires { ⌜ call < maxCalls ⌝ }
     requires { ⌜ fixedSizes .plan ≤ length (now plan) ⌝ }
-    ensures { λ r. ⌜ ((head : Head) (keys : List ℕ) (cells saved : List ℤ) (worker : ℕ)
-        → unlessRefused r (stay (lent head (now (plan .entry)) keys cells (now (status .entry)) saved))
-        (moved Accepted (beginCall (lent head (now (plan .entry)) keys cells (now (status .entry)) saved) worker call))
-        ≡ beginChecked (lent head (now (plan .entry)) keys cells (now (status .entry)) saved) worker call) ⌝ }
+    ensures { λ r. ⌜ ((head : Head) (keys : List ℕ) (cells : List ℤ) (seats : List ℕ) (frames : List ℤ) (worker : ℕ)
+        → unlessRefused r (stay (lent head (now (plan .entry)) keys cells (now (status .entry)) seats frames))
+        (moved Accepted (beginCall (lent head (now (plan .entry)) keys cells (now (status .entry)) seats frames) worker call))
+        ≡ beginChecked (lent head (now (plan .entry)) keys cells (now (status .entry)) seats frames) worker call) ⌝ }
     ensures { λ r. ⌜ FewKeys r (callKeyCount (now (plan .entry)) call) ⌝ }
 {
     let state = state_of(status, call);
@@ -134,38 +135,39 @@ fn call_tested(plan: &[u64], status: &[u64], call: usize) -> Tested
     }
 }
 
-// The call that the tests of the head let through: its own tests, and the change.
+// The call that the tests of the head let through: its own tests, and the change. `held` is what the head has for the worker.
 fn begin_call(
-    seat: Seat,
+    held: u16,
     plan: &[u64],
     cells: &[i64],
     status: &mut [u64],
-    saved: &mut [i64],
+    seats: &mut [u64],
+    frames: &mut [i64],
     worker: usize,
     call: usize,
 ) -> Seated
     requires { ⌜ call < maxCalls ⌝ }
     requires { ⌜ worker < maxWorkers ⌝ }
     requires { ⌜ fixedSizes .plan ≤ length (now plan) ⌝ }
-    ensures { λ r. ⌜ ((head : Head) (keys : List ℕ) → seat ≡ seatOf head worker
+    requires { ⌜ fixedSizes .frames ≤ length (now frames) ⌝ }
+    ensures { λ r. ⌜ ((head : Head) (keys : List ℕ) → held ≡ heldAt head worker
         → moved (r .answer)
-        (lent (withSeat head worker (r .seat)) (now (plan .entry)) keys (now (cells .entry)) (now (status .exit)) (now (saved .exit)))
-        ≡ beginChecked (lent head (now (plan .entry)) keys (now (cells .entry)) (now (status .entry)) (now (saved .entry))) worker call) ⌝ }
+        (lent (withHeld head worker (r .held)) (now (plan .entry)) keys (now (cells .entry)) (now (status .exit)) (now (seats .exit))
+        (now (frames .exit)))
+        ≡ beginChecked
+        (lent head (now (plan .entry)) keys (now (cells .entry)) (now (status .entry)) (now (seats .entry)) (now (frames .entry))) worker
+        call) ⌝ }
 {
     if let Tested::Refused(answer) = call_tested(plan, status, call) {
-        return Seated { seat, answer };
+        return Seated { held, answer };
     }
     let n = key_count(plan, call);
-    save(plan, call, n, cells, saved, worker);
+    put_seat(seats, worker, 0, 0);
+    put_regs(frames, worker, [0; 8]);
+    save(plan, call, n, cells, frames, worker);
     wire::put_word(status, STATUS_WORDS * call, RUNNING);
-    let at_entry = Seat {
-        call: call + 1,
-        place: 0,
-        count: 0,
-        regs: [0; 8],
-    };
     Seated {
-        seat: at_entry,
+        held: call as u16 + 1,
         answer: Answer::Accepted,
     }
 }
@@ -177,33 +179,36 @@ pub fn begin(
     keys: &[u64],
     cells: &[i64],
     status: &mut [u64],
-    saved: &mut [i64],
+    seats: &mut [u64],
+    frames: &mut [i64],
     worker: usize,
     call: usize,
 ) -> Reply
     ensures { λ r. ⌜ moved (r .answer)
-        (lent (r .head) (now (plan .entry)) (now (keys .entry)) (now (cells .entry)) (now (status .exit)) (now (saved .exit)))
+        (lent (r .head) (now (plan .entry)) (now (keys .entry)) (now (cells .entry)) (now (status .exit)) (now (seats .exit))
+        (now (frames .exit)))
         ≡ beginOf
-        (lent head (now (plan .entry)) (now (keys .entry)) (now (cells .entry)) (now (status .entry)) (now (saved .entry))) worker call ⌝ }
+        (lent head (now (plan .entry)) (now (keys .entry)) (now (cells .entry)) (now (status .entry)) (now (seats .entry))
+        (now (frames .entry))) worker call ⌝ }
 {
     let large = large_enough(
         plan.len(),
         keys.len(),
         cells.len(),
         status.len(),
-        saved.len(),
+        seats.len(),
+        frames.len(),
     );
     if let Tested::Refused(answer) = worker_tested(head.workers, large, worker) {
         return Reply { head, answer };
     }
     let mut next = head;
-    let seat = next.seats[worker];
-    if let Tested::Refused(answer) = head_tested(head.calls, seat.call, call) {
+    let held = next.held[worker];
+    if let Tested::Refused(answer) = head_tested(head.calls, held as usize, call) {
         return Reply { head, answer };
     }
-    let after = begin_call(seat, plan, cells, status, saved, worker, call);
+    let after = begin_call(held, plan, cells, status, seats, frames, worker, call);
     let answer = after.answer;
-    let seat = after.seat;
-    next.seats[worker] = seat;
+    next.held[worker] = after.held;
     Reply { head: next, answer }
 }

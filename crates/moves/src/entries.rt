@@ -6,19 +6,20 @@ use footprint::layout::FIRST_ENTRY;
 use footprint::layout::KEY_COUNT;
 use footprint::layout::PLAN_WORDS;
 use footprint::layout::WRITES_FLAG;
+use machine::layout::FRAME_VALUES;
+use machine::layout::REGISTERS;
 ghost use mathlib.Core.Path.{_≡_};
 ghost use mathlib.Core.Bool.{_&&_, _||_, not};
-ghost use Prim.Native.Nat.{_*_, _%_, _≤_, _<_};
+ghost use Prim.Native.Nat.{_%_, _≤_, _<_};
 ghost use lib.Dec.{eqb, ltb};
 ghost use lib.IntN.{pos};
 ghost use lib.ListN.{length, set};
 ghost use Rattle.arith.specs.Choice.{if_then_else_};
-ghost use Rattle.wire.specs.Bytes.{stored};
 ghost use Rattle.block.specs.Limits.{maxCalls, maxCallKeys, maxKeys, maxWorkers};
-ghost use Rattle.machine.specs.Run.{fixedSizes, entriesOf};
+ghost use Rattle.machine.specs.Run.{fixedSizes, entriesOf, savedIn, withSaved};
 ghost use Rattle.footprint.specs.Plan.{entryCell, entryWrites};
 ghost use Rattle.machine.specs.Step.{cellAt, restorable, restored, savedOf};
-ghost use Rattle.machine.specs.Moves.{callKeyCount, savedIn};
+ghost use Rattle.machine.specs.Moves.{callKeyCount};
 
 // The number of a call's keys.
 pub(crate) fn key_count(plan: &[u64], call: usize) -> usize
@@ -78,22 +79,22 @@ pub(crate) fn save(
     call: usize,
     n: usize,
     cells: &[i64],
-    saved: &mut [i64],
+    frames: &mut [i64],
     worker: usize,
 )
     requires { ⌜ call < maxCalls ⌝ }
     requires { ⌜ n ≤ maxCallKeys ⌝ }
     requires { ⌜ worker < maxWorkers ⌝ }
     requires { ⌜ fixedSizes .plan ≤ length (now plan) ⌝ }
-    ensures { λ r. ⌜ now (saved .exit)
-        ≡ stored (now (saved .entry)) (maxCallKeys * worker) (savedOf (entriesOf (now (plan .entry)) call n) (now (cells .entry))) ⌝ }
+    ensures { λ r. ⌜ now (frames .exit)
+        ≡ withSaved (now (frames .entry)) worker (savedOf (entriesOf (now (plan .entry)) call n) (now (cells .entry))) ⌝ }
 {
     let first = PLAN_WORDS * call + FIRST_ENTRY;
-    let base = MAX_CALL_KEYS * worker;
+    let base = FRAME_VALUES * worker + REGISTERS;
     let mut k = 0;
     while k < n {
         let old = old_value(cells, plan[first + k]);
-        wire::put_value(saved, base + k, old);
+        wire::put_value(frames, base + k, old);
         k += 1;
     }
 }
@@ -112,7 +113,7 @@ pub(crate) fn restore(
     plan: &[u64],
     call: usize,
     n: usize,
-    saved: &[i64],
+    frames: &[i64],
     worker: usize,
     cells: &mut [i64],
 )
@@ -120,15 +121,15 @@ pub(crate) fn restore(
     requires { ⌜ n ≤ maxCallKeys ⌝ }
     requires { ⌜ worker < maxWorkers ⌝ }
     requires { ⌜ fixedSizes .plan ≤ length (now plan) ⌝ }
-    requires { ⌜ fixedSizes .saved ≤ length (now saved) ⌝ }
+    requires { ⌜ fixedSizes .frames ≤ length (now frames) ⌝ }
     ensures { λ r. ⌜ now (cells .exit)
-        ≡ restored (entriesOf (now (plan .entry)) call n) (savedIn (now (saved .entry)) worker n) (now (cells .entry)) ⌝ }
+        ≡ restored (entriesOf (now (plan .entry)) call n) (savedIn (now (frames .entry)) worker n) (now (cells .entry)) ⌝ }
 {
     let first = PLAN_WORDS * call + FIRST_ENTRY;
-    let base = MAX_CALL_KEYS * worker;
+    let base = FRAME_VALUES * worker + REGISTERS;
     let mut k = 0;
     while k < n {
-        let old = wire::value(saved, base + k);
+        let old = wire::value(frames, base + k);
         put_back(cells, plan[first + k], old);
         k += 1;
     }

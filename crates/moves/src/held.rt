@@ -1,26 +1,12 @@
-// What the moves test first, and the seat of an idle worker.
+// What the moves test first.
 use crate::Holding;
 use crate::Tested;
 use block::limits::MAX_CALLS;
 use block::limits::MAX_WORKERS;
 use machine::Answer;
-use machine::Seat;
 ghost use mathlib.Core.Path.{_≡_};
-ghost use Rattle.machine.specs.Run.{idleSeat};
 ghost use Rattle.moves.specs.HeldCall.{asHeld, heldFrom, HeldInRun};
 ghost use Rattle.moves.specs.Tests.{workerTested};
-
-// The seat of a worker that holds no call.
-pub(crate) fn idle_seat() -> Seat
-    ensures { λ r. ⌜ r ≡ idleSeat ⌝ }
-{
-    Seat {
-        call: 0,
-        place: 0,
-        count: 0,
-        regs: [0; 8],
-    }
-}
 
 // 20 for the run's sizes and the number of workers, and 21.
 pub(crate) fn worker_tested(workers: usize, large: bool, worker: usize) -> Tested
@@ -41,8 +27,8 @@ pub(crate) fn worker_tested(workers: usize, large: bool, worker: usize) -> Teste
     Tested::Passed
 }
 
-// 26, and 20 for a held call that is none of the run; else the held call. `call` is the seat's entry.
-pub(crate) fn held(calls: usize, call: usize) -> Holding
+// 26, and 20 for a held call that is none of the run; else the held call. `call` is what the head has for the worker.
+pub(crate) fn held_call(calls: usize, call: usize) -> Holding
     ensures { λ r. ⌜ asHeld r ≡ heldFrom calls call ⌝ }
     ensures { λ r. ⌜ HeldInRun r ⌝ }
 {

@@ -5,11 +5,14 @@ mod entries;
 mod held;
 mod lookup;
 mod perform;
+mod place;
+mod seat;
 pub mod step;
 
+use footprint::Uses;
+use machine::Action;
 use machine::Answer;
 use machine::Head;
-use machine::Seat;
 
 // What a move answers, and the head behind it.
 pub struct Reply {
@@ -17,9 +20,9 @@ pub struct Reply {
     pub answer: Answer,
 }
 
-// What a move behind its tests leaves of the head, its worker's seat, and what it answers.
+// What a move behind its tests leaves of the head, the call that its worker holds, and what it answers.
 pub struct Seated {
-    pub seat: Seat,
+    pub held: u16,
     pub answer: Answer,
 }
 
@@ -42,15 +45,14 @@ pub enum Earlier {
     Finished,
 }
 
-// Where a step works: the call that runs and its worker, its place, and its count with this place's own instruction.
+// Where a step works: the call that runs, its place, and its count.
 pub struct Site {
-    pub worker: usize,
     pub call: usize,
     pub place: usize,
     pub count: u64,
 }
 
-// How a step of a call ends: the lent run is damaged, the call goes on at a place, or it is finished with an outcome.
+// How a place of a call ends: the lent run is damaged, the call goes on at a place, or it ends with an outcome.
 pub enum Fate {
     Broken,
     Going(usize),
@@ -62,4 +64,13 @@ pub struct Turn {
     pub fate: Fate,
     pub count: u64,
     pub regs: [i64; 8],
+}
+
+// What is due at a place of a call: an action with the keys that it uses, and the count with this place's own instruction. Where it is not
+// sound, the lent block or run is damaged there, and nothing is due.
+pub struct Due {
+    pub sound: bool,
+    pub count: u64,
+    pub uses: Uses,
+    pub action: Action,
 }

@@ -5,6 +5,7 @@ use footprint::KeyUse;
 use footprint::layout::ENTRY_FLAGS;
 use footprint::layout::FIRST_ENTRY;
 use footprint::layout::KEY_COUNT;
+use footprint::layout::KEY_WORDS;
 use footprint::layout::PLAN_WORDS;
 use footprint::layout::WRITES_FLAG;
 use machine::Lookup;
@@ -14,27 +15,30 @@ ghost use Prim.Native.Nat.{_*_, _≤_, _<_};
 ghost use lib.ListN.{length};
 ghost use Rattle.arith.specs.Choice.{if_then_else_};
 ghost use Rattle.block.specs.Limits.{maxCalls, maxKeys};
-ghost use Rattle.footprint.specs.Plan.{planWords, entryCell, entryReads, entryWrites};
+ghost use Rattle.footprint.specs.Plan.{keyWords, planWords, entryCell, entryReads, entryWrites};
 ghost use Rattle.machine.specs.Run.{hasKey, planWord};
-ghost use Rattle.moves.specs.Turn.{accessOf, lookupIn, KeyWorded};
+ghost use Rattle.moves.specs.Turn.{accessOf, lookupIn, EntriesReady, KeyWorded};
 
 // Word k of a call in the plan.
 pub(crate) fn plan_word(plan: &[u64], call: usize, k: usize) -> u64
+    requires { ⌜ maxCalls * planWords ≤ length (now plan) ⌝ }
     requires { ⌜ call < maxCalls ⌝ }
     requires { ⌜ k < planWords ⌝ }
     ensures { λ r. ⌜ r ≡ planWord (now (plan .entry)) call k ⌝ }
 {
-    wire::word(plan, PLAN_WORDS * call + k)
+    plan[PLAN_WORDS * call + k]
 }
 
 // Whether cell n has the key of a use.
 fn has_key(keys: &[u64], n: usize, u: KeyUse) -> bool
+    requires { ⌜ maxKeys * keyWords ≤ length (now keys) ⌝ }
     requires { ⌜ n < maxKeys ⌝ }
     requires { ⌜ KeyWorded u ⌝ }
     ensures { λ r. ⌜ r ≡ hasKey (now (keys .entry)) n (accessOf u .key) ⌝ }
 {
-    let high = wire::word(keys, 2 * n);
-    let low = wire::word(keys, 2 * n + 1);
+    let at = KEY_WORDS * n;
+    let high = keys[at];
+    let low = keys[at + 1];
     (high == u.high) & (low == u.low)
 }
 
@@ -61,8 +65,7 @@ fn kept(e: u64, u: KeyUse) -> Lookup
 // The cell that the entries of a call keep for the key of a use, with the flags that it wants; an entry that is looked at has a cell
 // number of the table.
 pub(crate) fn lookup(plan: &[u64], keys: &[u64], call: usize, u: KeyUse) -> Lookup
-    requires { ⌜ maxCalls * planWords ≤ length (now plan) ⌝ }
-    requires { ⌜ call < maxCalls ⌝ }
+    requires { ⌜ EntriesReady (now plan) (now keys) call ⌝ }
     requires { ⌜ KeyWorded u ⌝ }
     ensures { λ r. ⌜ r ≡ lookupIn (now (plan .entry)) (now (keys .entry)) call (accessOf u) ⌝ }
 {
@@ -70,9 +73,10 @@ pub(crate) fn lookup(plan: &[u64], keys: &[u64], call: usize, u: KeyUse) -> Look
     if MAX_CALL_KEYS < n {
         return Lookup::NoCell;
     }
+    let first = PLAN_WORDS * call + FIRST_ENTRY;
     let mut k = 0;
     while k < n {
-        let e = plan_word(plan, call, FIRST_ENTRY + k);
+        let e = plan[first + k];
         let cell = (e / ENTRY_FLAGS) as usize;
         if MAX_KEYS <= cell {
             return Lookup::NoCell;

@@ -2,33 +2,24 @@
 use crate::Fate;
 use crate::Site;
 use crate::Turn;
-use crate::entries::restorable;
-use crate::entries::restore;
 use crate::lookup::lookup;
-use crate::lookup::plan_word;
 use action::loaded;
 use arith::LARGEST;
-use block::outcomes::THROWN;
 use block::record::FIELD_BASE;
 use block::record::FIELDS;
 use footprint::KeyUse;
 use footprint::Uses;
-use footprint::layout::KEY_COUNT;
 use machine::Action;
 use machine::Lookup;
 use machine::Next;
 ghost use mathlib.Core.Path.{_≡_};
 ghost use mathlib.Core.Bool.{true, false};
-ghost use mathlib.Core.List.{List, []};
-ghost use Prim.Native.Nat.{_*_, _≤_, _<_};
-ghost use lib.IntN.{ℤ};
-ghost use lib.ListN.{length};
+ghost use Prim.Native.Nat.{_+_, _≤_};
 ghost use lib.Signed.{ltZ, nonNeg};
 ghost use Rattle.block.specs.Key.{isBalance};
-ghost use Rattle.block.specs.Limits.{maxCalls, maxCode};
-ghost use Rattle.footprint.specs.Plan.{planWords};
-ghost use Rattle.machine.specs.Step.{cellAt, depositCell, finish, loadCell, perform, storeCell, transferCells};
-ghost use Rattle.moves.specs.Turn.{accessOf, accessesOf, brokenTurn, cellView, going, actionLocal, lookupIn, workerSaved, over, turned, Doable, Ready, KeyWorded};
+ghost use Rattle.block.specs.Limits.{maxCode};
+ghost use Rattle.machine.specs.Step.{cellAt, depositCell, loadCell, perform, storeCell, transferCells};
+ghost use Rattle.moves.specs.Turn.{accessOf, accessesOf, brokenTurn, cellView, going, lookupIn, over, turned, Doable, EntriesReady, KeyWorded};
 
 // The three ends of a step.
 pub(crate) fn damaged() -> Turn
@@ -69,26 +60,6 @@ fn is_balance(u: KeyUse) -> bool
     u.high / FIELD_BASE % FIELDS == 0
 }
 
-// The end of a call. "On 3, 4, 5 the same step restores every cell of the write set."
-fn finish(plan: &[u64], cells: &mut [i64], saved: &[i64], site: Site, outcome: u64) -> Turn
-    requires { ⌜ Ready (now plan) (now saved) (site .worker) (site .call) ⌝ }
-    ensures { λ r. ⌜ record { turn = r; cells = now (cells .exit) }
-        ≡ turned (now (cells .entry))
-        (finish (cellView (now (plan .entry)) [] (site .call))
-        (actionLocal 0 (workerSaved (now (plan .entry)) (now (saved .entry)) (site .worker) (site .call))) (site .count) outcome
-        (now (cells .entry))) ⌝ }
-{
-    if outcome < THROWN {
-        return done(outcome, site.count);
-    }
-    let n = plan_word(plan, site.call, KEY_COUNT) as usize;
-    if restorable(plan, site.call, n) {
-        restore(plan, site.call, n, saved, site.worker, cells);
-        return done(outcome, site.count);
-    }
-    damaged()
-}
-
 // A loaded value goes to its instruction; of a balance, "below zero" is damage.
 fn load(
     plan: &[u64],
@@ -99,15 +70,13 @@ fn load(
     x: usize,
     u: KeyUse,
 ) -> Turn
-    requires { ⌜ maxCalls * planWords ≤ length (now plan) ⌝ }
-    requires { ⌜ site .call < maxCalls ⌝ }
-    requires { ⌜ site .place ≤ maxCode ⌝ }
+    requires { ⌜ EntriesReady (now plan) (now keys) (site .call) ⌝ }
+    requires { ⌜ site .place ≤ maxCode + 1 ⌝ }
     requires { ⌜ KeyWorded u ⌝ }
-    ensures { λ r. ⌜ ((saved : List ℤ)
-        → record { turn = r; cells = now (cells .entry) }
+    ensures { λ r. ⌜ record { turn = r; cells = now (cells .entry) }
         ≡ turned (now (cells .entry))
-        (loadCell (actionLocal (site .place) saved) (site .count) regs x (accessOf u) (now (cells .entry))
-        (lookupIn (now (plan .entry)) (now (keys .entry)) (site .call) (accessOf u)))) ⌝ }
+        (loadCell (site .place) (site .count) regs x (accessOf u) (now (cells .entry))
+        (lookupIn (now (plan .entry)) (now (keys .entry)) (site .call) (accessOf u))) ⌝ }
 {
     match lookup(plan, keys, site.call, u) {
         Lookup::NoCell => damaged(),
@@ -132,15 +101,13 @@ fn store(
     v: i64,
     u: KeyUse,
 ) -> Turn
-    requires { ⌜ maxCalls * planWords ≤ length (now plan) ⌝ }
-    requires { ⌜ site .call < maxCalls ⌝ }
-    requires { ⌜ site .place ≤ maxCode ⌝ }
+    requires { ⌜ EntriesReady (now plan) (now keys) (site .call) ⌝ }
+    requires { ⌜ site .place ≤ maxCode + 1 ⌝ }
     requires { ⌜ KeyWorded u ⌝ }
-    ensures { λ r. ⌜ ((saved : List ℤ)
-        → record { turn = r; cells = now (cells .exit) }
+    ensures { λ r. ⌜ record { turn = r; cells = now (cells .exit) }
         ≡ turned (now (cells .entry))
-        (storeCell (actionLocal (site .place) saved) (site .count) regs v (now (cells .entry))
-        (lookupIn (now (plan .entry)) (now (keys .entry)) (site .call) (accessOf u)))) ⌝ }
+        (storeCell (site .place) (site .count) regs v (now (cells .entry))
+        (lookupIn (now (plan .entry)) (now (keys .entry)) (site .call) (accessOf u))) ⌝ }
 {
     match lookup(plan, keys, site.call, u) {
         Lookup::NoCell => damaged(),
@@ -161,12 +128,11 @@ fn pay_into(
     n: usize,
     m: usize,
 ) -> Turn
-    requires { ⌜ place ≤ maxCode ⌝ }
+    requires { ⌜ place ≤ maxCode + 1 ⌝ }
     requires { ⌜ nonNeg amount ≡ true ⌝ }
     requires { ⌜ ltZ (cellAt (now cells) n) amount ≡ false ⌝ }
-    ensures { λ r. ⌜ ((saved : List ℤ)
-        → record { turn = r; cells = now (cells .exit) }
-        ≡ turned (now (cells .entry)) (depositCell (actionLocal place saved) count regs amount n (now (cells .entry)) (Lookup.Cell m))) ⌝ }
+    ensures { λ r. ⌜ record { turn = r; cells = now (cells .exit) }
+        ≡ turned (now (cells .entry)) (depositCell place count regs amount n (now (cells .entry)) (Lookup.Cell m)) ⌝ }
 {
     let held = wire::value(cells, n);
     let there = wire::value(cells, m);
@@ -192,17 +158,15 @@ fn deposit(
     n: usize,
     u: KeyUse,
 ) -> Turn
-    requires { ⌜ maxCalls * planWords ≤ length (now plan) ⌝ }
-    requires { ⌜ site .call < maxCalls ⌝ }
-    requires { ⌜ site .place ≤ maxCode ⌝ }
+    requires { ⌜ EntriesReady (now plan) (now keys) (site .call) ⌝ }
+    requires { ⌜ site .place ≤ maxCode + 1 ⌝ }
     requires { ⌜ KeyWorded u ⌝ }
     requires { ⌜ nonNeg amount ≡ true ⌝ }
     requires { ⌜ ltZ (cellAt (now cells) n) amount ≡ false ⌝ }
-    ensures { λ r. ⌜ ((saved : List ℤ)
-        → record { turn = r; cells = now (cells .exit) }
+    ensures { λ r. ⌜ record { turn = r; cells = now (cells .exit) }
         ≡ turned (now (cells .entry))
-        (depositCell (actionLocal (site .place) saved) (site .count) regs amount n (now (cells .entry))
-        (lookupIn (now (plan .entry)) (now (keys .entry)) (site .call) (accessOf u)))) ⌝ }
+        (depositCell (site .place) (site .count) regs amount n (now (cells .entry))
+        (lookupIn (now (plan .entry)) (now (keys .entry)) (site .call) (accessOf u))) ⌝ }
 {
     match lookup(plan, keys, site.call, u) {
         Lookup::NoCell => damaged(),
@@ -215,23 +179,21 @@ fn transfer(
     plan: &[u64],
     keys: &[u64],
     cells: &mut [i64],
-    saved: &[i64],
     site: Site,
     regs: [i64; 8],
     amount: i64,
     short: u64,
     uses: Uses,
 ) -> Turn
-    requires { ⌜ Ready (now plan) (now saved) (site .worker) (site .call) ⌝ }
-    requires { ⌜ site .place ≤ maxCode ⌝ }
+    requires { ⌜ EntriesReady (now plan) (now keys) (site .call) ⌝ }
+    requires { ⌜ site .place ≤ maxCode + 1 ⌝ }
     requires { ⌜ KeyWorded (uses .first) ⌝ }
     requires { ⌜ KeyWorded (uses .second) ⌝ }
     requires { ⌜ nonNeg amount ≡ true ⌝ }
     ensures { λ r. ⌜ record { turn = r; cells = now (cells .exit) }
         ≡ turned (now (cells .entry))
-        (transferCells (cellView (now (plan .entry)) (now (keys .entry)) (site .call))
-        (actionLocal (site .place) (workerSaved (now (plan .entry)) (now (saved .entry)) (site .worker) (site .call)))
-        (site .count) regs amount short (accessOf (uses .second)) (now (cells .entry))
+        (transferCells (cellView (now (plan .entry)) (now (keys .entry)) (site .call)) (site .place) (site .count) regs amount short
+        (accessOf (uses .second)) (now (cells .entry))
         (lookupIn (now (plan .entry)) (now (keys .entry)) (site .call) (accessOf (uses .first)))) ⌝ }
 {
     let to = uses.second;
@@ -243,46 +205,36 @@ fn transfer(
         return damaged();
     }
     if held < amount {
-        return finish(plan, cells, saved, site, short);
+        return done(short, site.count);
     }
     deposit(plan, keys, cells, site, regs, amount, n, to)
 }
 
-// An action is done on the cells that the place accesses.
+// An action is done on the cells that the place accesses. The site's count is the one with this place's own instruction.
 pub(crate) fn perform(
     plan: &[u64],
     keys: &[u64],
     cells: &mut [i64],
-    saved: &[i64],
     site: Site,
     uses: Uses,
     action: Action,
 ) -> Turn
-    requires { ⌜ Ready (now plan) (now saved) (site .worker) (site .call) ⌝ }
+    requires { ⌜ EntriesReady (now plan) (now keys) (site .call) ⌝ }
     requires { ⌜ Doable (site .place) uses (action .next) ⌝ }
     ensures { λ r. ⌜ record { turn = r; cells = now (cells .exit) }
         ≡ turned (now (cells .entry))
-        (perform (cellView (now (plan .entry)) (now (keys .entry)) (site .call))
-        (actionLocal (site .place) (workerSaved (now (plan .entry)) (now (saved .entry)) (site .worker) (site .call))) (site .count)
-        (accessesOf uses) (action .regs) (action .next) (now (cells .entry))) ⌝ }
+        (perform (cellView (now (plan .entry)) (now (keys .entry)) (site .call)) (site .place) (site .count) (accessesOf uses) (action .regs)
+        (action .next) (now (cells .entry))) ⌝ }
 {
     let next = action.next;
     let regs = action.regs;
     match next {
         Next::Go(to) => go_on(to, site.count, regs),
-        Next::End(outcome) => finish(plan, cells, saved, site, outcome),
+        Next::End(outcome) => done(outcome, site.count),
         Next::Load(x) => load(plan, keys, cells, site, regs, x, uses.first),
         Next::Store(v) => store(plan, keys, cells, site, regs, v, uses.first),
-        Next::Transfer { amount, short } => transfer(
-            plan,
-            keys,
-            cells,
-            saved,
-            site,
-            regs,
-            amount,
-            short,
-            uses,
-        ),
+        Next::Transfer { amount, short } => {
+            transfer(plan, keys, cells, site, regs, amount, short, uses)
+        }
     }
 }

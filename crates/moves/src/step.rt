@@ -6,33 +6,32 @@ use crate::Seated;
 use crate::Site;
 use crate::Tested;
 use crate::Turn;
-use crate::held::held;
-use crate::held::idle_seat;
+use crate::entries::key_count;
+use crate::entries::restorable;
+use crate::entries::restore;
+use crate::held::held_call;
 use crate::held::worker_tested;
 use crate::lookup::plan_word;
 use crate::perform::damaged;
 use crate::perform::done;
 use crate::perform::perform;
-use action::act_at;
-use action::enter;
+use crate::place::due;
+use crate::seat::count_of;
+use crate::seat::place_of;
+use crate::seat::put_regs;
+use crate::seat::put_seat;
+use crate::seat::regs_of;
 use block::Call;
 use block::CallBody;
-use block::Decoded;
 use block::limits::MAX_CODE;
-use block::outcomes::ENDED;
-use block::outcomes::UNKNOWN_FUNCTION;
-use block::record::CALL_BYTES;
+use block::outcomes::MAX_COUNT;
+use block::outcomes::THROWN;
+use block::record::CALL_RECORD_BYTES;
 use block::record::HEAD_BYTES;
-use block::record::INSTR_BYTES;
 use block::record::call_at;
-use block::record::code_at;
-use footprint::access::entry_uses;
-use footprint::access::instr_uses;
 use footprint::layout::CODE_LENGTH;
-use footprint::layout::CODE_START;
 use machine::Answer;
 use machine::Head;
-use machine::Seat;
 use machine::layout::FINISHED;
 use machine::layout::STATUS_WORDS;
 use machine::layout::large_enough;
@@ -41,169 +40,120 @@ ghost use mathlib.Core.Bool.{_&&_, _||_, not};
 ghost use mathlib.Core.List.{List};
 ghost use Prim.Native.Nat.{ℕ, _+_, _-_, _*_, _≤_, _<_};
 ghost use lib.Dec.{ltb};
-ghost use lib.ListN.{drop};
-ghost use Rattle.footprint.specs.Plan.{codeLength};
-ghost use Rattle.block.specs.Instruction.{decode, instrBytes};
-ghost use Rattle.block.specs.Limits.{maxCalls, maxCode};
-ghost use Rattle.block.specs.Record.{callBytes, headBytes};
-ghost use Rattle.machine.specs.Run.{planWord, seatOf, withReceipt};
-ghost use Rattle.machine.specs.Step.{stepCall, stepDecoded, stepEntry, stepInstr};
-ghost use Rattle.machine.specs.Moves.{stepHeld, stepOf};
+ghost use lib.ListN.{length};
+ghost use Rattle.block.specs.Limits.{maxCalls, maxCode, maxWorkers};
+ghost use Rattle.block.specs.Outcomes.{maxCount};
+ghost use Rattle.block.specs.Record.{callRecordBytes};
+ghost use Rattle.footprint.specs.Plan.{codeLength, planWords};
+ghost use Rattle.machine.specs.Run.{fixedSizes, heldAt, planWord, withHeld, withReceipt};
+ghost use Rattle.machine.specs.Step.{finish, stepPlace};
+ghost use Rattle.machine.specs.Moves.{stepHeld, stepOf, stepped};
+ghost use Rattle.machine.specs.declared.Answer.the-variants.{Accepted};
 ghost use Rattle.machine.specs.declared.Head.{Head};
 ghost use Rattle.moves.specs.Lent.{lent, moved};
-ghost use Rattle.moves.specs.Turn.{localIn, workerSaved, settledBy, settledRun, turned, viewIn, Ready, SeatInRange};
-
-// The length of a call record.
-const RECORD_BYTES: usize = HEAD_BYTES + CALL_BYTES;
+ghost use Rattle.moves.specs.Turn.{cellView, turnSettled, turned, viewIn, workerSaved, EntriesReady, Ready, SiteInRange};
 
 const LAST_PLACE: usize = MAX_CODE + 1;
 
-// "STEP(worker), at entry: unknown function, outcome 1"
-fn step_entry(
-    plan: &[u64],
-    keys: &[u64],
-    cells: &mut [i64],
-    saved: &[i64],
-    worker: usize,
-    call: usize,
-    seat: Seat,
-    body: Call,
-) -> Turn
-    requires { ⌜ Ready (now plan) (now saved) worker call ⌝ }
-    requires { ⌜ seat .place ≤ maxCode ⌝ }
-    ensures { λ r. ⌜ ((block : List ℕ)
-        → record { turn = r; cells = now (cells .exit) }
-        ≡ turned (now (cells .entry))
-        (stepEntry (viewIn block (now (plan .entry)) (now (keys .entry)) call body)
-        (localIn seat (workerSaved (now (plan .entry)) (now (saved .entry)) worker call)) (now (cells .entry)))) ⌝ }
-{
-    if plan_word(plan, call, CODE_LENGTH) == 0 {
-        return done(UNKNOWN_FUNCTION, seat.count);
-    }
-    let regs = seat.regs;
-    let uses = entry_uses(body);
-    let action = enter(body, regs);
-    let site = Site {
-        worker,
-        call,
-        place: seat.place,
-        count: seat.count,
-    };
-    perform(plan, keys, cells, saved, site, uses, action)
-}
-
-// "Else one instruction runs and counts 1, also the one that fails." The instruction is the one of the code at the seat's place.
-fn step_decoded(
-    code: &[u8],
-    size: u16,
-    plan: &[u64],
-    keys: &[u64],
-    cells: &mut [i64],
-    saved: &[i64],
-    worker: usize,
-    call: usize,
-    seat: Seat,
-    body: Call,
-) -> Turn
-    requires { ⌜ Ready (now plan) (now saved) worker call ⌝ }
-    requires { ⌜ (0 < seat .place) × (seat .place ≤ maxCode) ⌝ }
-    requires { ⌜ seat .count ≤ maxCode ⌝ }
-    ensures { λ r. ⌜ ((block : List ℕ)
-        → record { turn = r; cells = now (cells .exit) }
-        ≡ turned (now (cells .entry))
-        (stepDecoded (viewIn block (now (plan .entry)) (now (keys .entry)) call body)
-        (localIn seat (workerSaved (now (plan .entry)) (now (saved .entry)) worker call)) (now (cells .entry))
-        (decode (seat .place - 1) size (drop (instrBytes * (seat .place - 1)) (now (code .entry)))))) ⌝ }
-{
-    let index = seat.place - 1;
-    let regs = seat.regs;
-    let acted = act_at(code, INSTR_BYTES * index, index as u16, size, body, regs);
-    let decoded = acted.decoded;
-    let Decoded::Valid(i) = decoded else {
-        return damaged();
-    };
-    let uses = instr_uses(body, i);
-    let count = seat.count + 1;
-    let site = Site {
-        worker,
-        call,
-        place: seat.place,
-        count,
-    };
-    perform(plan, keys, cells, saved, site, uses, acted.action)
-}
-
-// The code stretch lies in the lent block; the instruction is decoded there.
-fn step_instr(
+// What the place of a call comes to: what is due there is done.
+fn step_place(
     block: &[u8],
     plan: &[u64],
     keys: &[u64],
     cells: &mut [i64],
-    saved: &[i64],
-    worker: usize,
-    call: usize,
-    seat: Seat,
+    site: Site,
+    regs: [i64; 8],
     body: Call,
 ) -> Turn
-    requires { ⌜ Ready (now plan) (now saved) worker call ⌝ }
-    requires { ⌜ (0 < seat .place) × (seat .place < planWord (now plan) call codeLength) ⌝ }
-    requires { ⌜ planWord (now plan) call codeLength ≤ maxCode + 1 ⌝ }
-    requires { ⌜ seat .count ≤ maxCode ⌝ }
+    requires { ⌜ EntriesReady (now plan) (now keys) (site .call) ⌝ }
+    requires { ⌜ SiteInRange (now plan) site ⌝ }
     ensures { λ r. ⌜ record { turn = r; cells = now (cells .exit) }
         ≡ turned (now (cells .entry))
-        (stepInstr (viewIn (now (block .entry)) (now (plan .entry)) (now (keys .entry)) call body)
-        (localIn seat (workerSaved (now (plan .entry)) (now (saved .entry)) worker call)) (now (cells .entry))) ⌝ }
+        (stepPlace (viewIn (now (block .entry)) (now (plan .entry)) (now (keys .entry)) (site .call) body) (site .place) (site .count) regs
+        (now (cells .entry))) ⌝ }
 {
-    let start = plan_word(plan, call, CODE_START) as usize;
-    let size = plan_word(plan, call, CODE_LENGTH) as usize - 1;
-    let len = INSTR_BYTES * size;
-    if block.len() < len {
+    let d = due(block, plan, site, regs, body);
+    if !d.sound {
         return damaged();
     }
-    if block.len() - len < start {
-        return damaged();
-    }
-    let code = code_at(block, start, size);
-    step_decoded(
-        code,
-        size as u16,
-        plan,
-        keys,
-        cells,
-        saved,
-        worker,
-        call,
-        seat,
-        body,
-    )
+    let counted = Site {
+        call: site.call,
+        place: site.place,
+        count: d.count,
+    };
+    let uses = d.uses;
+    let action = d.action;
+    perform(plan, keys, cells, counted, uses, action)
 }
 
-// One step of a call. "At place = length: outcome 0."
-fn step_call(
+// The place (entry, or 0 to the code's length) and the count.
+fn in_range(plan: &[u64], site: Site) -> bool
+    requires { ⌜ maxCalls * planWords ≤ length (now plan) ⌝ }
+    requires { ⌜ site .call < maxCalls ⌝ }
+    ensures { λ r. ⌜ r
+        ≡ (not (ltb (maxCode + 1) (planWord (now (plan .entry)) (site .call) codeLength)
+        || ltb (planWord (now (plan .entry)) (site .call) codeLength) (site .place))
+        && not (ltb maxCount (site .count))) ⌝ }
+{
+    let code = plan_word(plan, site.call, CODE_LENGTH) as usize;
+    if LAST_PLACE < code {
+        return false;
+    }
+    if code < site.place {
+        return false;
+    }
+    site.count <= MAX_COUNT
+}
+
+// Whether the record of a call lies in a block of `len` bytes whose first call record starts at `start`.
+fn has_record(len: usize, start: usize, call: usize) -> bool
+    requires { ⌜ call < maxCalls ⌝ }
+    ensures { λ r. ⌜ r ≡ not (ltb len (start + callRecordBytes * call + callRecordBytes)) ⌝ }
+{
+    let end = CALL_RECORD_BYTES * call + CALL_RECORD_BYTES;
+    if len < end {
+        return false;
+    }
+    start <= len - end
+}
+
+// The call that a worker holds, in a run whose first call record starts at `start`: what its place comes to.
+fn step_held(
+    start: usize,
     block: &[u8],
     plan: &[u64],
     keys: &[u64],
     cells: &mut [i64],
-    saved: &[i64],
+    seats: &[u64],
+    frames: &[i64],
     worker: usize,
     call: usize,
-    seat: Seat,
-    body: Call,
 ) -> Turn
-    requires { ⌜ Ready (now plan) (now saved) worker call ⌝ }
-    requires { ⌜ SeatInRange (now plan) call seat ⌝ }
-    ensures { λ r. ⌜ record { turn = r; cells = now (cells .exit) }
-        ≡ turned (now (cells .entry))
-        (stepCall (viewIn (now (block .entry)) (now (plan .entry)) (now (keys .entry)) call body)
-        (localIn seat (workerSaved (now (plan .entry)) (now (saved .entry)) worker call)) (now (cells .entry))) ⌝ }
+    requires { ⌜ Ready (now plan) (now keys) (now frames) worker call ⌝ }
+    ensures { λ r. ⌜ ((head : Head) (status : List ℕ) → start ≡ head .«first_call»
+        → turnSettled head (now (plan .entry)) (now (keys .entry)) (now (cells .exit)) status (now (seats .entry)) (now (frames .entry)) worker
+        call r
+        ≡ stepHeld (now (block .entry))
+        (lent head (now (plan .entry)) (now (keys .entry)) (now (cells .entry)) status (now (seats .entry)) (now (frames .entry))) worker
+        call) ⌝ }
 {
-    if seat.place == 0 {
-        return step_entry(plan, keys, cells, saved, worker, call, seat, body);
+    let site = Site {
+        call,
+        place: place_of(seats, worker) as usize,
+        count: count_of(seats, worker),
+    };
+    if !in_range(plan, site) {
+        return damaged();
     }
-    if seat.place as u64 == plan_word(plan, call, CODE_LENGTH) {
-        return done(ENDED, seat.count);
+    if !has_record(block.len(), start, call) {
+        return damaged();
     }
-    step_instr(block, plan, keys, cells, saved, worker, call, seat, body)
+    let CallBody::InRange(body) = call_at(block, start + CALL_RECORD_BYTES * call + HEAD_BYTES)
+    else {
+        return damaged();
+    };
+    let regs = regs_of(frames, worker);
+    step_place(block, plan, keys, cells, site, regs, body)
 }
 
 // The receipt of a finished call: its outcome and its count.
@@ -218,100 +168,107 @@ fn put_receipt(status: &mut [u64], call: usize, outcome: u64, count: u64)
 }
 
 // "A finished or cancelled call frees its worker."
-fn settle(seat: Seat, status: &mut [u64], call: usize, turn: Turn) -> Seated
+fn freed() -> Seated
+    ensures { λ r. ⌜ r ≡ record { held = 0; answer = Accepted } ⌝ }
+{
+    Seated {
+        held: 0,
+        answer: Answer::Accepted,
+    }
+}
+
+// The end of a call. "On 3, 4, 5 the same step restores every cell of the write set"; behind all tests the receipt is written.
+fn finish(
+    held: u16,
+    plan: &[u64],
+    cells: &mut [i64],
+    status: &mut [u64],
+    frames: &[i64],
+    worker: usize,
+    call: usize,
+    outcome: u64,
+    count: u64,
+) -> Seated
     requires { ⌜ call < maxCalls ⌝ }
-    ensures { λ r. ⌜ record { seated = r; status = now (status .exit) } ≡ settledBy seat (now (status .entry)) call turn ⌝ }
+    requires { ⌜ worker < maxWorkers ⌝ }
+    requires { ⌜ fixedSizes .plan ≤ length (now plan) ⌝ }
+    requires { ⌜ fixedSizes .frames ≤ length (now frames) ⌝ }
+    ensures { λ r. ⌜ ((head : Head) (keys seats : List ℕ) → held ≡ heldAt head worker
+        → moved (r .answer)
+        (lent (withHeld head worker (r .held)) (now (plan .entry)) keys (now (cells .exit)) (now (status .exit)) seats (now (frames .entry)))
+        ≡ stepped (lent head (now (plan .entry)) keys (now (cells .entry)) (now (status .entry)) seats (now (frames .entry))) worker call
+        (finish (cellView (now (plan .entry)) keys call) (workerSaved (now (plan .entry)) (now (frames .entry)) worker call) outcome count
+        (now (cells .entry)))) ⌝ }
+{
+    if outcome < THROWN {
+        put_receipt(status, call, outcome, count);
+        return freed();
+    }
+    let n = key_count(plan, call);
+    if !restorable(plan, call, n) {
+        return Seated {
+            held,
+            answer: Answer::Damaged,
+        };
+    }
+    restore(plan, call, n, frames, worker, cells);
+    put_receipt(status, call, outcome, count);
+    freed()
+}
+
+// What a turn leaves of a run, beside the cells that its place changed.
+fn settle(
+    held: u16,
+    plan: &[u64],
+    cells: &mut [i64],
+    status: &mut [u64],
+    seats: &mut [u64],
+    frames: &mut [i64],
+    worker: usize,
+    call: usize,
+    turn: Turn,
+) -> Seated
+    requires { ⌜ call < maxCalls ⌝ }
+    requires { ⌜ worker < maxWorkers ⌝ }
+    requires { ⌜ fixedSizes .plan ≤ length (now plan) ⌝ }
+    requires { ⌜ fixedSizes .frames ≤ length (now frames) ⌝ }
+    ensures { λ r. ⌜ ((head : Head) (keys : List ℕ) → held ≡ heldAt head worker
+        → moved (r .answer)
+        (lent (withHeld head worker (r .held)) (now (plan .entry)) keys (now (cells .exit)) (now (status .exit)) (now (seats .exit))
+        (now (frames .exit)))
+        ≡ turnSettled head (now (plan .entry)) keys (now (cells .entry)) (now (status .entry)) (now (seats .entry)) (now (frames .entry))
+        worker call turn) ⌝ }
 {
     let fate = turn.fate;
     let regs = turn.regs;
     match fate {
         Fate::Broken => Seated {
-            seat,
+            held,
             answer: Answer::Damaged,
         },
         Fate::Going(place) => {
-            let on = Seat {
-                call: call + 1,
-                place,
-                count: turn.count,
-                regs,
-            };
+            put_seat(seats, worker, place as u64, turn.count);
+            put_regs(frames, worker, regs);
             Seated {
-                seat: on,
+                held,
                 answer: Answer::Accepted,
             }
         }
-        Fate::Over(outcome) => {
-            put_receipt(status, call, outcome, turn.count);
-            Seated {
-                seat: idle_seat(),
-                answer: Answer::Accepted,
-            }
-        }
+        Fate::Over(outcome) => finish(
+            held,
+            plan,
+            cells,
+            status,
+            frames,
+            worker,
+            call,
+            outcome,
+            turn.count,
+        ),
     }
 }
 
-// The place (entry, or 0 to the code's length) and the count.
-fn in_range(plan: &[u64], call: usize, seat: Seat) -> bool
-    requires { ⌜ call < maxCalls ⌝ }
-    ensures { λ r. ⌜ r
-        ≡ (not (ltb (maxCode + 1) (planWord (now (plan .entry)) call codeLength)
-        || ltb (planWord (now (plan .entry)) call codeLength) (seat .place))
-        && not (ltb maxCode (seat .count))) ⌝ }
-{
-    let code = plan_word(plan, call, CODE_LENGTH) as usize;
-    if LAST_PLACE < code {
-        return false;
-    }
-    if code < seat.place {
-        return false;
-    }
-    seat.count <= MAX_CODE as u64
-}
-
-// Whether the record of a call lies in a block of `len` bytes whose first call record starts at `start`.
-fn has_record(len: usize, start: usize, call: usize) -> bool
-    requires { ⌜ call < maxCalls ⌝ }
-    ensures { λ r. ⌜ r ≡ not (ltb len (start + (headBytes + callBytes) * call + (headBytes + callBytes))) ⌝ }
-{
-    let end = RECORD_BYTES * call + RECORD_BYTES;
-    if len < end {
-        return false;
-    }
-    start <= len - end
-}
-
-// A step of the call that a worker holds, in a run whose first call record starts at `start`.
-fn step_held(
-    seat: Seat,
-    start: usize,
-    block: &[u8],
-    plan: &[u64],
-    keys: &[u64],
-    cells: &mut [i64],
-    saved: &[i64],
-    worker: usize,
-    call: usize,
-) -> Turn
-    requires { ⌜ Ready (now plan) (now saved) worker call ⌝ }
-    ensures { λ r. ⌜ ((head : Head) (status : List ℕ) → seat ≡ seatOf head worker → start ≡ head .«first_call»
-        → settledRun head (now (plan .entry)) (now (keys .entry)) (now (cells .exit)) status (now (saved .entry)) worker call r
-        ≡ stepHeld (now (block .entry))
-        (lent head (now (plan .entry)) (now (keys .entry)) (now (cells .entry)) status (now (saved .entry))) worker call) ⌝ }
-{
-    if !in_range(plan, call, seat) {
-        return damaged();
-    }
-    if !has_record(block.len(), start, call) {
-        return damaged();
-    }
-    let CallBody::InRange(body) = call_at(block, start + RECORD_BYTES * call + HEAD_BYTES) else {
-        return damaged();
-    };
-    step_call(block, plan, keys, cells, saved, worker, call, seat, body)
-}
-
-// STEP(worker) on a lent run and block: the answer and the head, with the cells and the status changed in place.
+// STEP(worker) on a lent run and block: the answer and the head, with the cells, the status, the seats and the frames changed in place.
 pub fn step(
     head: Head,
     block: &[u8],
@@ -319,44 +276,47 @@ pub fn step(
     keys: &[u64],
     cells: &mut [i64],
     status: &mut [u64],
-    saved: &[i64],
+    seats: &mut [u64],
+    frames: &mut [i64],
     worker: usize,
 ) -> Reply
     ensures { λ r. ⌜ moved (r .answer)
-        (lent (r .head) (now (plan .entry)) (now (keys .entry)) (now (cells .exit)) (now (status .exit)) (now (saved .entry)))
+        (lent (r .head) (now (plan .entry)) (now (keys .entry)) (now (cells .exit)) (now (status .exit)) (now (seats .exit))
+        (now (frames .exit)))
         ≡ stepOf (now (block .entry))
-        (lent head (now (plan .entry)) (now (keys .entry)) (now (cells .entry)) (now (status .entry)) (now (saved .entry))) worker ⌝ }
+        (lent head (now (plan .entry)) (now (keys .entry)) (now (cells .entry)) (now (status .entry)) (now (seats .entry))
+        (now (frames .entry))) worker ⌝ }
 {
     let large = large_enough(
         plan.len(),
         keys.len(),
         cells.len(),
         status.len(),
-        saved.len(),
+        seats.len(),
+        frames.len(),
     );
     if let Tested::Refused(answer) = worker_tested(head.workers, large, worker) {
         return Reply { head, answer };
     }
     let mut next = head;
-    let seat = next.seats[worker];
-    match held(head.calls, seat.call) {
+    let held = next.held[worker];
+    match held_call(head.calls, held as usize) {
         Holding::Answered(answer) => Reply { head, answer },
         Holding::Holds(call) => {
             let turn = step_held(
-                seat,
                 head.first_call,
                 block,
                 plan,
                 keys,
                 cells,
-                saved,
+                seats,
+                frames,
                 worker,
                 call,
             );
-            let after = settle(seat, status, call, turn);
+            let after = settle(held, plan, cells, status, seats, frames, worker, call, turn);
             let answer = after.answer;
-            let seat = after.seat;
-            next.seats[worker] = seat;
+            next.held[worker] = after.held;
             Reply { head: next, answer }
         }
     }

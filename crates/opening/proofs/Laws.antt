@@ -94,109 +94,104 @@ large-tested false workers e = let z : _≡_ {A = ℕ} 0 1 = cc in absurd (omega
 prepared-large : (s : Sizes) (file : List ℕ) → largeEnough s ≡ true → preparedOf (roomIn s) file ≡ preparedIn s file
 unfolding largeEnough preparedOf
 prepared-large s file large =
-    rw (both (roomEnough (roomIn s)) (leb (fixedSizes .status) (s .status)) (both _ (leb (fixedSizes .saved) (s .saved)) large .0) .0)
+    rw (both (roomEnough (roomIn s)) _ (both _ (leb (fixedSizes .seats) (s .seats)) (both _ (leb (fixedSizes .frames) (s .frames)) large .0) .0) .0)
 
--- A head and five lists that are equal, part by part.
-same-run : (v : Verdict) (w c n f c′ n′ f′ : ℕ) (x x′ y y′ : List ℕ) (z z′ : List ℤ) (t t′ : List ℕ) (o o′ : List ℤ)
-    → c ≡ c′ → n ≡ n′ → f ≡ f′ → x ≡ x′ → y ≡ y′ → z ≡ z′ → t ≡ t′ → o ≡ o′
-    → openingWith (record { verdict = v; head = headOf w c n f }) x y z t o ≡ openingWith (record { verdict = v; head = headOf w c′ n′ f′ }) x′ y′ z′ t′ o′
-same-run v w c n f c′ n′ f′ x x′ y y′ z z′ t t′ o o′ e₁ e₂ e₃ e₄ e₅ e₆ e₇ e₈ = rw (e₁, e₂, e₃, e₄, e₅, e₆, e₇, e₈)
+-- A head and six lists that are equal, part by part.
+same-run : (v : Verdict) (w c n f c′ n′ f′ : ℕ) (x x′ y y′ : List ℕ) (z z′ : List ℤ) (t t′ u u′ : List ℕ) (o o′ : List ℤ)
+    → c ≡ c′ → n ≡ n′ → f ≡ f′ → x ≡ x′ → y ≡ y′ → z ≡ z′ → t ≡ t′ → u ≡ u′ → o ≡ o′
+    → openingWith (record { verdict = v; head = headOf w c n f }) x y z t u o ≡ openingWith (record { verdict = v; head = headOf w c′ n′ f′ }) x′ y′ z′ t′ u′ o′
+same-run v w c n f c′ n′ f′ x x′ y y′ z z′ t t′ u u′ o o′ e₁ e₂ e₃ e₄ e₅ e₆ e₇ e₈ e₉ = rw (e₁, e₂, e₃, e₄, e₅, e₆, e₇, e₈, e₉)
 
-module _ (s : Sizes) (workers : ℕ) (p : Prepared) (plan keys : List ℕ) (cells : List ℤ) (status : List ℕ) (saved : List ℤ)
+-- The states of the calls, the seats and the frames keep their lengths and are zero.
+pub record StatesCleared (s : Sizes) (status seats : List ℕ) (frames : List ℤ) : Type 0 where
+  pub status-kept : length status ≡ s .status
+  pub seats-kept : length seats ≡ s .seats
+  pub frames-kept : length frames ≡ s .frames
+  pub status-zero : status ≡ repeated (s .status) 0
+  pub seats-zero : seats ≡ repeated (s .seats) 0
+  pub frames-zero : frames ≡ repeated (s .frames) (pos 0)
+
+module _ (s : Sizes) (workers : ℕ) (p : Prepared) (plan keys : List ℕ) (cells : List ℤ) (status seats : List ℕ) (frames : List ℤ)
     (q : footprint.Prepared) (e : preparing p plan keys cells ≡ q) (zero : Zeroed (roomOf (s .plan) (s .keys) (s .cells)) q)
-    (f : status ≡ repeated (s .status) 0) (g : saved ≡ repeated (s .saved) (pos 0)) where
-  by-verdict : (v : Verdict) → p .verdict ≡ v → openingWith (openedBy p workers v) plan keys cells status saved ≡ openPrepared s workers q v
+    (z : StatesCleared s status seats frames) where
+  by-verdict : (v : Verdict) → p .verdict ≡ v → openingWith (openedBy p workers v) plan keys cells status seats frames ≡ openPrepared s workers q v
   unfolding openedBy openPrepared refusedRun unprepared
   by-verdict verdict.Accepted h =
       same-run verdict.Accepted workers (p .calls) (p .cells) (p .«first_call») (q .calls) (q .cells) (q .firstCall) plan (q .plan) keys (q .keys) cells (q .values)
-      status (repeated (s .status) 0) saved (repeated (s .saved) (pos 0))
+      status (repeated (s .status) 0) seats (repeated (s .seats) 0) frames (repeated (s .frames) (pos 0))
       (ap (λ (x : footprint.Prepared). x .calls) e)
       (ap (λ (x : footprint.Prepared). x .cells) e)
       (ap (λ (x : footprint.Prepared). x .firstCall) e)
       (ap (λ (x : footprint.Prepared). x .plan) e)
       (ap (λ (x : footprint.Prepared). x .keys) e)
       (ap (λ (x : footprint.Prepared). x .values) e)
-      f
-      g
+      (z .status-zero)
+      (z .seats-zero)
+      (z .frames-zero)
   by-verdict (verdict.Refused why) h =
       let none = e ∙ zero why (sym (ap (λ (x : footprint.Prepared). x .verdict) e) ∙ h) in
       same-run (verdict.Refused why) 0 0 0 0 0 0 0 plan (repeated (s .plan) 0) keys (repeated (s .keys) 0) cells (repeated (s .cells) (pos 0))
-      status (repeated (s .status) 0) saved (repeated (s .saved) (pos 0))
+      status (repeated (s .status) 0) seats (repeated (s .seats) 0) frames (repeated (s .frames) (pos 0))
       refl
       refl
       refl
       (ap (λ (x : footprint.Prepared). x .plan) none)
       (ap (λ (x : footprint.Prepared). x .keys) none)
       (ap (λ (x : footprint.Prepared). x .values) none)
-      f
-      g
+      (z .status-zero)
+      (z .seats-zero)
+      (z .frames-zero)
 
-  prepared-run : openingWith (openedBy p workers (p .verdict)) plan keys cells status saved ≡ openPrepared s workers q (q .verdict)
+  prepared-run : openingWith (openedBy p workers (p .verdict)) plan keys cells status seats frames ≡ openPrepared s workers q (q .verdict)
   prepared-run = by-verdict (p .verdict) refl ∙ ap (openPrepared s workers q) (ap (λ (x : footprint.Prepared). x .verdict) e)
 
--- ---- the answer, in cleared buffers
+-- ---- the answer, where the states, the seats and the frames are cleared
 
-pub record BuffersCleared (s : Sizes) (plan keys : List ℕ) (cells : List ℤ) (status : List ℕ) (saved : List ℤ) : Type 0 where
-  pub plan-kept : length plan ≡ s .plan
-  pub keys-kept : length keys ≡ s .keys
-  pub cells-kept : length cells ≡ s .cells
-  pub status-kept : length status ≡ s .status
-  pub saved-kept : length saved ≡ s .saved
-  pub plan-zero : plan ≡ repeated (s .plan) 0
-  pub keys-zero : keys ≡ repeated (s .keys) 0
-  pub cells-zero : cells ≡ repeated (s .cells) (pos 0)
-  pub status-zero : status ≡ repeated (s .status) 0
-  pub saved-zero : saved ≡ repeated (s .saved) (pos 0)
-
-module _ (n m k t o : ℕ) (file : List ℕ) (workers : ℕ) (plan keys : List ℕ) (cells : List ℤ) (status : List ℕ) (saved : List ℤ)
-    (z : BuffersCleared (sizesFor n m k t o) plan keys cells status saved) (large : Bool)
-    (l : large ≡ largeEnough (sizesFor (length plan) (length keys) (length cells) (length status) (length saved)))
+module _ (n m k t u o : ℕ) (file : List ℕ) (workers : ℕ) (status seats : List ℕ) (frames : List ℤ)
+    (z : StatesCleared (sizesFor n m k t u o) status seats frames) (large : Bool)
+    (l : large ≡ largeEnough (sizesFor n m k (length status) (length seats) (length frames)))
     (v : Verdict) (tested : v ≡ testedFor large workers) where
-  tested-as : v ≡ testedFor (largeEnough (sizesFor n m k t o)) workers
+  tested-as : v ≡ testedFor (largeEnough (sizesFor n m k t u o)) workers
   tested-as =
       tested
       ∙ ap (λ (b : Bool). testedFor b workers)
-      (l ∙ ap largeEnough (same n m k t o (length plan) (length keys) (length cells) (length status) (length saved) (z .plan-kept) (z .keys-kept) (z .cells-kept) (z .status-kept) (z .saved-kept)))
+      (l ∙ ap largeEnough (same t u o (length status) (length seats) (length frames) (z .status-kept) (z .seats-kept) (z .frames-kept)))
     where
-      same : (n m k t o n′ m′ k′ t′ o′ : ℕ) → n′ ≡ n → m′ ≡ m → k′ ≡ k → t′ ≡ t → o′ ≡ o → sizesFor n′ m′ k′ t′ o′ ≡ sizesFor n m k t o
-      same n m k t o n′ m′ k′ t′ o′ a b c d e = rw (a, b, c, d, e)
+      same : (t u o t′ u′ o′ : ℕ) → t′ ≡ t → u′ ≡ u → o′ ≡ o → sizesFor n m k t′ u′ o′ ≡ sizesFor n m k t u o
+      same t u o t′ u′ o′ a b c = rw (a, b, c)
 
   -- 20 and 13.
-  pub open-refused : (why : Refusal) (r : Opened) → v ≡ verdict.Refused why → r ≡ openedNone why
-      → openingWith r plan keys cells status saved ≡ openingOf (sizesFor n m k t o) file workers
+  pub open-refused : (why : Refusal) (r : Opened) {plan keys : List ℕ} {cells : List ℤ} → v ≡ verdict.Refused why → r ≡ openedNone why
+      → plan ≡ repeated n 0 → keys ≡ repeated m 0 → cells ≡ repeated k (pos 0)
+      → openingWith r plan keys cells status seats frames ≡ openingOf (sizesFor n m k t u o) file workers
   unfolding refusedRun
-  open-refused why r h made =
-      ap (λ (x : Opened). openingWith x plan keys cells status saved) made
-      ∙ same-run (verdict.Refused why) 0 0 0 0 0 0 0 plan (repeated n 0) keys (repeated m 0) cells (repeated k (pos 0)) status (repeated t 0) saved (repeated o (pos 0))
-      refl refl refl (z .plan-zero) (z .keys-zero) (z .cells-zero) (z .status-zero) (z .saved-zero)
-      ∙ sym (opening-refused (sizesFor n m k t o) file workers why (sym tested-as ∙ h))
+  open-refused why r {plan} {keys} {cells} h made planned keyed celled =
+      ap (λ (x : Opened). openingWith x plan keys cells status seats frames) made
+      ∙ same-run (verdict.Refused why) 0 0 0 0 0 0 0 plan (repeated n 0) keys (repeated m 0) cells (repeated k (pos 0)) status (repeated t 0) seats (repeated u 0)
+      frames (repeated o (pos 0)) refl refl refl planned keyed celled (z .status-zero) (z .seats-zero) (z .frames-zero)
+      ∙ sym (opening-refused (sizesFor n m k t u o) file workers why (sym tested-as ∙ h))
 
   -- 1 to 12, and the accepted block.
   pub open-passed : (p : Prepared) (plan′ keys′ : List ℕ) (cells′ : List ℤ) (r : Opened) → v ≡ verdict.Accepted
-      → preparing p plan′ keys′ cells′ ≡ preparedOf (roomOf (length plan) (length keys) (length cells)) file
+      → preparing p plan′ keys′ cells′ ≡ preparedOf (roomOf n m k) file
       → r ≡ openedBy p workers (p .verdict)
-      → openingWith r plan′ keys′ cells′ status saved ≡ openingOf (sizesFor n m k t o) file workers
+      → openingWith r plan′ keys′ cells′ status seats frames ≡ openingOf (sizesFor n m k t u o) file workers
   open-passed p plan′ keys′ cells′ r h e made =
-      ap (λ (x : Opened). openingWith x plan′ keys′ cells′ status saved) made
-      ∙ prepared-run (sizesFor n m k t o) workers p plan′ keys′ cells′ status saved (preparedIn (sizesFor n m k t o) file)
-      (e
-      ∙ ap (λ (x : Room). preparedOf x file) (same n m k (length plan) (length keys) (length cells) (z .plan-kept) (z .keys-kept) (z .cells-kept))
-      ∙ prepared-large (sizesFor n m k t o) file large-is)
-      (read-zero (roomOf n m k) file (readBlock file)) (z .status-zero) (z .saved-zero)
-      ∙ sym (opening-passed (sizesFor n m k t o) file workers passed)
+      ap (λ (x : Opened). openingWith x plan′ keys′ cells′ status seats frames) made
+      ∙ prepared-run (sizesFor n m k t u o) workers p plan′ keys′ cells′ status seats frames (preparedIn (sizesFor n m k t u o) file)
+      (e ∙ prepared-large (sizesFor n m k t u o) file large-is)
+      (read-zero (roomOf n m k) file (readBlock file)) z
+      ∙ sym (opening-passed (sizesFor n m k t u o) file workers passed)
     where
-      passed : testedFor (largeEnough (sizesFor n m k t o)) workers ≡ verdict.Accepted
+      passed : testedFor (largeEnough (sizesFor n m k t u o)) workers ≡ verdict.Accepted
       passed = sym tested-as ∙ h
 
-      large-is : largeEnough (sizesFor n m k t o) ≡ true
-      large-is = large-tested (largeEnough (sizesFor n m k t o)) workers passed
-
-      same : (n m k n′ m′ k′ : ℕ) → n′ ≡ n → m′ ≡ m → k′ ≡ k → roomOf n′ m′ k′ ≡ roomOf n m k
-      same n m k n′ m′ k′ a b c = rw (a, b, c)
+      large-is : largeEnough (sizesFor n m k t u o) ≡ true
+      large-is = large-tested (largeEnough (sizesFor n m k t u o)) workers passed
 
 -- Equal answers have equal numbers and offsets.
-pub opened-as : {r : Opened} {plan keys : List ℕ} {cells : List ℤ} {status : List ℕ} {saved : List ℤ} {o : machine.Opened}
-    → openingWith r plan keys cells status saved ≡ o → OpenedAs r plan keys cells status saved o
+pub opened-as : {r : Opened} {plan keys : List ℕ} {cells : List ℤ} {status seats : List ℕ} {frames : List ℤ} {o : machine.Opened}
+    → openingWith r plan keys cells status seats frames ≡ o → OpenedAs r plan keys cells status seats frames o
 opened-as e =
     record {
       same = e;

@@ -18,15 +18,16 @@ use Rattle.machine.specs.Opening.{headOf}
 use Rattle.machine.specs.Run.{Sizes}
 use Rattle.opening.specs.declared.Opened.{Opened}
 
-abbrev pub sizesFor : (plan keys cells status saved : ℕ) → Sizes
-sizesFor plan keys cells status saved = record { plan = plan; keys = keys; cells = cells; status = status; saved = saved }
+abbrev pub sizesFor : (plan keys cells status seats frames : ℕ) → Sizes
+sizesFor plan keys cells status seats frames =
+    record { plan = plan; keys = keys; cells = cells; status = status; seats = seats; frames = frames }
 
 -- An answer with the buffers.
-abbrev pub openingWith : Opened → List ℕ → List ℕ → List ℤ → List ℕ → List ℤ → machine.Opened
-openingWith r plan keys cells status saved =
+abbrev pub openingWith : Opened → List ℕ → List ℕ → List ℤ → List ℕ → List ℕ → List ℤ → machine.Opened
+openingWith r plan keys cells status seats frames =
     record {
       answer = r .verdict;
-      run = record { head = r .head; plan = plan; keys = keys; cells = cells; status = status; saved = saved };
+      run = record { head = r .head; plan = plan; keys = keys; cells = cells; status = status; seats = seats; frames = frames };
     }
 
 -- The answer of a refusal.
@@ -49,7 +50,7 @@ testedFor large workers =
     else verdict.Accepted
 
 -- The answer and the buffers are the definition's, and so are the verdict's number and offset.
-pub record OpenedAs (r : Opened) (plan keys : List ℕ) (cells : List ℤ) (status : List ℕ) (saved : List ℤ) (o : machine.Opened) : Type 0 where
-  pub same : openingWith r plan keys cells status saved ≡ o
+pub record OpenedAs (r : Opened) (plan keys : List ℕ) (cells : List ℤ) (status seats : List ℕ) (frames : List ℤ) (o : machine.Opened) : Type 0 where
+  pub same : openingWith r plan keys cells status seats frames ≡ o
   pub number : verdictNumber (r .verdict) ≡ verdictNumber (o .answer)
   pub offset : verdictOffset (r .verdict) ≡ verdictOffset (o .answer)

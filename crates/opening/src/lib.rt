@@ -4,7 +4,6 @@ use block::Refusal;
 use block::Verdict;
 use block::limits::MAX_WORKERS;
 use machine::Head;
-use machine::Seat;
 use machine::layout::large_enough;
 ghost use mathlib.Core.Path.{_≡_};
 ghost use lib.IntN.{pos};
@@ -23,18 +22,12 @@ pub struct Opened {
 fn idle_head(workers: usize, calls: usize, cells: usize, start: usize) -> Head
     ensures { λ r. ⌜ r ≡ headOf workers calls cells start ⌝ }
 {
-    let seat = Seat {
-        call: 0,
-        place: 0,
-        count: 0,
-        regs: [0; 8],
-    };
     Head {
         workers,
         calls,
         cells,
         first_call: start,
-        seats: [seat; MAX_WORKERS],
+        held: [0; MAX_WORKERS],
     }
 }
 
@@ -78,33 +71,26 @@ fn tested(large: bool, workers: usize) -> Verdict
     Verdict::Accepted
 }
 
-// The status of the calls and the old values become zero.
-fn clear_states(status: &mut [u64], saved: &mut [i64])
+// The status of the calls, the seats and the frames become zero.
+fn clear_states(status: &mut [u64], seats: &mut [u64], frames: &mut [i64])
     ensures { λ r. ⌜ now (status .exit) ≡ repeated (length (now (status .entry))) 0 ⌝ }
-    ensures { λ r. ⌜ now (saved .exit) ≡ repeated (length (now (saved .entry))) (pos 0) ⌝ }
+    ensures { λ r. ⌜ now (seats .exit) ≡ repeated (length (now (seats .entry))) 0 ⌝ }
+    ensures { λ r. ⌜ now (frames .exit) ≡ repeated (length (now (frames .entry))) (pos 0) ⌝ }
 {
     wire::clear_words(status);
-    wire::clear_values(saved);
+    wire::clear_words(seats);
+    wire::clear_values(frames);
 }
 
-// All five buffers become zero.
-fn clear_all(
-    plan: &mut [u64],
-    keys: &mut [u64],
-    cells: &mut [i64],
-    status: &mut [u64],
-    saved: &mut [i64],
-)
+// The plan, the keys and the cells of a block that is not read become zero.
+fn clear_prepared(plan: &mut [u64], keys: &mut [u64], cells: &mut [i64])
     ensures { λ r. ⌜ now (plan .exit) ≡ repeated (length (now (plan .entry))) 0 ⌝ }
     ensures { λ r. ⌜ now (keys .exit) ≡ repeated (length (now (keys .entry))) 0 ⌝ }
     ensures { λ r. ⌜ now (cells .exit) ≡ repeated (length (now (cells .entry))) (pos 0) ⌝ }
-    ensures { λ r. ⌜ now (status .exit) ≡ repeated (length (now (status .entry))) 0 ⌝ }
-    ensures { λ r. ⌜ now (saved .exit) ≡ repeated (length (now (saved .entry))) (pos 0) ⌝ }
 {
     wire::clear_words(plan);
     wire::clear_words(keys);
     wire::clear_values(cells);
-    clear_states(status, saved);
 }
 
 // The run of a block for 1 to 8 workers, every call waiting: 20 if a buffer is too short, then 13, then 1 to 12. The head and the buffers
@@ -116,23 +102,29 @@ pub fn open(
     keys: &mut [u64],
     cells: &mut [i64],
     status: &mut [u64],
-    saved: &mut [i64],
+    seats: &mut [u64],
+    frames: &mut [i64],
 ) -> Opened
-    ensures { λ r. ⌜ OpenedAs r (now (plan .exit)) (now (keys .exit)) (now (cells .exit)) (now (status .exit)) (now (saved .exit))
+    ensures { λ r. ⌜ OpenedAs r (now (plan .exit)) (now (keys .exit)) (now (cells .exit)) (now (status .exit)) (now (seats .exit))
+        (now (frames .exit))
         (openingOf
         (sizesFor (length (now (plan .entry))) (length (now (keys .entry))) (length (now (cells .entry))) (length (now (status .entry)))
-        (length (now (saved .entry)))) (now (file .entry)) workers) ⌝ }
+        (length (now (seats .entry))) (length (now (frames .entry)))) (now (file .entry)) workers) ⌝ }
 {
-    clear_all(plan, keys, cells, status, saved);
+    clear_states(status, seats, frames);
     let large = large_enough(
         plan.len(),
         keys.len(),
         cells.len(),
         status.len(),
-        saved.len(),
+        seats.len(),
+        frames.len(),
     );
     match tested(large, workers) {
-        Verdict::Refused(why) => refused(why),
+        Verdict::Refused(why) => {
+            clear_prepared(plan, keys, cells);
+            refused(why)
+        }
         Verdict::Accepted => answered(analysis::prepare(file, plan, keys, cells), workers),
     }
 }

@@ -19,7 +19,7 @@ use Rattle.console.specs.Register.{Session, playLine, playByte, playBytes}
 use Rattle.console.specs.declared.Line.{Line}
 use Rattle.play.proofs.PlayLaws.{withTextBefore, bytes-behind}
 use Rattle.play.specs.Shown.{Shown, freshSession, shown, shownFrom}
-use Rattle.play.specs.Passed.{maxAnswer}
+use Rattle.play.specs.AnswerLength.{maxAnswer}
 use Rattle.play.proofs.TextLaws.{byte-grows}
 
 -- A text that is shown already, and what is played behind it.

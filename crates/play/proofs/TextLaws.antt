@@ -23,7 +23,7 @@ use Rattle.text.proofs.Laws.{digits-length}
 use Rattle.console.specs.Line.{isEmpty, lineMove}
 use Rattle.console.specs.Text.{cellLine, receiptLine}
 use Rattle.console.specs.Register.{Session, answerText, playMove, playLine, playByte, playBytes, playEnd}
-use Rattle.play.specs.Passed.{maxAnswer}
+use Rattle.play.specs.AnswerLength.{maxAnswer}
 use Rattle.play.specs.Printed.{maxRecordText}
 
 refused-short : (line n : ℕ) → length (refusedText line n) ≤ maxAnswer

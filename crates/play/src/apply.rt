@@ -17,17 +17,39 @@ pub fn apply_move(
     keys: &[u64],
     cells: &mut [i64],
     status: &mut [u64],
-    saved: &mut [i64],
+    seats: &mut [u64],
+    frames: &mut [i64],
     m: Move,
 ) -> Reply
     ensures { λ r. ⌜ moved (r .answer)
-        (lent (r .head) (now (plan .entry)) (now (keys .entry)) (now (cells .exit)) (now (status .exit)) (now (saved .exit)))
+        (lent (r .head) (now (plan .entry)) (now (keys .entry)) (now (cells .exit)) (now (status .exit)) (now (seats .exit)) (now (frames .exit)))
         ≡ moveOf (now (block .entry))
-        (lent head (now (plan .entry)) (now (keys .entry)) (now (cells .entry)) (now (status .entry)) (now (saved .entry))) m ⌝ }
+        (lent head (now (plan .entry)) (now (keys .entry)) (now (cells .entry)) (now (status .entry)) (now (seats .entry))
+        (now (frames .entry))) m ⌝ }
 {
     match m {
-        Move::Begin(worker, call) => begin(head, plan, keys, cells, status, saved, worker, call),
-        Move::Step(worker) => step(head, block, plan, keys, cells, status, saved, worker),
-        Move::Cancel(worker) => cancel(head, plan, keys, cells, status, saved, worker),
+        Move::Begin(worker, call) => begin(
+            head,
+            plan,
+            keys,
+            cells,
+            status,
+            seats,
+            frames,
+            worker,
+            call,
+        ),
+        Move::Step(worker) => step(
+            head,
+            block,
+            plan,
+            keys,
+            cells,
+            status,
+            seats,
+            frames,
+            worker,
+        ),
+        Move::Cancel(worker) => cancel(head, plan, keys, cells, status, seats, frames, worker),
     }
 }

@@ -72,22 +72,24 @@ fn play_line(
     keys: &[u64],
     cells: &mut [i64],
     status: &mut [u64],
-    saved: &mut [i64],
+    seats: &mut [u64],
+    frames: &mut [i64],
     out: &mut [u8],
     from: u32,
 ) -> Told
     ensures { λ r. ⌜ shownFrom (r .number) Empty
-        (lent (r .head) (now (plan .entry)) (now (keys .entry)) (now (cells .exit)) (now (status .exit)) (now (saved .exit)))
+        (lent (r .head) (now (plan .entry)) (now (keys .entry)) (now (cells .exit)) (now (status .exit)) (now (seats .exit)) (now (frames .exit)))
         (now (out .exit)) (r .end)
         ≡ shown (now (out .entry)) from
         (playLine (now (block .entry))
         (freshSession number line
-        (lent head (now (plan .entry)) (now (keys .entry)) (now (cells .entry)) (now (status .entry)) (now (saved .entry))))) ⌝ }
+        (lent head (now (plan .entry)) (now (keys .entry)) (now (cells .entry)) (now (status .entry)) (now (seats .entry))
+        (now (frames .entry))))) ⌝ }
 {
     match line_move(line) {
         LineMove::NoMove => play_malformed(number, head, out, from),
         LineMove::Move(m) => {
-            let reply = apply_move(head, block, plan, keys, cells, status, saved, m);
+            let reply = apply_move(head, block, plan, keys, cells, status, seats, frames, m);
             let after = reply.head;
             let answer = reply.answer;
             let end = answer_line(out, from, number, answer);
@@ -119,18 +121,21 @@ pub fn play_chunk(
     keys: &[u64],
     cells: &mut [i64],
     status: &mut [u64],
-    saved: &mut [i64],
+    seats: &mut [u64],
+    frames: &mut [i64],
     chunk: &[u8],
     n: u16,
     out: &mut [u8],
 ) -> Played
     ensures { λ r. ⌜ shownFrom (r .session .number) (r .session .line)
-        (lent (r .session .head) (now (plan .entry)) (now (keys .entry)) (now (cells .exit)) (now (status .exit)) (now (saved .exit)))
+        (lent (r .session .head) (now (plan .entry)) (now (keys .entry)) (now (cells .exit)) (now (status .exit)) (now (seats .exit))
+        (now (frames .exit)))
         (now (out .exit)) (r .length)
         ≡ shown (now (out .entry)) 0
         (playBytes (now (block .entry))
         (freshSession (s .number) (s .line)
-        (lent (s .head) (now (plan .entry)) (now (keys .entry)) (now (cells .entry)) (now (status .entry)) (now (saved .entry))))
+        (lent (s .head) (now (plan .entry)) (now (keys .entry)) (now (cells .entry)) (now (status .entry)) (now (seats .entry))
+        (now (frames .entry))))
         (take n (now (chunk .entry)))) ⌝ }
 {
     let end = at_most(n, chunk.len());
@@ -152,7 +157,8 @@ pub fn play_chunk(
                 keys,
                 cells,
                 status,
-                saved,
+                seats,
+                frames,
                 out,
                 written as u32,
             );
@@ -178,16 +184,19 @@ pub fn play_end(
     keys: &[u64],
     cells: &mut [i64],
     status: &mut [u64],
-    saved: &mut [i64],
+    seats: &mut [u64],
+    frames: &mut [i64],
     out: &mut [u8],
 ) -> Played
     ensures { λ r. ⌜ shownFrom (r .session .number) (r .session .line)
-        (lent (r .session .head) (now (plan .entry)) (now (keys .entry)) (now (cells .exit)) (now (status .exit)) (now (saved .exit)))
+        (lent (r .session .head) (now (plan .entry)) (now (keys .entry)) (now (cells .exit)) (now (status .exit)) (now (seats .exit))
+        (now (frames .exit)))
         (now (out .exit)) (r .length)
         ≡ shown (now (out .entry)) 0
         (playEnd (now (block .entry))
         (freshSession (s .number) (s .line)
-        (lent (s .head) (now (plan .entry)) (now (keys .entry)) (now (cells .entry)) (now (status .entry)) (now (saved .entry))))) ⌝ }
+        (lent (s .head) (now (plan .entry)) (now (keys .entry)) (now (cells .entry)) (now (status .entry)) (now (seats .entry))
+        (now (frames .entry))))) ⌝ }
 {
     let line = s.line;
     if let Line::Empty = line {
@@ -196,5 +205,17 @@ pub fn play_end(
             length: 0,
         };
     }
-    play_chunk(s, block, plan, keys, cells, status, saved, b"\n", 1, out)
+    play_chunk(
+        s,
+        block,
+        plan,
+        keys,
+        cells,
+        status,
+        seats,
+        frames,
+        b"\n",
+        1,
+        out,
+    )
 }

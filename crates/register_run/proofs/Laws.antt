@@ -33,7 +33,7 @@ use Rattle.console.specs.declared.Line.{Line}
 use Rattle.console.specs.declared.Line.the-variants.{Empty}
 use Rattle.play.specs.Shown.{Shown, freshSession, shown, shownFrom}
 use Rattle.console.specs.Text.{sheetText}
-use Rattle.play.specs.Passed.{maxAnswer}
+use Rattle.play.specs.AnswerLength.{maxAnswer}
 use Rattle.play.specs.Printed.{maxCloseText}
 use Rattle.play.proofs.PlayLaws.{withTextBefore, bytes-behind, chunks}
 use Rattle.play.proofs.PiecesLaws.{register-in-pieces}

@@ -18,9 +18,10 @@ use host::FILE_BYTES;
 use libc::STDIN_FILENO;
 use machine::Head;
 use machine::layout::CELLS_SIZE;
+use machine::layout::FRAMES_SIZE;
 use machine::layout::KEYS_SIZE;
 use machine::layout::PLAN_SIZE;
-use machine::layout::SAVED_SIZE;
+use machine::layout::SEATS_SIZE;
 use machine::layout::STATUS_SIZE;
 use machine::numbers::answer_number;
 use play::Session;
@@ -40,7 +41,7 @@ ghost use Rattle.moves.specs.Lent.{lent};
 ghost use Rattle.console.specs.Register.{closeRun};
 ghost use Rattle.console.specs.declared.Line.the-variants.{Empty};
 ghost use Rattle.play.specs.Shown.{freshSession};
-ghost use Rattle.play.specs.Passed.{maxAnswer};
+ghost use Rattle.play.specs.AnswerLength.{maxAnswer};
 ghost use Rattle.play.specs.Pieces.{endText};
 ghost use Rattle.host.specs.Exchange.{Handed};
 ghost use Rattle.register_run.specs.Runs.{chunkSize, InputRead, PiecePlayed, InputPlayed, RunsOn, Runs, Registers};
@@ -142,7 +143,8 @@ fn play_some(
     keys: &[u64],
     cells: &mut [i64],
     status: &mut [u64],
-    saved: &mut [i64],
+    seats: &mut [u64],
+    frames: &mut [i64],
     x: Exchange,
     limit: usize,
     chunk: &mut [u8],
@@ -155,9 +157,11 @@ fn play_some(
     requires { ⌜ x .received < 4294967296 ⌝ }
     ensures { λ r. ⌜ PiecePlayed (now (block .entry))
         (freshSession (s .number) (s .line)
-        (lent (s .head) (now (plan .entry)) (now (keys .entry)) (now (cells .entry)) (now (status .entry)) (now (saved .entry)))) x
+        (lent (s .head) (now (plan .entry)) (now (keys .entry)) (now (cells .entry)) (now (status .entry)) (now (seats .entry))
+        (now (frames .entry)))) x
         limit (now (transcript .entry)) r
-        (lent (r .session .head) (now (plan .entry)) (now (keys .entry)) (now (cells .exit)) (now (status .exit)) (now (saved .exit)))
+        (lent (r .session .head) (now (plan .entry)) (now (keys .entry)) (now (cells .exit)) (now (status .exit)) (now (seats .exit))
+        (now (frames .exit)))
         (now (transcript .exit)) ⌝ }
 {
     let got = read_some(x, chunk, limit);
@@ -169,7 +173,8 @@ fn play_some(
         keys,
         cells,
         status,
-        saved,
+        seats,
+        frames,
         chunk,
         taken,
         answers,
@@ -204,7 +209,8 @@ fn play_input(
     keys: &[u64],
     cells: &mut [i64],
     status: &mut [u64],
-    saved: &mut [i64],
+    seats: &mut [u64],
+    frames: &mut [i64],
     x: Exchange,
     limit: u32,
     chunk: &mut [u8],
@@ -216,9 +222,11 @@ fn play_input(
     requires { ⌜ x .received ≡ 0 ⌝ }
     ensures { λ r. ⌜ InputPlayed (now (block .entry))
         (freshSession 1 Empty
-        (lent head (now (plan .entry)) (now (keys .entry)) (now (cells .entry)) (now (status .entry)) (now (saved .entry)))) x limit
+        (lent head (now (plan .entry)) (now (keys .entry)) (now (cells .entry)) (now (status .entry)) (now (seats .entry))
+        (now (frames .entry)))) x limit
         (now (transcript .entry)) r
-        (lent (r .session .head) (now (plan .entry)) (now (keys .entry)) (now (cells .exit)) (now (status .exit)) (now (saved .exit)))
+        (lent (r .session .head) (now (plan .entry)) (now (keys .entry)) (now (cells .exit)) (now (status .exit)) (now (seats .exit))
+        (now (frames .exit)))
         (now (transcript .exit)) ⌝ }
 {
     let mut s = Session {
@@ -237,7 +245,8 @@ fn play_input(
             keys,
             cells,
             status,
-            saved,
+            seats,
+            frames,
             exchange,
             most,
             chunk,
@@ -276,14 +285,16 @@ pub fn close_text(
     keys: &[u64],
     cells: &[i64],
     status: &[u64],
-    saved: &[i64],
+    seats: &[u64],
+    frames: &[i64],
     text: &mut [u8],
 ) -> usize
     ensures { λ r. ⌜ Written (now (text .entry)) (now (text .exit)) 0 r
-        (closeRun (lent head (now (plan .entry)) (now (keys .entry)) (now (cells .entry)) (now (status .entry)) (now (saved .entry)))) ⌝ }
+        (closeRun (lent head (now (plan .entry)) (now (keys .entry)) (now (cells .entry)) (now (status .entry)) (now (seats .entry))
+        (now (frames .entry)))) ⌝ }
 {
     let mut bytes = [0u8; MAX_SHEET];
-    match sheet(head, plan, keys, cells, status, saved, &mut bytes) {
+    match sheet(head, plan, keys, cells, status, seats, frames, &mut bytes) {
         Closing::Written(n) => sheet_text(&bytes, n as u16, text),
         Closing::Refused(answer) => text::refused_line(text, 0, 0, answer_number(answer)),
     }
@@ -296,17 +307,19 @@ fn close(
     keys: &[u64],
     cells: &[i64],
     status: &[u64],
-    saved: &[i64],
+    seats: &[u64],
+    frames: &[i64],
     x: Exchange,
     transcript: &mut [u8],
 ) -> Exchange
     ensures text { λ r. ⌜ Handed (now (transcript .entry)) x
-        (closeRun (lent head (now (plan .entry)) (now (keys .entry)) (now (cells .entry)) (now (status .entry)) (now (saved .entry))))
+        (closeRun (lent head (now (plan .entry)) (now (keys .entry)) (now (cells .entry)) (now (status .entry)) (now (seats .entry))
+        (now (frames .entry))))
         (now (transcript .exit)) r ⌝ }
     ensures received { λ r. ⌜ r .received ≡ x .received ⌝ }
 {
     let mut text = [0u8; MAX_CLOSE_TEXT];
-    let n = close_text(head, plan, keys, cells, status, saved, &mut text);
+    let n = close_text(head, plan, keys, cells, status, seats, frames, &mut text);
     host::print(x, &text[..n], transcript)
 }
 
@@ -318,23 +331,45 @@ fn finish(
     keys: &[u64],
     cells: &mut [i64],
     status: &mut [u64],
-    saved: &mut [i64],
+    seats: &mut [u64],
+    frames: &mut [i64],
     x: Exchange,
     transcript: &mut [u8],
 ) -> Exchange
     ensures text { λ r. ⌜ Handed (now (transcript .entry)) x
         (endText (now (block .entry)) (s .number) (s .line)
-        (lent (s .head) (now (plan .entry)) (now (keys .entry)) (now (cells .entry)) (now (status .entry)) (now (saved .entry))))
+        (lent (s .head) (now (plan .entry)) (now (keys .entry)) (now (cells .entry)) (now (status .entry)) (now (seats .entry))
+        (now (frames .entry))))
         (now (transcript .exit)) r ⌝ }
     ensures received { λ r. ⌜ r .received ≡ x .received ⌝ }
 {
     let mut answers = [0u8; MAX_ANSWER];
-    let p = play_end(s, block, plan, keys, cells, status, saved, &mut answers);
+    let p = play_end(
+        s,
+        block,
+        plan,
+        keys,
+        cells,
+        status,
+        seats,
+        frames,
+        &mut answers,
+    );
     let n = p.length;
     let after = host::print(x, &answers[..n], transcript);
     let session = p.session;
     let head = session.head;
-    close(head, plan, keys, cells, status, saved, after, transcript)
+    close(
+        head,
+        plan,
+        keys,
+        cells,
+        status,
+        seats,
+        frames,
+        after,
+        transcript,
+    )
 }
 
 // Prints the line of a refused block.
@@ -355,14 +390,16 @@ fn run_opened(
     keys: &[u64],
     cells: &mut [i64],
     status: &mut [u64],
-    saved: &mut [i64],
+    seats: &mut [u64],
+    frames: &mut [i64],
     x: Exchange,
     limit: u32,
     transcript: &mut [u8],
 ) -> Ran
     requires { ⌜ x .received ≡ 0 ⌝ }
     ensures { λ r. ⌜ RunsOn (now (block .entry))
-        (lent head (now (plan .entry)) (now (keys .entry)) (now (cells .entry)) (now (status .entry)) (now (saved .entry))) x limit
+        (lent head (now (plan .entry)) (now (keys .entry)) (now (cells .entry)) (now (status .entry)) (now (seats .entry))
+        (now (frames .entry))) x limit
         (now (transcript .entry)) r (now (transcript .exit)) ⌝ }
 {
     let mut chunk = [0u8; CHUNK];
@@ -374,7 +411,8 @@ fn run_opened(
         keys,
         cells,
         status,
-        saved,
+        seats,
+        frames,
         x,
         limit,
         &mut chunk,
@@ -390,7 +428,8 @@ fn run_opened(
         keys,
         cells,
         status,
-        saved,
+        seats,
+        frames,
         behind,
         transcript,
     );
@@ -409,7 +448,8 @@ pub fn run(block: &[u8], x: Exchange, limit: u32, transcript: &mut [u8]) -> Ran
     let mut keys = [0u64; KEYS_SIZE];
     let mut cells = [0i64; CELLS_SIZE];
     let mut status = [0u64; STATUS_SIZE];
-    let mut saved = [0i64; SAVED_SIZE];
+    let mut seats = [0u64; SEATS_SIZE];
+    let mut frames = [0i64; FRAMES_SIZE];
     let start = Exchange {
         ok: x.ok,
         received: 0,
@@ -422,7 +462,8 @@ pub fn run(block: &[u8], x: Exchange, limit: u32, transcript: &mut [u8]) -> Ran
         &mut keys,
         &mut cells,
         &mut status,
-        &mut saved,
+        &mut seats,
+        &mut frames,
     );
     let verdict = o.verdict;
     let head = o.head;
@@ -442,7 +483,8 @@ pub fn run(block: &[u8], x: Exchange, limit: u32, transcript: &mut [u8]) -> Ran
             &keys,
             &mut cells,
             &mut status,
-            &mut saved,
+            &mut seats,
+            &mut frames,
             start,
             limit,
             transcript,

@@ -6,13 +6,11 @@ use Prim.Native.Nat.{ℕ, zero, suc, _+_, _-_, _≤_, _<_, min}
 use native.Mathlib.Numerals.{add-one}
 use native.Mathlib.Omega.{arith}
 use Rattle.wire.specs.Bytes.{below}
-use lib.ListN.{getD}
 use Rattle.block.specs.Limits.{maxCalls}
 use Rattle.machine.proofs.SerialRunLaws.{runCalls-append}
 use Rattle.machine.specs.Run.{Run}
 use Rattle.machine.specs.Moves.{Moved, beginOf, stepOf}
 use Rattle.machine.specs.Serial.{isSerialIdle, maxSteps, stepToEnd, runCall, runCalls, serialRun}
-use Rattle.machine.specs.declared.Seat.{Seat}
 
 -- ---- the calls
 
@@ -36,11 +34,6 @@ pub begun-call-run : (block : List ℕ) (r : Run) (c : ℕ) {m : Moved} {s : Run
 begun-call-run block r c begun made = made ∙ rw begun
 
 -- ---- the steps
-
--- The call of the first seat, whatever stands for a seat that is missing, if that holds the same call.
-pub first-call : (l : List Seat) (a b : Seat) → a .call ≡ b .call → getD l 0 a .call ≡ getD l 0 b .call
-first-call [] a b e = e
-first-call (x ∷ l) a b e = refl
 
 -- No step is left, the worker is free, or it is not and makes one.
 module _ (block : List ℕ) (r : Run) where

@@ -8,7 +8,7 @@ ghost use mathlib.Core.Path.{_≡_};
 ghost use Prim.Native.Nat.{min};
 ghost use lib.Dec.{eqb};
 ghost use Rattle.block.specs.Limits.{maxCalls};
-ghost use Rattle.machine.specs.Run.{seatOf};
+ghost use Rattle.machine.specs.Run.{heldAt};
 ghost use Rattle.machine.specs.Serial.{maxSteps, stepToEnd, runCall, serialRun};
 ghost use Rattle.moves.specs.Lent.{lent};
 
@@ -20,10 +20,9 @@ const WORKER: usize = 0;
 
 // Whether that worker holds no call.
 fn is_idle(head: Head) -> bool
-    ensures { λ r. ⌜ r ≡ eqb (seatOf head 0 .call) 0 ⌝ }
+    ensures { λ r. ⌜ r ≡ eqb (heldAt head 0) 0 ⌝ }
 {
-    let seat = head.seats[WORKER];
-    seat.call == 0
+    head.held[WORKER] == 0
 }
 
 // Steps until the worker is free.
@@ -34,18 +33,29 @@ fn step_to_end(
     keys: &[u64],
     cells: &mut [i64],
     status: &mut [u64],
-    saved: &[i64],
+    seats: &mut [u64],
+    frames: &mut [i64],
 ) -> Head
-    ensures { λ r. ⌜ lent r (now (plan .entry)) (now (keys .entry)) (now (cells .exit)) (now (status .exit)) (now (saved .entry))
+    ensures { λ r. ⌜ lent r (now (plan .entry)) (now (keys .entry)) (now (cells .exit)) (now (status .exit)) (now (seats .exit)) (now (frames .exit))
         ≡ stepToEnd maxSteps (now (block .entry))
-        (lent head (now (plan .entry)) (now (keys .entry)) (now (cells .entry)) (now (status .entry)) (now (saved .entry))) ⌝ }
+        (lent head (now (plan .entry)) (now (keys .entry)) (now (cells .entry)) (now (status .entry)) (now (seats .entry)) (now (frames .entry))) ⌝ }
 {
     let mut left = MAX_STEPS;
     while 0 < left {
         if is_idle(head) {
             return head;
         }
-        let reply = step(head, block, plan, keys, cells, status, saved, WORKER);
+        let reply = step(
+            head,
+            block,
+            plan,
+            keys,
+            cells,
+            status,
+            seats,
+            frames,
+            WORKER,
+        );
         head = reply.head;
         left -= 1;
     }
@@ -60,15 +70,17 @@ fn run_call(
     keys: &[u64],
     cells: &mut [i64],
     status: &mut [u64],
-    saved: &mut [i64],
+    seats: &mut [u64],
+    frames: &mut [i64],
     call: usize,
 ) -> Head
-    ensures { λ r. ⌜ lent r (now (plan .entry)) (now (keys .entry)) (now (cells .exit)) (now (status .exit)) (now (saved .exit))
+    ensures { λ r. ⌜ lent r (now (plan .entry)) (now (keys .entry)) (now (cells .exit)) (now (status .exit)) (now (seats .exit)) (now (frames .exit))
         ≡ runCall (now (block .entry))
-        (lent head (now (plan .entry)) (now (keys .entry)) (now (cells .entry)) (now (status .entry)) (now (saved .entry))) call ⌝ }
+        (lent head (now (plan .entry)) (now (keys .entry)) (now (cells .entry)) (now (status .entry)) (now (seats .entry))
+        (now (frames .entry))) call ⌝ }
 {
-    let reply = begin(head, plan, keys, cells, status, saved, WORKER, call);
-    step_to_end(reply.head, block, plan, keys, cells, status, saved)
+    let reply = begin(head, plan, keys, cells, status, seats, frames, WORKER, call);
+    step_to_end(reply.head, block, plan, keys, cells, status, seats, frames)
 }
 
 // The number of the calls that are run, also where a damaged head has more than a block can.
@@ -87,16 +99,17 @@ pub fn serial_run(
     keys: &[u64],
     cells: &mut [i64],
     status: &mut [u64],
-    saved: &mut [i64],
+    seats: &mut [u64],
+    frames: &mut [i64],
 ) -> Head
-    ensures { λ r. ⌜ lent r (now (plan .entry)) (now (keys .entry)) (now (cells .exit)) (now (status .exit)) (now (saved .exit))
+    ensures { λ r. ⌜ lent r (now (plan .entry)) (now (keys .entry)) (now (cells .exit)) (now (status .exit)) (now (seats .exit)) (now (frames .exit))
         ≡ serialRun (now (block .entry))
-        (lent head (now (plan .entry)) (now (keys .entry)) (now (cells .entry)) (now (status .entry)) (now (saved .entry))) ⌝ }
+        (lent head (now (plan .entry)) (now (keys .entry)) (now (cells .entry)) (now (status .entry)) (now (seats .entry)) (now (frames .entry))) ⌝ }
 {
     let calls = call_count(head);
     let mut call = 0;
     while call < calls {
-        head = run_call(head, block, plan, keys, cells, status, saved, call);
+        head = run_call(head, block, plan, keys, cells, status, seats, frames, call);
         call += 1;
     }
     head

@@ -48,7 +48,7 @@ pub record Sheet-P : Type 0 where
   pub order : closingNumber (sheetOf (openedForEight P) [] .answer) ≡ 27
   -- 20: the sizes, the number of calls, the states (before 27), the number of cells, a balance below zero, the receipts; the number of
   -- workers is not looked at.
-  pub sizes : closings (tooShort closed) ≡ 20 ∷ 20 ∷ 20 ∷ 20 ∷ 20 ∷ []
+  pub sizes : closings (tooShort closed) ≡ 20 ∷ 20 ∷ 20 ∷ 20 ∷ 20 ∷ 20 ∷ []
   pub numbers : closings (callsAs 257 closed ∷ cellsAs 1025 closed ∷ workersAs 0 closed ∷ []) ≡ 20 ∷ 20 ∷ 0 ∷ []
   pub states : closings (statusAt 0 3 closed ∷ statusAt 0 3 (openedForEight P) ∷ []) ≡ 20 ∷ 20 ∷ []
   pub balances : closings (valueAt 1 (negsuc 0) closed ∷ valueAt 3 (negsuc 0) closed ∷ []) ≡ 20 ∷ 0 ∷ []

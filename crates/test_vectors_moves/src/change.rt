@@ -1,17 +1,17 @@
 // What is lent, and how records change it.
 use machine::Head;
-use machine::Seat;
 
-const SEATS: usize = 8;
+const WORKERS: usize = 8;
 
-const REGISTERS: usize = 8;
+// The field of the head from which on a record names what a worker holds.
+const HELD: u64 = 4;
+
+const TWO_BYTES: u64 = 65536;
 
 // Kinds of records.
 const BLOCK: u64 = 1;
 
 const LENGTHS: u64 = 2;
-
-const HEAD: u64 = 9;
 
 // The head, and the lengths up to which the block and the buffers are lent.
 pub struct Lent {
@@ -21,22 +21,17 @@ pub struct Lent {
     pub keys: usize,
     pub cells: usize,
     pub status: usize,
-    pub saved: usize,
+    pub seats: usize,
+    pub frames: usize,
 }
 
 pub(crate) fn nothing_lent() -> Lent {
-    let seat = Seat {
-        call: 0,
-        place: 0,
-        count: 0,
-        regs: [0; 8],
-    };
     let head = Head {
         workers: 0,
         calls: 0,
         cells: 0,
         first_call: 0,
-        seats: [seat; 8],
+        held: [0; 8],
     };
     Lent {
         head,
@@ -45,7 +40,8 @@ pub(crate) fn nothing_lent() -> Lent {
         keys: 0,
         cells: 0,
         status: 0,
-        saved: 0,
+        seats: 0,
+        frames: 0,
     }
 }
 
@@ -80,14 +76,15 @@ pub(crate) fn put_bytes(record: &[u8], block: &mut [u8]) {
     wire::put64(block, at + 8, part_3(record));
 }
 
-// A word of a buffer, by the buffer's number: plan, keys, cells, status, saved.
+// A word of a buffer, by the buffer's number: plan, keys, cells, status, seats, frames.
 pub(crate) fn put_word(
     record: &[u8],
     plan: &mut [u64],
     keys: &mut [u64],
     cells: &mut [i64],
     status: &mut [u64],
-    saved: &mut [i64],
+    seats: &mut [u64],
+    frames: &mut [i64],
 ) {
     let buffer = part_1(record);
     let i = part_2(record) as usize;
@@ -97,11 +94,12 @@ pub(crate) fn put_word(
         1 => wire::put_word(keys, i, v),
         2 => wire::put_value(cells, i, arith::signed64(v)),
         3 => wire::put_word(status, i, v),
-        _ => wire::put_value(saved, i, arith::signed64(v)),
+        4 => wire::put_word(seats, i, v),
+        _ => wire::put_value(frames, i, arith::signed64(v)),
     }
 }
 
-// The lengths that are lent from now on: the block's, those of plan, keys and cells, or those of status and saved.
+// The lengths that are lent from now on: the block's, those of plan, keys and cells, or those of status, seats and frames.
 pub(crate) fn lend(mut lent: Lent, record: &[u8]) -> Lent {
     let kind = wire::get64(record, 0);
     let first = part_1(record) as usize;
@@ -117,12 +115,24 @@ pub(crate) fn lend(mut lent: Lent, record: &[u8]) -> Lent {
         return lent;
     }
     lent.status = first;
-    lent.saved = second;
+    lent.seats = second;
+    lent.frames = part_3(record) as usize;
     lent
 }
 
-// A number of the head: workers, calls, cells, first.
+// What a worker holds: the low 16 bits of a number.
+fn with_held(mut head: Head, w: usize, v: u64) -> Head {
+    if w < WORKERS {
+        head.held[w] = (v % TWO_BYTES) as u16;
+    }
+    head
+}
+
+// A number of the head: workers, calls, cells, first, and from 4 on what a worker holds.
 fn damaged_head(mut head: Head, field: u64, v: u64) -> Head {
+    if HELD <= field {
+        return with_held(head, (field - HELD) as usize, v);
+    }
     match field {
         0 => head.workers = v as usize,
         1 => head.calls = v as usize,
@@ -132,49 +142,8 @@ fn damaged_head(mut head: Head, field: u64, v: u64) -> Head {
     head
 }
 
-// A register of a seat.
-fn damaged_register(mut seat: Seat, x: u64, v: u64) -> Seat {
-    let mut regs = seat.regs;
-    let i = x as usize;
-    if i < REGISTERS {
-        regs[i] = arith::signed64(v);
-    }
-    seat.regs = regs;
-    seat
-}
-
-// A number of a seat: call, place, count, and from 3 on the registers.
-fn damaged_seat(mut seat: Seat, field: u64, v: u64) -> Seat {
-    if 3 <= field {
-        return damaged_register(seat, field - 3, v);
-    }
-    match field {
-        0 => seat.call = v as usize,
-        1 => seat.place = v as usize,
-        _ => seat.count = v,
-    }
-    seat
-}
-
-fn with_damaged_seat(mut head: Head, w: usize, field: u64, v: u64) -> Head {
-    if SEATS <= w {
-        return head;
-    }
-    let seat = head.seats[w];
-    head.seats[w] = damaged_seat(seat, field, v);
-    head
-}
-
-// A number of the head, or of a seat.
+// A number of the head, as a record says.
 pub(crate) fn damage(lent: Lent, record: &[u8]) -> Lent {
-    let head = lent.head;
-    let kind = wire::get64(record, 0);
-    if kind == HEAD {
-        return with_head(lent, damaged_head(head, part_1(record), part_2(record)));
-    }
-    let w = part_1(record) as usize;
-    with_head(
-        lent,
-        with_damaged_seat(head, w, part_2(record), part_3(record)),
-    )
+    let head = damaged_head(lent.head, part_1(record), part_2(record));
+    with_head(lent, head)
 }

@@ -28,10 +28,11 @@ fn close_into(
     keys: &[u64],
     cells: &[i64],
     status: &[u64],
-    saved: &[i64],
+    seats: &[u64],
+    frames: &[i64],
     output: &mut [u8],
 ) {
-    let answer = closing::sheet(head, plan, keys, cells, status, saved, output);
+    let answer = closing::sheet(head, plan, keys, cells, status, seats, frames, output);
     text(b"c");
     answered(answer);
     number(bytes(output));
@@ -46,14 +47,24 @@ fn close_part(
     keys: &[u64],
     cells: &[i64],
     status: &[u64],
-    saved: &[i64],
+    seats: &[u64],
+    frames: &[i64],
     output: &mut [u8],
 ) {
     let room = part_1(record) as usize;
     if output.len() < room {
         return;
     }
-    close_into(head, plan, keys, cells, status, saved, &mut output[..room]);
+    close_into(
+        head,
+        plan,
+        keys,
+        cells,
+        status,
+        seats,
+        frames,
+        &mut output[..room],
+    );
 }
 
 // The same with an output whose bytes are 7, longer than the longest sheet by eight.
@@ -64,8 +75,19 @@ pub(crate) fn close(
     keys: &[u64],
     cells: &[i64],
     status: &[u64],
-    saved: &[i64],
+    seats: &[u64],
+    frames: &[i64],
 ) {
     let mut output = [7u8; 26636];
-    close_part(head, record, plan, keys, cells, status, saved, &mut output);
+    close_part(
+        head,
+        record,
+        plan,
+        keys,
+        cells,
+        status,
+        seats,
+        frames,
+        &mut output,
+    );
 }

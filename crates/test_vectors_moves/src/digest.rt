@@ -1,10 +1,9 @@
-// A hash of a lent run: FNV-1a with words of 64 bits in the place of bytes, over the head and the five buffers; and of an output.
+// A hash of a lent run: FNV-1a with words of 64 bits in the place of bytes, over the head and the six buffers; and of an output.
 use machine::Head;
-use machine::Seat;
 
 const BASIS: u64 = 14695981039346656037;
 
-const SEATS: usize = 8;
+const WORKERS: usize = 8;
 
 // The product with 2^40 + 435 modulo 2^64, as a sum of shifts: 435 is 256 + 128 + 32 + 16 + 2 + 1.
 fn times(x: u64) -> u64 {
@@ -53,19 +52,13 @@ fn values(start: u64, s: &[i64]) -> u64 {
     hash
 }
 
-fn seat(start: u64, seat: Seat) -> u64 {
-    let call = mix(start, seat.call as u64);
-    let place = mix(call, seat.place as u64);
-    let count = mix(place, seat.count);
-    let regs = seat.regs;
-    values(count, &regs)
-}
-
-fn seats(start: u64, head: Head) -> u64 {
+// What the workers hold.
+fn helds(start: u64, held: [u16; 8]) -> u64 {
     let mut hash = start;
     let mut w = 0;
-    while w < SEATS {
-        hash = seat(hash, head.seats[w]);
+    while w < WORKERS {
+        let h = held[w];
+        hash = mix(hash, h as u64);
         w += 1;
     }
     hash
@@ -76,20 +69,23 @@ fn head_words(head: Head) -> u64 {
     let calls = mix(workers, head.calls as u64);
     let cells = mix(calls, head.cells as u64);
     let first = mix(cells, head.first_call as u64);
-    seats(first, head)
+    let held = head.held;
+    helds(first, held)
 }
 
-// The head's workers, calls, cells, first, and by seat call, place, count and registers; then plan, keys, cells, status and saved.
+// The head's workers, calls, cells, first, and what each worker holds; then plan, keys, cells, status, seats and frames.
 pub(crate) fn digest(
     head: Head,
     plan: &[u64],
     keys: &[u64],
     cells: &[i64],
     status: &[u64],
-    saved: &[i64],
+    seats: &[u64],
+    frames: &[i64],
 ) -> u64 {
     let planned = words(head_words(head), plan);
     let keyed = words(planned, keys);
     let celled = values(keyed, cells);
-    values(words(celled, status), saved)
+    let stated = words(celled, status);
+    values(words(stated, seats), frames)
 }

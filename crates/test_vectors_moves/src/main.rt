@@ -16,11 +16,9 @@ const BYTES: u64 = 0;
 
 const OPEN: u64 = 4;
 
-const CANCEL: u64 = 7;
-
 const WORD: u64 = 8;
 
-const SEAT: u64 = 10;
+const HEAD: u64 = 9;
 
 // One record: a change of the block, of a buffer, or of what is lent; or an opening, a move, a serial run or a sheet.
 fn turn(
@@ -31,7 +29,8 @@ fn turn(
     keys: &mut [u64],
     cells: &mut [i64],
     status: &mut [u64],
-    saved: &mut [i64],
+    seats: &mut [u64],
+    frames: &mut [i64],
 ) -> Lent {
     let kind = wire::get64(record, 0);
     if kind == BYTES {
@@ -39,18 +38,26 @@ fn turn(
         return lent;
     }
     if kind == WORD {
-        change::put_word(record, plan, keys, cells, status, saved);
+        change::put_word(record, plan, keys, cells, status, seats, frames);
         return lent;
     }
     if kind < OPEN {
         return change::lend(lent, record);
     }
-    if CANCEL < kind {
-        if kind <= SEAT {
-            return change::damage(lent, record);
-        }
+    if kind == HEAD {
+        return change::damage(lent, record);
     }
-    play::play(lent, record, block, plan, keys, cells, status, saved)
+    play::play(
+        lent,
+        record,
+        block,
+        plan,
+        keys,
+        cells,
+        status,
+        seats,
+        frames,
+    )
 }
 
 // Every record of the input, of which there are at most as many as the counter says.
@@ -60,7 +67,8 @@ fn run(
     keys: &mut [u64],
     cells: &mut [i64],
     status: &mut [u64],
-    saved: &mut [i64],
+    seats: &mut [u64],
+    frames: &mut [i64],
 ) {
     let mut lent = change::nothing_lent();
     let mut left = u64::MAX;
@@ -70,7 +78,17 @@ fn run(
         if n < RECORD_BYTES {
             return;
         }
-        lent = turn(lent, &record, block, plan, keys, cells, status, saved);
+        lent = turn(
+            lent,
+            &record,
+            block,
+            plan,
+            keys,
+            cells,
+            status,
+            seats,
+            frames,
+        );
         left -= 1;
     }
 }
@@ -82,13 +100,15 @@ fn main() {
     let mut keys = [0u64; 2056];
     let mut cells = [0i64; 1032];
     let mut status = [0u64; 1032];
-    let mut saved = [0i64; 200];
+    let mut seats = [0u64; 136];
+    let mut frames = [0i64; 264];
     run(
         &mut block,
         &mut plan,
         &mut keys,
         &mut cells,
         &mut status,
-        &mut saved,
+        &mut seats,
+        &mut frames,
     );
 }

@@ -35,23 +35,42 @@ fn make(
     keys: &mut [u64],
     cells: &mut [i64],
     status: &mut [u64],
-    saved: &mut [i64],
+    seats: &mut [u64],
+    frames: &mut [i64],
 ) -> Reply {
     let kind = wire::get64(record, 0);
     let worker = part_1(record) as usize;
     if kind == BEGIN {
         let call = part_2(record) as usize;
-        return begin_lending(head, plan, keys, cells, status, saved, worker, call);
+        return begin_lending(head, plan, keys, cells, status, seats, frames, worker, call);
     }
     if kind == STEP {
-        return step_lending(head, block, plan, keys, cells, status, saved, worker);
+        return step_lending(
+            head,
+            block,
+            plan,
+            keys,
+            cells,
+            status,
+            seats,
+            frames,
+            worker,
+        );
     }
-    cancel_lending(head, plan, keys, cells, status, saved, worker)
+    cancel_lending(head, plan, keys, cells, status, seats, frames, worker)
 }
 
 // The end of a line: the hash of the run.
-fn hashed(head: Head, plan: &[u64], keys: &[u64], cells: &[i64], status: &[u64], saved: &[i64]) {
-    number(digest(head, plan, keys, cells, status, saved));
+fn hashed(
+    head: Head,
+    plan: &[u64],
+    keys: &[u64],
+    cells: &[i64],
+    status: &[u64],
+    seats: &[u64],
+    frames: &[i64],
+) {
+    number(digest(head, plan, keys, cells, status, seats, frames));
     text(b"\n");
 }
 
@@ -63,15 +82,16 @@ fn open(
     keys: &mut [u64],
     cells: &mut [i64],
     status: &mut [u64],
-    saved: &mut [i64],
+    seats: &mut [u64],
+    frames: &mut [i64],
 ) -> Head {
     let workers = part_1(record) as usize;
-    let opened = opening::open(block, workers, plan, keys, cells, status, saved);
+    let opened = opening::open(block, workers, plan, keys, cells, status, seats, frames);
     let found = opened.verdict;
     let head = opened.head;
     text(b"o");
     verdict(found);
-    hashed(head, plan, keys, cells, status, saved);
+    hashed(head, plan, keys, cells, status, seats, frames);
     head
 }
 
@@ -84,14 +104,25 @@ fn move_on(
     keys: &mut [u64],
     cells: &mut [i64],
     status: &mut [u64],
-    saved: &mut [i64],
+    seats: &mut [u64],
+    frames: &mut [i64],
 ) -> Head {
-    let reply = make(head, record, block, plan, keys, cells, status, saved);
+    let reply = make(
+        head,
+        record,
+        block,
+        plan,
+        keys,
+        cells,
+        status,
+        seats,
+        frames,
+    );
     let answer = reply.answer;
     let next = reply.head;
     text(b"m");
     number(answer_number(answer));
-    hashed(next, plan, keys, cells, status, saved);
+    hashed(next, plan, keys, cells, status, seats, frames);
     next
 }
 
@@ -103,11 +134,12 @@ fn run_serially(
     keys: &mut [u64],
     cells: &mut [i64],
     status: &mut [u64],
-    saved: &mut [i64],
+    seats: &mut [u64],
+    frames: &mut [i64],
 ) -> Head {
-    let next = serial::serial_run(head, block, plan, keys, cells, status, saved);
+    let next = serial::serial_run(head, block, plan, keys, cells, status, seats, frames);
     text(b"s");
-    hashed(next, plan, keys, cells, status, saved);
+    hashed(next, plan, keys, cells, status, seats, frames);
     next
 }
 
@@ -120,23 +152,34 @@ fn act(
     keys: &mut [u64],
     cells: &mut [i64],
     status: &mut [u64],
-    saved: &mut [i64],
+    seats: &mut [u64],
+    frames: &mut [i64],
 ) -> Head {
     if wire::get64(record, 0) == OPEN {
-        return open(record, block, plan, keys, cells, status, saved);
+        return open(record, block, plan, keys, cells, status, seats, frames);
     }
     if wire::get64(record, 0) == SHEET {
-        close(head, record, plan, keys, cells, status, saved);
+        close(head, record, plan, keys, cells, status, seats, frames);
         return head;
     }
     if wire::get64(record, 0) == SERIAL {
-        return run_serially(head, block, plan, keys, cells, status, saved);
+        return run_serially(head, block, plan, keys, cells, status, seats, frames);
     }
-    move_on(head, record, block, plan, keys, cells, status, saved)
+    move_on(
+        head,
+        record,
+        block,
+        plan,
+        keys,
+        cells,
+        status,
+        seats,
+        frames,
+    )
 }
 
-// The same on the parts of status and saved that are lent.
-fn act_on_two(
+// The same on the parts of status, seats and frames that are lent.
+fn act_on_three(
     lent: Lent,
     record: &[u8],
     block: &[u8],
@@ -144,14 +187,19 @@ fn act_on_two(
     keys: &mut [u64],
     cells: &mut [i64],
     status: &mut [u64],
-    saved: &mut [i64],
+    seats: &mut [u64],
+    frames: &mut [i64],
 ) -> Lent {
     let s = lent.status;
-    let o = lent.saved;
+    let t = lent.seats;
+    let f = lent.frames;
     if status.len() < s {
         return lent;
     }
-    if saved.len() < o {
+    if seats.len() < t {
+        return lent;
+    }
+    if frames.len() < f {
         return lent;
     }
     let head = act(
@@ -162,7 +210,8 @@ fn act_on_two(
         keys,
         cells,
         &mut status[..s],
-        &mut saved[..o],
+        &mut seats[..t],
+        &mut frames[..f],
     );
     with_head(lent, head)
 }
@@ -176,7 +225,8 @@ pub(crate) fn play(
     keys: &mut [u64],
     cells: &mut [i64],
     status: &mut [u64],
-    saved: &mut [i64],
+    seats: &mut [u64],
+    frames: &mut [i64],
 ) -> Lent {
     let b = lent.block;
     let p = lent.plan;
@@ -194,7 +244,7 @@ pub(crate) fn play(
     if cells.len() < c {
         return lent;
     }
-    act_on_two(
+    act_on_three(
         lent,
         record,
         &block[..b],
@@ -202,6 +252,7 @@ pub(crate) fn play(
         &mut keys[..k],
         &mut cells[..c],
         status,
-        saved,
+        seats,
+        frames,
     )
 }

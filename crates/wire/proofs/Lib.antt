@@ -1,5 +1,6 @@
--- Laws of bytes and of rows, for every crate above; MaskedBits and Laws are for this crate's own code.
+-- Laws of bytes, of what is stored and of rows, for every crate above; MaskedBits and Laws are for this crate's own code.
 pub mod BytesLaws
+pub mod StoringLaws
 pub mod RowLaws
 pub mod NextLaws
 mod MaskedBits

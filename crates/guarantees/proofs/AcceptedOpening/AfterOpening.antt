@@ -49,7 +49,8 @@ pub record OpenedWith (s : Sizes) (file : List ℕ) (workers : ℕ) (b : Block) 
   -- The head; every call waits, and no old value is kept.
   pub head : r .head ≡ headOf workers (length (b .calls)) (length table) (b .firstCall)
   pub status : r .status ≡ repeated (s .status) 0
-  pub saved : r .saved ≡ repeated (s .saved) (pos 0)
+  pub seats : r .seats ≡ repeated (s .seats) 0
+  pub frames : r .frames ≡ repeated (s .frames) (pos 0)
   -- The table: rising, within its limit, with every key of opening and sets; and the number of calls.
   pub rising : RisingKeys table
   pub fewKeys : length table ≤ maxKeys
@@ -112,7 +113,8 @@ module _ (s : Sizes) (file : List ℕ) (workers : ℕ) (bytes : (i : ℕ) → ge
         keys = padded-length (s .keys) 0 (tableWords table) (omega (arith, words-length table)) i;
         cells = padded-length (s .cells) (pos 0) (map (openingValue (b .cells)) table) (omega (arith, length-map table (openingValue (b .cells)))) i;
         status = length-replicate {A = ℕ} (s .status) 0 i;
-        saved = length-replicate {A = ℤ} (s .saved) (pos 0) i;
+        seats = length-replicate {A = ℕ} (s .seats) 0 i;
+        frames = length-replicate {A = ℤ} (s .frames) (pos 0) i;
       }
 
   -- The run that is made of a block and its table.
@@ -128,7 +130,8 @@ module _ (s : Sizes) (file : List ℕ) (workers : ℕ) (bytes : (i : ℕ) → ge
         fewWorkers = high;
         head = refl;
         status = refl;
-        saved = refl;
+        seats = refl;
+        frames = refl;
         rising = complete .rising;
         fewKeys = complete .few;
         fewCalls = whole .laws .callLimit;

@@ -10,7 +10,7 @@ use lib.ListN.{length, getD, getElem?, take, drop, length-map}
 use Rattle.arith.specs.Choice.{if_then_else_}
 use Rattle.wire.specs.Bytes.{padded}
 use Rattle.block.specs.Limits.{maxCallKeys}
-use Rattle.block.specs.Record.{Function, Block, functionId, callId, callOf}
+use Rattle.block.specs.Record.{Function, Block, functionId, callId, callOf, callRecordBytes, headBytes}
 use Rattle.block.proofs.ReaderLaws as reading
 use Rattle.block.proofs.ReaderLaws.{EndsFile}
 use Rattle.block.specs.declared.Call.{Call}
@@ -45,8 +45,8 @@ pub record EntryPlaced (table : List ℕ) (e : Access) : Type 0 where
 pub record CallOpened (file : List ℕ) (b : Block) (table : List ℕ) (room : ℕ) (r : Run) (j : ℕ) (c : Call) : Type 0 where
   pub at : getElem? (b .calls) j ≡ some c
   -- Its record, within the file.
-  pub body : callOf (drop (b .firstCall + 34 * j + 4) file) ≡ InRange c
-  pub within : b .firstCall + 34 * j + 34 ≤ length file
+  pub body : callOf (drop (b .firstCall + callRecordBytes * j + headBytes) file) ≡ InRange c
+  pub within : b .firstCall + callRecordBytes * j + callRecordBytes ≤ length file
   -- Its sets: at most 24 keys, none twice, each used and in the table.
   pub own : getD (allSets file b) j [] ≡ setsOf file (b .functions) c
   pub few : length (setsOf file (b .functions) c) ≤ maxCallKeys
@@ -128,8 +128,8 @@ module _ (file : List ℕ) (b : Block) (whole : EndsFile file b) (table : List �
     own-entries : ownEntries (r .plan) j ≡ map (entryWord table) es
     own-entries = ap (λ (n : ℕ). take n (drop (32 * j + 3) (r .plan))) (own-plan .count) ∙ own-plan .entries
 
-    inside : b .firstCall + 34 * j + 34 ≤ length file
-    inside = let end : b .firstCall + 34 * length (b .calls) + 4 ≡ length file = whole .end in omega arith
+    inside : b .firstCall + callRecordBytes * j + callRecordBytes ≤ length file
+    inside = let end : b .firstCall + callRecordBytes * length (b .calls) + 4 ≡ length file = whole .end in omega arith
 
     opened : CallOpened file b table room r j c
     opened =

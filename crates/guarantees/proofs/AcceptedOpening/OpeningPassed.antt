@@ -38,8 +38,9 @@ never e = absurd (false≢true (ap isAccepted e))
 pub large-sizes : (s : Sizes) → largeEnough s ≡ true → Large s
 unfolding largeEnough roomEnough
 large-sizes s e =
-    let a = both _ (leb (fixedSizes .saved) (s .saved)) e in
-    let b = both _ (leb (fixedSizes .status) (s .status)) (a .0) in
+    let a = both _ (leb (fixedSizes .frames) (s .frames)) e in
+    let z = both _ (leb (fixedSizes .seats) (s .seats)) (a .0) in
+    let b = both _ (leb (fixedSizes .status) (s .status)) (z .0) in
     let c = both _ (leb (fixedSizes .cells) (s .cells)) (b .0) in
     let d = both (leb (fixedSizes .plan) (s .plan)) (leb (fixedSizes .keys) (s .keys)) (c .0) in
     record {
@@ -47,7 +48,8 @@ large-sizes s e =
       keys = leb-true (fixedSizes .keys) (s .keys) (d .1);
       cells = leb-true (fixedSizes .cells) (s .cells) (c .1);
       status = leb-true (fixedSizes .status) (s .status) (b .1);
-      saved = leb-true (fixedSizes .saved) (s .saved) (a .1);
+      seats = leb-true (fixedSizes .seats) (s .seats) (z .1);
+      frames = leb-true (fixedSizes .frames) (s .frames) (a .1);
     }
 
 pub sizes-large : (s : Sizes) → Large s → largeEnough s ≡ true
@@ -58,7 +60,8 @@ sizes-large s l =
       le-leb (fixedSizes .keys) (s .keys) (l .keys),
       le-leb (fixedSizes .cells) (s .cells) (l .cells),
       le-leb (fixedSizes .status) (s .status) (l .status),
-      le-leb (fixedSizes .saved) (s .saved) (l .saved),
+      le-leb (fixedSizes .seats) (s .seats) (l .seats),
+      le-leb (fixedSizes .frames) (s .frames) (l .frames),
     )
 
 -- ---- what was prepared
@@ -107,7 +110,8 @@ runWith s workers b sets keys =
       keys = padded (s .keys) 0 (tableWords keys);
       cells = padded (s .cells) (pos 0) (map (openingValue (b .cells)) keys);
       status = repeated (s .status) 0;
-      saved = repeated (s .saved) (pos 0);
+      seats = repeated (s .seats) 0;
+      frames = repeated (s .frames) (pos 0);
     }
 
 pub record Made (s : Sizes) (file : List ℕ) (workers : ℕ) (o : Opened) : Type 0 where
@@ -177,7 +181,7 @@ record Zeroed (s : Sizes) (why : Refusal) (o : Opened) : Type 0 where
 
 zeroed-refused : (s : Sizes) (why because : Refusal) → Zeroed s why (refusedRun s because)
 unfolding refusedRun
-zeroed-refused s why because = record { cleared = λ e. record { head = refl; plan = refl; keys = refl; cells = refl; status = refl; saved = refl } }
+zeroed-refused s why because = record { cleared = λ e. record { head = refl; plan = refl; keys = refl; cells = refl; status = refl; seats = refl; frames = refl } }
 
 zeroed-prepared : (s : Sizes) (workers : ℕ) (why : Refusal) (p : Prepared) (v : Verdict) → Zeroed s why (openPrepared s workers p v)
 unfolding openPrepared

@@ -8,7 +8,7 @@ use lib.Dec.{eqb}
 use lib.ListN.{length, drop}
 use Rattle.schedule.specs.Calls.{Calls, more, done, Point}
 use Rattle.block.specs.Limits.{maxCallKeys, maxKeys, maxCode}
-use Rattle.block.specs.Record.{headBytes, callBytes, callOf}
+use Rattle.block.specs.Record.{headBytes, callRecordBytes, callOf}
 use Rattle.machine.specs.Run.{Run, zeroRegisters}
 use Rattle.footprint.specs.Plan.{entryCell, entryReads, entryWrites}
 use Rattle.machine.specs.Step as machine
@@ -82,4 +82,4 @@ pub record Tidy (v : View) : Type 0 where
 -- The view of call j of a run.
 abbrev pub runView : List ℕ → Run → ℕ → View
 runView file r j =
-    viewOf file r j (bodyCall (callOf (drop (r .head .«first_call» + (headBytes + callBytes) * j + headBytes) file)))
+    viewOf file r j (bodyCall (callOf (drop (r .head .«first_call» + callRecordBytes * j + headBytes) file)))

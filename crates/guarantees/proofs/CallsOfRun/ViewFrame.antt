@@ -17,14 +17,14 @@ use Rattle.footprint.specs.Access.{Access}
 use Rattle.footprint.specs.Plan.{entryReads, entryWrites}
 use Rattle.block.specs.Outcomes.{thrown}
 use Rattle.machine.proofs.RestoreLaws.{restored-length}
-use Rattle.machine.specs.Step.{View, Local, Stepped, damaged, more, done, cellAt, lookup, restorable, restored, finish, loadCell, storeCell, depositCell, transferCells, accessAt, perform, stepCall}
+use Rattle.machine.specs.Step.{View, Local, Performed, broken, onward, ending, Stepped, damaged, done, cellAt, lookup, restorable, restored, finish, concluded, loadCell, storeCell, depositCell, transferCells, accessAt, perform, stepCall}
+use Rattle.machine.proofs.StepLaws.{NextFits, place-all}
 use Rattle.machine.specs.declared.Next.{Next}
 use Rattle.machine.specs.declared.Next.the-variants.{Go, End, Load, Store, Transfer}
 use Rattle.machine.specs.declared.Lookup.{Lookup}
 use Rattle.machine.specs.declared.Lookup.the-variants.{Cell, NoCell}
 use Rattle.guarantees.proofs.CallsOfRun.ViewCalls.{pointOf, anyEntry, Proper}
 use Rattle.guarantees.proofs.CallsOfRun.ViewEntries.{Finds, lookup-finds, set-alike, set-outside, restored-frame, restored-alike}
-use Rattle.guarantees.proofs.CallsOfRun.ViewSteps.{NextFits, step-all}
 
 -- ---- the write set alone
 
@@ -38,6 +38,10 @@ module _ (v : View) (l : Local) (s : List ℤ) where
   abbrev K : Stepped → Type 0
   K r = WriteSetOnly (v .entries) s (pointOf s r .state)
 
+  -- The same of what its place comes to.
+  abbrev C : Performed → Type 0
+  C x = K (concluded v (l .saved) s x)
+
   unmoved : WriteSetOnly (v .entries) s s
   unmoved = record { room = refl; frame = λ x h. refl }
 
@@ -49,60 +53,61 @@ module _ (v : View) (l : Local) (s : List ℤ) where
         frame = λ x h. set-outside (v .entries) t n z x w h ∙ k .frame x h;
       }
 
-  finish-keeps : (count outcome : ℕ) → K (finish v l count outcome s)
-  unfolding finish pointOf
-  finish-keeps count outcome =
+  ending-keeps : (outcome n : ℕ) → C (ending outcome n)
+  unfolding concluded finish pointOf
+  ending-keeps outcome n =
       if-all K (ltb outcome thrown) (λ h. unmoved) λ h.
       if-all K (restorable (v .count) (v .entries))
       (λ h. record { room = restored-length (v .entries) (l .saved) s; frame = restored-frame (v .entries) (l .saved) s }) (λ h. unmoved)
 
-  load-keeps : (count : ℕ) (regs : List ℤ) (x : ℕ) (a : Access) (k : Lookup) → K (loadCell l count regs x a s k)
-  unfolding loadCell pointOf
-  load-keeps count regs x a NoCell = unmoved
-  load-keeps count regs x a (Cell n) = if-all K (isBalance (a .key) && not (nonNeg (cellAt s n))) (λ h. unmoved) (λ h. unmoved)
+  load-keeps : (place count : ℕ) (regs : List ℤ) (x : ℕ) (a : Access) (k : Lookup) → C (loadCell place count regs x a s k)
+  unfolding loadCell concluded pointOf
+  load-keeps place count regs x a NoCell = unmoved
+  load-keeps place count regs x a (Cell n) = if-all C (isBalance (a .key) && not (nonNeg (cellAt s n))) (λ h. unmoved) (λ h. unmoved)
 
-  store-keeps : (count : ℕ) (regs : List ℤ) (z : ℤ) (a : Access) (k : Lookup) → Finds (v .entries) a k → a .writes ≡ true
-      → K (storeCell l count regs z s k)
-  unfolding storeCell pointOf
-  store-keeps count regs z a NoCell f w = unmoved
-  store-keeps count regs z a (Cell n) f w = set-kept s n z (f .written w) unmoved
+  store-keeps : (place count : ℕ) (regs : List ℤ) (z : ℤ) (a : Access) (k : Lookup) → Finds (v .entries) a k → a .writes ≡ true
+      → C (storeCell place count regs z s k)
+  unfolding storeCell concluded pointOf
+  store-keeps place count regs z a NoCell f w = unmoved
+  store-keeps place count regs z a (Cell n) f w = set-kept s n z (f .written w) unmoved
 
-  deposit-keeps : (count : ℕ) (regs : List ℤ) (amount : ℤ) (n : ℕ) → anyEntry entryWrites (v .entries) n ≡ true
-      → (a : Access) (k : Lookup) → Finds (v .entries) a k → a .writes ≡ true → K (depositCell l count regs amount n s k)
-  unfolding depositCell pointOf
-  deposit-keeps count regs amount n first a NoCell f w = unmoved
-  deposit-keeps count regs amount n first a (Cell m) f w =
-      if-all K (nonNeg (cellAt s m) && leZ (cellAt s m +ℤ amount) largest)
+  deposit-keeps : (place count : ℕ) (regs : List ℤ) (amount : ℤ) (n : ℕ) → anyEntry entryWrites (v .entries) n ≡ true
+      → (a : Access) (k : Lookup) → Finds (v .entries) a k → a .writes ≡ true → C (depositCell place count regs amount n s k)
+  unfolding depositCell concluded pointOf
+  deposit-keeps place count regs amount n first a NoCell f w = unmoved
+  deposit-keeps place count regs amount n first a (Cell m) f w =
+      if-all C (nonNeg (cellAt s m) && leZ (cellAt s m +ℤ amount) largest)
       (λ h.
       set-kept (set s n (cellAt s n -ℤ amount)) m (cellAt s m +ℤ amount) (f .written w)
       (set-kept s n (cellAt s n -ℤ amount) first unmoved))
       (λ h. unmoved)
 
-  transfer-keeps : (count : ℕ) (regs : List ℤ) (amount : ℤ) (short : ℕ) (to : Access) → to .writes ≡ true
-      → (a : Access) (k : Lookup) → Finds (v .entries) a k → a .writes ≡ true → K (transferCells v l count regs amount short to s k)
-  unfolding transferCells pointOf
-  transfer-keeps count regs amount short to w′ a NoCell f w = unmoved
-  transfer-keeps count regs amount short to w′ a (Cell n) f w =
-      if-all K (not (nonNeg (cellAt s n))) (λ h. unmoved) λ h.
-      if-all K (ltZ (cellAt s n) amount) (λ h. finish-keeps count short)
-      (λ h. deposit-keeps count regs amount n (f .written w) to (lookup v to) (lookup-finds v to) w′)
+  transfer-keeps : (place count : ℕ) (regs : List ℤ) (amount : ℤ) (short : ℕ) (to : Access) → to .writes ≡ true
+      → (a : Access) (k : Lookup) → Finds (v .entries) a k → a .writes ≡ true → C (transferCells v place count regs amount short to s k)
+  unfolding transferCells concluded pointOf
+  transfer-keeps place count regs amount short to w′ a NoCell f w = unmoved
+  transfer-keeps place count regs amount short to w′ a (Cell n) f w =
+      if-all C (not (nonNeg (cellAt s n))) (λ h. unmoved) λ h.
+      if-all C (ltZ (cellAt s n) amount) (λ h. ending-keeps short count)
+      (λ h. deposit-keeps place count regs amount n (f .written w) to (lookup v to) (lookup-finds v to) w′)
 
-  perform-keeps : (count : ℕ) (as′ : List Access) (regs : List ℤ) (next : Next) → NextFits (v .code) (l .place) as′ next
-      → K (perform v l count as′ regs next s)
-  unfolding perform pointOf
-  perform-keeps count as′ regs (Go place) f = unmoved
-  perform-keeps count as′ regs (End outcome) f = finish-keeps count outcome
-  perform-keeps count as′ regs (Load x) f = load-keeps count regs x (accessAt as′ 0) (lookup v (accessAt as′ 0))
-  perform-keeps count as′ regs (Store z) f =
-      store-keeps count regs z (accessAt as′ 0) (lookup v (accessAt as′ 0)) (lookup-finds v (accessAt as′ 0)) f
-  perform-keeps count as′ regs (Transfer amount short) f =
-      transfer-keeps count regs amount short (accessAt as′ 1) (f .2) (accessAt as′ 0) (lookup v (accessAt as′ 0))
+  perform-keeps : (place before count : ℕ) (as′ : List Access) (regs : List ℤ) (next : Next) → NextFits v place before count as′ next
+      → C (perform v place count as′ regs next s)
+  unfolding perform concluded pointOf
+  perform-keeps place before count as′ regs (Go to) f = unmoved
+  perform-keeps place before count as′ regs (End outcome) f = ending-keeps outcome count
+  perform-keeps place before count as′ regs (Load x) f = load-keeps place count regs x (accessAt as′ 0) (lookup v (accessAt as′ 0))
+  perform-keeps place before count as′ regs (Store z) f =
+      store-keeps place count regs z (accessAt as′ 0) (lookup v (accessAt as′ 0)) (lookup-finds v (accessAt as′ 0)) f
+  perform-keeps place before count as′ regs (Transfer amount short) f =
+      transfer-keeps place count regs amount short (accessAt as′ 1) (f .2) (accessAt as′ 0) (lookup v (accessAt as′ 0))
       (lookup-finds v (accessAt as′ 0)) (f .1)
 
   pub step-keeps : WriteSetOnly (v .entries) s (pointOf s (stepCall v l s) .state)
-  unfolding pointOf
+  unfolding stepCall concluded pointOf
   step-keeps =
-      step-all v l (λ f. K (f s)) unmoved (λ outcome count. unmoved) (λ count as′ regs next inside f. perform-keeps count as′ regs next f)
+      place-all v (l .place) (l .count) (l .regs) (λ f. C (f s)) unmoved (λ outcome few. ending-keeps outcome (l .count))
+      (λ n as′ a f. perform-keeps (l .place) (l .count) n as′ (a .regs) (a .next) (f .next))
 
 -- ---- the cells that the call reads or writes
 
@@ -120,6 +125,10 @@ module _ (v : View) (proper : Proper (v .entries)) (l : Local) (s s′ : List �
   abbrev L : Stepped → Stepped → Type 0
   L r r′ = StepEndsAlike (v .entries) s s′ r r′
 
+  -- The same of what its place comes to.
+  abbrev C′ : Performed → Performed → Type 0
+  C′ x x′ = L (concluded v (l .saved) s x) (concluded v (l .saved) s′ x′)
+
   -- A cell that is read, and one that is written.
   at-read : (n : ℕ) → anyEntry entryReads (v .entries) n ≡ true → cellAt s n ≡ cellAt s′ n
   at-read n r = same n (rw r)
@@ -132,9 +141,13 @@ module _ (v : View) (proper : Proper (v .entries)) (l : Local) (s s′ : List �
   unfolding pointOf
   like-damaged = record { course = refl; cells = same }
 
-  like-more : (m : Local) (t t′ : List ℤ) → SameThere (v .entries) t t′ → L (more m t) (more m t′)
-  unfolding pointOf
-  like-more m t t′ h = record { course = refl; cells = h }
+  like-broken : C′ broken broken
+  unfolding concluded
+  like-broken = like-damaged
+
+  like-onward : (to n : ℕ) (regs t t′ : List ℤ) → SameThere (v .entries) t t′ → C′ (onward to n regs t) (onward to n regs t′)
+  unfolding concluded pointOf
+  like-onward to n regs t t′ h = record { course = refl; cells = h }
 
   like-done : (outcome count : ℕ) (t t′ : List ℤ) → SameThere (v .entries) t t′ → L (done outcome count t) (done outcome count t′)
   unfolding pointOf
@@ -144,72 +157,77 @@ module _ (v : View) (proper : Proper (v .entries)) (l : Local) (s s′ : List �
   like-if true p q = p
   like-if false p q = q
 
+  like-test : (t : Bool) (x x′ y y′ : Performed) → C′ x x′ → C′ y y′ → C′ (if t then x else y) (if t then x′ else y′)
+  like-test true x x′ y y′ p q = p
+  like-test false x x′ y y′ p q = q
+
   set-same : (t t′ : List ℤ) (n : ℕ) (z : ℤ) → n < maxKeys → length t ≡ length s → length t′ ≡ length s′ → SameThere (v .entries) t t′
       → SameThere (v .entries) (set t n z) (set t′ n z)
   set-same t t′ n z low e e′ h x m = set-alike t t′ n z x (omega arith) (omega arith) (h x m)
 
-  finish-like : (count outcome : ℕ) → L (finish v l count outcome s) (finish v l count outcome s′)
-  unfolding finish
-  finish-like count outcome =
+  ending-like : (outcome count : ℕ) → C′ (ending outcome count) (ending outcome count)
+  unfolding concluded finish
+  ending-like outcome count =
       like-if (ltb outcome thrown) (like-done outcome count s s′ same)
       (like-if (restorable (v .count) (v .entries))
       (like-done outcome count (restored (v .entries) (l .saved) s) (restored (v .entries) (l .saved) s′)
       (λ x m. restored-alike (v .entries) proper (l .saved) s s′ x room room′ (same x m)))
       like-damaged)
 
-  load-like : (count : ℕ) (regs : List ℤ) (x : ℕ) (a : Access) (k : Lookup) → Finds (v .entries) a k → a .reads ≡ true
-      → L (loadCell l count regs x a s k) (loadCell l count regs x a s′ k)
+  load-like : (place count : ℕ) (regs : List ℤ) (x : ℕ) (a : Access) (k : Lookup) → Finds (v .entries) a k → a .reads ≡ true
+      → C′ (loadCell place count regs x a s k) (loadCell place count regs x a s′ k)
   unfolding loadCell
-  load-like count regs x a NoCell f r = like-damaged
-  load-like count regs x a (Cell n) f r =
-      rw (at-read n (f .read r)) (like-if (isBalance (a .key) && not (nonNeg (cellAt s′ n))) like-damaged (like-more _ s s′ same))
+  load-like place count regs x a NoCell f r = like-broken
+  load-like place count regs x a (Cell n) f r =
+      rw (at-read n (f .read r)) (like-test (isBalance (a .key) && not (nonNeg (cellAt s′ n))) _ _ _ _ like-broken (like-onward _ count _ s s′ same))
 
-  store-like : (count : ℕ) (regs : List ℤ) (z : ℤ) (a : Access) (k : Lookup) → Finds (v .entries) a k
-      → L (storeCell l count regs z s k) (storeCell l count regs z s′ k)
+  store-like : (place count : ℕ) (regs : List ℤ) (z : ℤ) (a : Access) (k : Lookup) → Finds (v .entries) a k
+      → C′ (storeCell place count regs z s k) (storeCell place count regs z s′ k)
   unfolding storeCell
-  store-like count regs z a NoCell f = like-damaged
-  store-like count regs z a (Cell n) f = like-more _ (set s n z) (set s′ n z) (set-same s s′ n z (f .low) refl refl same)
+  store-like place count regs z a NoCell f = like-broken
+  store-like place count regs z a (Cell n) f = like-onward _ count _ (set s n z) (set s′ n z) (set-same s s′ n z (f .low) refl refl same)
 
-  deposit-like : (count : ℕ) (regs : List ℤ) (amount : ℤ) (n : ℕ) → n < maxKeys → anyEntry entryReads (v .entries) n ≡ true
+  deposit-like : (place count : ℕ) (regs : List ℤ) (amount : ℤ) (n : ℕ) → n < maxKeys → anyEntry entryReads (v .entries) n ≡ true
       → (a : Access) (k : Lookup) → Finds (v .entries) a k → a .writes ≡ true
-      → L (depositCell l count regs amount n s k) (depositCell l count regs amount n s′ k)
+      → C′ (depositCell place count regs amount n s k) (depositCell place count regs amount n s′ k)
   unfolding depositCell
-  deposit-like count regs amount n low r a NoCell f w = like-damaged
-  deposit-like count regs amount n low r a (Cell m) f w =
+  deposit-like place count regs amount n low r a NoCell f w = like-broken
+  deposit-like place count regs amount n low r a (Cell m) f w =
       rw (at-read n r, at-written m (f .written w))
-      (like-if (nonNeg (cellAt s′ m) && leZ (cellAt s′ m +ℤ amount) largest)
-      (like-more _
+      (like-test (nonNeg (cellAt s′ m) && leZ (cellAt s′ m +ℤ amount) largest) _ _ _ _
+      (like-onward _ count _
       (set (set s n (cellAt s′ n -ℤ amount)) m (cellAt s′ m +ℤ amount)) (set (set s′ n (cellAt s′ n -ℤ amount)) m (cellAt s′ m +ℤ amount))
       (set-same (set s n (cellAt s′ n -ℤ amount)) (set s′ n (cellAt s′ n -ℤ amount)) m (cellAt s′ m +ℤ amount) (f .low)
       (length-set s n (cellAt s′ n -ℤ amount)) (length-set s′ n (cellAt s′ n -ℤ amount))
       (set-same s s′ n (cellAt s′ n -ℤ amount) low refl refl same)))
-      like-damaged)
+      like-broken)
 
-  transfer-like : (count : ℕ) (regs : List ℤ) (amount : ℤ) (short : ℕ) (to : Access) → to .writes ≡ true
+  transfer-like : (place count : ℕ) (regs : List ℤ) (amount : ℤ) (short : ℕ) (to : Access) → to .writes ≡ true
       → (a : Access) (k : Lookup) → Finds (v .entries) a k → a .reads ≡ true
-      → L (transferCells v l count regs amount short to s k) (transferCells v l count regs amount short to s′ k)
+      → C′ (transferCells v place count regs amount short to s k) (transferCells v place count regs amount short to s′ k)
   unfolding transferCells
-  transfer-like count regs amount short to w a NoCell f r = like-damaged
-  transfer-like count regs amount short to w a (Cell n) f r =
+  transfer-like place count regs amount short to w a NoCell f r = like-broken
+  transfer-like place count regs amount short to w a (Cell n) f r =
       rw (at-read n (f .read r))
-      (like-if (not (nonNeg (cellAt s′ n))) like-damaged
-      (like-if (ltZ (cellAt s′ n) amount) (finish-like count short)
-      (deposit-like count regs amount n (f .low) (f .read r) to (lookup v to) (lookup-finds v to) w)))
+      (like-test (not (nonNeg (cellAt s′ n))) _ _ _ _ like-broken
+      (like-test (ltZ (cellAt s′ n) amount) _ _ _ _ (ending-like short count)
+      (deposit-like place count regs amount n (f .low) (f .read r) to (lookup v to) (lookup-finds v to) w)))
 
-  perform-like : (count : ℕ) (as′ : List Access) (regs : List ℤ) (next : Next) → NextFits (v .code) (l .place) as′ next
-      → L (perform v l count as′ regs next s) (perform v l count as′ regs next s′)
+  perform-like : (place before count : ℕ) (as′ : List Access) (regs : List ℤ) (next : Next) → NextFits v place before count as′ next
+      → C′ (perform v place count as′ regs next s) (perform v place count as′ regs next s′)
   unfolding perform
-  perform-like count as′ regs (Go place) f = like-more _ s s′ same
-  perform-like count as′ regs (End outcome) f = finish-like count outcome
-  perform-like count as′ regs (Load x) f =
-      load-like count regs x (accessAt as′ 0) (lookup v (accessAt as′ 0)) (lookup-finds v (accessAt as′ 0)) f
-  perform-like count as′ regs (Store z) f =
-      store-like count regs z (accessAt as′ 0) (lookup v (accessAt as′ 0)) (lookup-finds v (accessAt as′ 0))
-  perform-like count as′ regs (Transfer amount short) f =
-      transfer-like count regs amount short (accessAt as′ 1) (f .2) (accessAt as′ 0) (lookup v (accessAt as′ 0))
+  perform-like place before count as′ regs (Go to) f = like-onward _ count _ s s′ same
+  perform-like place before count as′ regs (End outcome) f = ending-like outcome count
+  perform-like place before count as′ regs (Load x) f =
+      load-like place count regs x (accessAt as′ 0) (lookup v (accessAt as′ 0)) (lookup-finds v (accessAt as′ 0)) f
+  perform-like place before count as′ regs (Store z) f =
+      store-like place count regs z (accessAt as′ 0) (lookup v (accessAt as′ 0)) (lookup-finds v (accessAt as′ 0))
+  perform-like place before count as′ regs (Transfer amount short) f =
+      transfer-like place count regs amount short (accessAt as′ 1) (f .2) (accessAt as′ 0) (lookup v (accessAt as′ 0))
       (lookup-finds v (accessAt as′ 0)) (f .0)
 
   pub step-like : StepEndsAlike (v .entries) s s′ (stepCall v l s) (stepCall v l s′)
+  unfolding stepCall
   step-like =
-      step-all v l (λ f. L (f s) (f s′)) like-damaged (λ outcome count. like-done outcome count s s′ same)
-      (λ count as′ regs next inside f. perform-like count as′ regs next f)
+      place-all v (l .place) (l .count) (l .regs) (λ f. C′ (f s) (f s′)) like-broken (λ outcome few. ending-like outcome (l .count))
+      (λ n as′ a f. perform-like (l .place) (l .count) n as′ (a .regs) (a .next) (f .next))

@@ -18,7 +18,7 @@ use Rattle.footprint.specs.Plan.{highWord, lowWord, entryCell, entryReads, entr
 use Rattle.machine.specs.Run.{hasKey}
 use Rattle.machine.specs.Action.{instrAction, entryAction}
 use Rattle.block.specs.Outcomes.{ended, unknownFunction}
-use Rattle.machine.specs.Step.{View, Local, Stepped, damaged, done, cellAt, findEntry, lookup, finish, loadCell, storeCell, depositCell, transferCells, accessAt, perform, stepEntry, stepDecoded, stepInstr, stepCall}
+use Rattle.machine.specs.Step.{View, Local, Performed, broken, onward, ending, cellAt, findEntry, lookup, finish, concluded, loadCell, storeCell, depositCell, transferCells, accessAt, perform, stepEntry, stepDecoded, stepInstr, stepPlace, stepCall}
 use Rattle.machine.specs.declared.Next.{Next}
 use Rattle.machine.specs.declared.Next.the-variants.{Go, End, Load, Store, Transfer}
 use Rattle.machine.specs.declared.Lookup.{Lookup}
@@ -59,7 +59,7 @@ find-same keys keys′ same (e ∷ es) a =
     else rest)
     (has-same keys keys′ same (entryCell e) (a .key)) (find-same keys keys′ same es a)
 
-module _ (v : View) (keys : List ℕ) (same : SameWords (v .keys) keys) (l : Local) (cells : List ℤ) where
+module _ (v : View) (keys : List ℕ) (same : SameWords (v .keys) keys) (cells : List ℤ) where
   abbrev w : View
   w = viewWithKeys v keys
 
@@ -68,57 +68,67 @@ module _ (v : View) (keys : List ℕ) (same : SameWords (v .keys) keys) (l : Loc
   lookup-same a =
       ap (λ (k : Lookup). if leb (v .count) maxCallKeys then k else NoCell) (find-same (v .keys) keys same (v .entries) a)
 
-  transfer-same : (count : ℕ) (regs : List ℤ) (amount : ℤ) (short : ℕ) (to : Access) (k : Lookup)
-      → transferCells v l count regs amount short to cells k ≡ transferCells w l count regs amount short to cells k
-  unfolding transferCells finish
-  transfer-same count regs amount short to NoCell = refl
-  transfer-same count regs amount short to (Cell n) =
+  transfer-same : (place count : ℕ) (regs : List ℤ) (amount : ℤ) (short : ℕ) (to : Access) (k : Lookup)
+      → transferCells v place count regs amount short to cells k ≡ transferCells w place count regs amount short to cells k
+  unfolding transferCells
+  transfer-same place count regs amount short to NoCell = refl
+  transfer-same place count regs amount short to (Cell n) =
       ap
       (λ (k : Lookup).
       if not (nonNeg (cellAt cells n))
-      then damaged
+      then broken
       else if ltZ (cellAt cells n) amount
-      then finish v l count short cells
-      else depositCell l count regs amount n cells k)
+      then ending short count
+      else depositCell place count regs amount n cells k)
       (lookup-same to)
 
-  perform-same : (count : ℕ) (as′ : List Access) (regs : List ℤ) (next : Next)
-      → perform v l count as′ regs next cells ≡ perform w l count as′ regs next cells
-  unfolding perform finish
-  perform-same count as′ regs (Go place) = refl
-  perform-same count as′ regs (End outcome) = refl
-  perform-same count as′ regs (Load x) =
-      ap (loadCell l count regs x (accessAt as′ 0) cells) (lookup-same (accessAt as′ 0))
-  perform-same count as′ regs (Store value) = ap (storeCell l count regs value cells) (lookup-same (accessAt as′ 0))
-  perform-same count as′ regs (Transfer amount short) =
-      ap (transferCells v l count regs amount short (accessAt as′ 1) cells) (lookup-same (accessAt as′ 0))
-      ∙ transfer-same count regs amount short (accessAt as′ 1) (lookup w (accessAt as′ 0))
+  perform-same : (place count : ℕ) (as′ : List Access) (regs : List ℤ) (next : Next)
+      → perform v place count as′ regs next cells ≡ perform w place count as′ regs next cells
+  unfolding perform
+  perform-same place count as′ regs (Go to) = refl
+  perform-same place count as′ regs (End outcome) = refl
+  perform-same place count as′ regs (Load x) =
+      ap (loadCell place count regs x (accessAt as′ 0) cells) (lookup-same (accessAt as′ 0))
+  perform-same place count as′ regs (Store value) = ap (storeCell place count regs value cells) (lookup-same (accessAt as′ 0))
+  perform-same place count as′ regs (Transfer amount short) =
+      ap (transferCells v place count regs amount short (accessAt as′ 1) cells) (lookup-same (accessAt as′ 0))
+      ∙ transfer-same place count regs amount short (accessAt as′ 1) (lookup w (accessAt as′ 0))
 
-  entry-same : stepEntry v l cells ≡ stepEntry w l cells
-  unfolding stepEntry
-  entry-same =
-      ap (λ (t : Stepped). if eqb (v .code) 0 then done unknownFunction (l .count) cells else t)
-      (perform-same (l .count) (entryAccesses (v .call)) (entryAction (v .call) (l .regs) .regs) (entryAction (v .call) (l .regs) .next))
+  module _ (place count : ℕ) (regs : List ℤ) where
+    entry-same : stepEntry v place count regs cells ≡ stepEntry w place count regs cells
+    unfolding stepEntry
+    entry-same =
+        ap (λ (t : Performed). if eqb (v .code) 0 then ending unknownFunction count else t)
+        (perform-same place count (entryAccesses (v .call)) (entryAction (v .call) regs .regs) (entryAction (v .call) regs .next))
 
-  decoded-same : (d : Decoded) → stepDecoded v l cells d ≡ stepDecoded w l cells d
-  unfolding stepDecoded
-  decoded-same Invalid = refl
-  decoded-same (Valid i) =
-      perform-same (l .count + 1) (accesses (v .call) i) (instrAction (v .call) (l .place) (l .regs) i .regs)
-      (instrAction (v .call) (l .place) (l .regs) i .next)
+    decoded-same : (d : Decoded) → stepDecoded v place count regs cells d ≡ stepDecoded w place count regs cells d
+    unfolding stepDecoded
+    decoded-same Invalid = refl
+    decoded-same (Valid i) =
+        perform-same place (count + 1) (accesses (v .call) i) (instrAction (v .call) place regs i .regs) (instrAction (v .call) place regs i .next)
 
-  instr-same : stepInstr v l cells ≡ stepInstr w l cells
-  unfolding stepInstr
-  instr-same =
-      ap (λ (t : Stepped). if leb (v .start + instrBytes * (v .code - 1)) (length (v .block)) then t else damaged)
-      (decoded-same
-      (decode (l .place - 1) (v .code - 1)
-      (drop (v .start + instrBytes * (l .place - 1)) (v .block))))
+    instr-same : stepInstr v place count regs cells ≡ stepInstr w place count regs cells
+    unfolding stepInstr
+    instr-same =
+        ap (λ (t : Performed). if leb (v .start + instrBytes * (v .code - 1)) (length (v .block)) then t else broken)
+        (decoded-same (decode (place - 1) (v .code - 1) (drop (v .start + instrBytes * (place - 1)) (v .block))))
 
-  pub step-same : stepCall v l cells ≡ stepCall (viewWithKeys v keys) l cells
+    place-same : stepPlace v place count regs cells ≡ stepPlace w place count regs cells
+    unfolding stepPlace
+    place-same =
+        ap₂
+        (λ (first other : Performed).
+        if eqb place 0 then first else if eqb place (v .code) then ending ended count else other)
+        entry-same instr-same
+
+  concluded-same : (saved : List ℤ) (x : Performed) → concluded v saved cells x ≡ concluded w saved cells x
+  unfolding concluded finish
+  concluded-same saved broken = refl
+  concluded-same saved (onward to n regs after) = refl
+  concluded-same saved (ending outcome n) = refl
+
+  pub step-same : (l : Local) → stepCall v l cells ≡ stepCall (viewWithKeys v keys) l cells
   unfolding stepCall
-  step-same =
-      ap₂
-      (λ (first other : Stepped).
-      if eqb (l .place) 0 then first else if eqb (l .place) (v .code) then done ended (l .count) cells else other)
-      entry-same instr-same
+  step-same l =
+      ap (concluded v (l .saved) cells) (place-same (l .place) (l .count) (l .regs))
+      ∙ concluded-same (l .saved) (stepPlace w (l .place) (l .count) (l .regs) cells)

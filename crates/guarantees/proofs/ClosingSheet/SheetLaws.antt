@@ -9,10 +9,10 @@ use lib.IntN.{ℤ}
 use lib.Dec.{eqb, leb, ltb}
 use Rattle.arith.specs.Choice.{if_then_else_}
 use Rattle.wire.specs.Bytes.{bytesOf}
-use Rattle.block.specs.Limits.{maxCalls, maxCode, maxKeys}
+use Rattle.block.specs.Limits.{maxCalls, maxKeys}
 use Rattle.block.specs.Record.{recordOf, receiptKind, endKind}
 use Rattle.machine.specs.Run.{Run, Sizes, sizesOf, largeEnough, statusWord, stateOf, isState, finished}
-use Rattle.block.specs.Outcomes.{notPaid}
+use Rattle.block.specs.Outcomes.{lastOutcome, maxCount}
 use Rattle.machine.specs.declared.Answer.the-variants.{Damaged, CallUnfinished}
 use Rattle.sheet.specs.Sheet.{Closed, cellRecords, receiptRecords, sheetBytes, statesAllowed, allFinished, receiptsAllowed, balancesAllowed, unwritten, sheetOf, writtenIf}
 use Rattle.guarantees.specs.Agreement.{SameSheet}
@@ -37,7 +37,7 @@ module _ (status status′ : List ℕ) (n : ℕ) (same : (c : ℕ) → c < n
   receipts-same zero h = refl
   receipts-same (suc m) h =
       ap₂ _&&_
-      (ap₂ (λ (o k : ℕ). leb o notPaid && leb k maxCode) (same m h .1) (same m h .2))
+      (ap₂ (λ (o k : ℕ). leb o lastOutcome && leb k maxCount) (same m h .1) (same m h .2))
       (receipts-same m (omega arith))
 
   records-same : (left c : ℕ) → c + left ≤ n → receiptRecords status left c ≡ receiptRecords status′ left c

@@ -11,10 +11,8 @@ use lib.ListN.{length, getD}
 use lib.Signed.{nonNeg}
 use Rattle.wire.specs.Bytes.{repeated, padded}
 use Rattle.block.specs.Key.{isBalance}
-use Rattle.block.specs.Limits.{maxCalls, maxCode, maxKeys}
+use Rattle.block.specs.Limits.{maxCalls, maxKeys}
 use Rattle.block.specs.Record.{Block}
-use Rattle.block.specs.declared.Call.{Call}
-use Rattle.block.specs.declared.CallBody.the-variants.{OutOfRange}
 use Rattle.schedule.specs.Tally as tally
 use Rattle.schedule.specs.Tally.{Phase, isFinished}
 use Rattle.schedule.specs.Machine.{Machine}
@@ -22,14 +20,14 @@ use Rattle.block.specs.Encoding.{AreBytes}
 use Rattle.footprint.specs.Conflict.{member}
 use Rattle.footprint.specs.Plan.{highWord, tableWords}
 use Rattle.rule.specs.Rule.{State, stateWithinLimit, Left}
-use Rattle.block.specs.Naming.{functionOf}
 use Rattle.analysis.specs.KeyTable.{RisingKeys}
 use Rattle.analysis.specs.LayoutOfBlock.{blockOf, callCount}
 use Rattle.analysis.proofs.TableLaws.{member-at, cell-at}
 use Rattle.machine.specs.Run.{Run, Sizes, sizesOf, largeEnough, statusWord, stateOf, finished}
-use Rattle.block.specs.Outcomes.{notPaid}
+use Rattle.block.specs.Outcomes.{lastOutcome, maxCount}
 use Rattle.machine.specs.CallInRun.{Hold}
 use Rattle.machine.specs.Step.{cellAt}
+use Rattle.machine.proofs.StepLaws.{ReceiptBounded}
 use Rattle.machine.specs.declared.Answer.the-variants.{CallUnfinished}
 use Rattle.machine.specs.declared.Head.{Head}
 use Rattle.sheet.specs.Sheet.{keyHigh, fieldOf, sheetBytes, unwritten, written, sheetOf}
@@ -43,12 +41,12 @@ use Rattle.guarantees.proofs.Demand2Proof.{serial-receipt, serial-cells
 use Rattle.guarantees.proofs.TheNextDay.KeyFits.{KeyFits, HoldsOfAll, table-fits}
 use Rattle.guarantees.proofs.TheNextDay.NextCells.{balance-above}
 use Rattle.guarantees.proofs.TheNextDay.NextDay.{words-at}
-use Rattle.guarantees.proofs.FollowingMachine.OpenedRuns.{openedRun, openedCalls, OpenedMatches, base}
-use Rattle.guarantees.proofs.ClosingSheet.ReceiptLaws.{Bounded, receipt-bounded}
-use Rattle.guarantees.proofs.SerialAndRule.SerialRule.{found-in, ruleState, ruleLeft, serial-follows}
+use Rattle.guarantees.proofs.FollowingMachine.OpenedRuns.{openedRun, openedCalls, OpenedMatches, tidy, base}
+use Rattle.guarantees.proofs.CallsOfRun.ViewCalls.{runView}
+use Rattle.guarantees.proofs.CallsOfRun.ViewEnds.{WithinBound, whole-within}
+use Rattle.guarantees.proofs.SerialAndRule.SerialRule.{ruleState, ruleLeft, serialCells, serial-follows}
 use Rattle.guarantees.proofs.SerialAndRule.SerialRunOfFile.{serially-matches}
 use Rattle.guarantees.specs.BlockTally.{isBefore}
-use Rattle.guarantees.specs.RuleRun.{callIn, bodyCall}
 
 -- ---- balances
 
@@ -112,7 +110,7 @@ module _ (s : Sizes) (file : List ℕ) (workers : ℕ) (after : AfterOpening s f
 
   -- The cells hold a state within the limit, and each call has the bounded receipt that a rule leaves.
   all-written : (σ : State) → HoldsOfAll KeyFits (after .table) → Hold (after .table) σ (r .cells) → stateWithinLimit σ ≡ true
-      → (left : ℕ → Left) → ((c : ℕ) → c < callCount file → Bounded (left c))
+      → (left : ℕ → Left) → ((c : ℕ) → c < callCount file → ReceiptBounded (left c .outcome) (left c .count))
       → ((c : ℕ) → c < callCount file
       → (stateOf (r .status) c ≡ finished) × (statusWord (r .status) c 1 ≡ left c .outcome) × (statusWord (r .status) c 2 ≡ left c .count))
       → (output : List ℕ) → sheetOf r output ≡ written output (sheetBytes r)
@@ -129,7 +127,7 @@ module _ (s : Sizes) (file : List ℕ) (workers : ℕ) (after : AfterOpening s f
       (λ c l.
       let q = receipts c (ours c l) in
       let b = bounded c (ours c l) in
-      (subst⁻¹ (λ (o : ℕ). o ≤ notPaid) (q .1) (b .outcome), subst⁻¹ (λ (n : ℕ). n ≤ maxCode) (q .2) (b .count)))
+      (subst⁻¹ (λ (o : ℕ). o ≤ lastOutcome) (q .1) (b .0), subst⁻¹ (λ (n : ℕ). n ≤ maxCount) (q .2) (b .1)))
 
 -- Of the serial run, by the rule that it follows.
 pub serial-written : (s : Sizes) (file : List ℕ) (workers : ℕ) → AreBytes file → AfterOpening s file workers
@@ -144,10 +142,9 @@ serial-written s file workers bytes after =
     b : Block
     b = blockOf file
 
-    bounded : (c : ℕ) → c < callCount file → Bounded (ruleLeft file b c)
+    -- The rule's receipt is that of the call's own run, which is in its range.
+    bounded : (c : ℕ) → c < callCount file → ReceiptBounded (ruleLeft file b c .outcome) (ruleLeft file b c .count)
     bounded c l =
-        let o = after .opened .calls c l in
-        let x : Call = callIn (b .calls) c in
-        let found : x ≡ o .0 = found-in (b .calls) c (bodyCall OutOfRange) (o .0) (o .1 .at) in
-        receipt-bounded file x (ruleState file b c) (functionOf (b .functions) x)
-        (λ g e. o .1 .sound g (ap (functionOf (b .functions)) (sym found) ∙ e))
+        let r₀ : Run = openedRun s file workers in
+        subst (WithinBound (runView file r₀ c) _) (serial-follows s file bytes workers after (isBefore file) .course c l)
+        (whole-within (runView file r₀) (callCount file) (isBefore file) c (serialCells file b r₀ (isBefore file) c) (tidy s file workers after c l .code))

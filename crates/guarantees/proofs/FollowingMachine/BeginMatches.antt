@@ -2,13 +2,12 @@
 use mathlib.Core.Path.{_≡_, refl, sym, ap, ap₂, subst⁻¹, _∙_}
 use mathlib.Core.Bool.{Bool, true, false, cond, not, _&&_, _||_}
 use mathlib.Core.List.{List}
-use Prim.Native.Nat.{ℕ, zero, suc, _*_, _≤_, _<_}
+use Prim.Native.Nat.{ℕ, zero, suc, _+_, _*_, _≤_, _<_}
 use native.Mathlib.Omega.{arith}
 use borrow.Author.Tests.{leb-false, le-ltb, not-false}
 use lib.Dec.{eqb, leb, ltb}
 use lib.IntN.{ℤ}
-use lib.ListN.{length, take, drop}
-use Rattle.wire.specs.Bytes.{stored}
+use lib.ListN.{length}
 use Rattle.wire.proofs.BytesLaws.{stored-length}
 use Rattle.wire.specs.Rows.{inRow}
 use Rattle.block.specs.Limits.{maxCalls, maxCallKeys}
@@ -18,14 +17,15 @@ use Rattle.schedule.specs.Tally.{blocked, refusal}
 use Rattle.schedule.specs.declared.Move.the-variants.{Begin}
 use Rattle.schedule.specs.Machine as schedule
 use Rattle.schedule.specs.Machine.{active, isReady, isEnded, Machine}
-use Rattle.machine.specs.Run.{Run, seatOf, stateOf, isState, rowIn, withState, running, finished}
+use Rattle.machine.specs.Run.{Run, registers, frameValues, zeroRegisters, heldAt, withSeat, withRegs, savedIn, withSaved, stateOf, isState, rowIn, withState, running, finished}
+use Rattle.machine.proofs.StepLaws.{begun-ranged}
 use Rattle.machine.specs.Step.{savedOf}
 use Rattle.machine.specs.Moves.{Moved, callKeyCount, ownEntries, earlierBroken, earlierFinished, beginCall, beginChecked, beginOf}
 use Rattle.machine.specs.Answer.{answerNumber}
 use Rattle.machine.specs.declared.Answer.the-variants.{NoWorker, NoCall, WorkerBusy, NotWaiting, EarlierUnfinished}
-use Rattle.guarantees.proofs.CallsOfRun.ViewCalls.{atEntry}
-use Rattle.guarantees.proofs.FollowingMachine.RunMatches.{seatAt, Base, callsIn, Matches}
-use Rattle.guarantees.proofs.FollowingMachine.BufferLaws.{state-here, state-there, state-length, saved-length, saved-own, saved-other}
+use Rattle.guarantees.proofs.CallsOfRun.ViewCalls.{atEntry, runView}
+use Rattle.guarantees.proofs.FollowingMachine.RunMatches.{Base, callsIn, Matches}
+use Rattle.guarantees.proofs.FollowingMachine.BufferLaws.{state-here, state-there, state-length, saved-length, seat-length, seat-own, regs-own, old-own, old-leaves-regs, begin-elsewhere}
 use Rattle.guarantees.proofs.FollowingMachine.ChangeMatches.{changed, CallChange, change-matches, call-few-keys}
 use Rattle.guarantees.proofs.FollowingMachine.Follows.{Follows, refused, passes, tests, large, sized, SeatRead, follows-seat, StateRead, call-read, can-restore}
 
@@ -62,8 +62,15 @@ module _ (file : List ℕ) (workers n : ℕ) (before : ℕ → ℕ → Bool) (r�
   abbrev own-saved : List ℤ
   own-saved = savedOf (ownEntries (r₀ .plan) c) (M .cells)
 
-  abbrev saved : List ℤ
-  saved = stored (r .saved) (maxCallKeys * w) own-saved
+  -- The worker's seat and frame.
+  abbrev seats : List ℕ
+  seats = withSeat (r .seats) w 0 0
+
+  abbrev zeroed : List ℤ
+  zeroed = withRegs (r .frames) w zeroRegisters
+
+  abbrev frames : List ℤ
+  frames = withSaved zeroed w own-saved
 
   module _ (worker : w < workers) (call : c < n) (free : tally.isIdle (M .seat w) ≡ true) (waits : isReady (M .call c) ≡ true) where
     saved-size : length own-saved ≡ callKeyCount (r₀ .plan) c
@@ -72,8 +79,21 @@ module _ (file : List ℕ) (workers n : ℕ) (before : ℕ → ℕ → Bool) (r�
     few-saved : length own-saved ≤ maxCallKeys
     few-saved = omega (arith, saved-size, call-few-keys file workers n before r₀ base c call)
 
-    change : CallChange file workers n before r₀ base M r w c (active atEntry own-saved) (seatAt c atEntry) (M .cells) (withState (r .status) c running) saved
+    few-workers : w < 8
+    few-workers = let few : workers ≤ 8 = base .fewWorkers in omega arith
+
+    zeroed-length : length zeroed ≡ length (r .frames)
+    zeroed-length = stored-length zeroRegisters (r .frames) (frameValues * w)
+
+    seat-room : 16 * w + 1 < length (r .seats)
+    seat-room = let room : 8 * 16 ≤ length (r .seats) = large file workers n before r₀ base M r m .seats in omega (arith, few-workers)
+
+    frame-room : frameValues * w + frameValues ≤ length (r .frames)
+    frame-room = let room : 8 * 32 ≤ length (r .frames) = large file workers n before r₀ base M r m .frames in omega (arith, few-workers)
+
+    change : CallChange file workers n before r₀ base M r w c (active atEntry own-saved) (c + 1) (M .cells) (withState (r .status) c running) seats frames
     change =
+        let seat = seat-own (r .seats) w 0 0 seat-room in
         record {
           worker = worker;
           call = call;
@@ -81,7 +101,8 @@ module _ (file : List ℕ) (workers n : ℕ) (before : ℕ → ℕ → Bool) (r�
           sole = λ u e. one-answer waits (ap isReady (m .holds u c e .runs));
           cellLength = ap length (sym (m .cells));
           statusLength = state-length (r .status) c running;
-          oldLength = stored-length own-saved (r .saved) (maxCallKeys * w);
+          seatLength = seat-length (r .seats) w 0 0;
+          frameLength = stored-length own-saved zeroed (frameValues * w + registers) ∙ zeroed-length;
           stands =
               let room : 256 * 4 ≤ length (r .status) = large file workers n before r₀ base M r m .status in
               let few : n ≤ 256 = base .fewCalls in
@@ -89,15 +110,14 @@ module _ (file : List ℕ) (workers n : ℕ) (before : ℕ → ℕ → Bool) (r�
           others = λ d k x l. state-there (r .status) c running d k x l;
           seated =
               record {
-                seated = refl;
-                old =
-                    let room : 8 * 24 ≤ length (r .saved) = large file workers n before r₀ base M r m .saved in
-                    let few : workers ≤ 8 = base .fewWorkers in
-                    ap (λ (k : ℕ). take k (drop (24 * w) saved)) (sym saved-size) ∙ saved-own (r .saved) w own-saved (omega (arith, few-saved));
-                within = omega arith;
-                counted = omega arith;
+                holds = refl;
+                place = seat .0;
+                count = seat .1;
+                regs = old-leaves-regs zeroed w own-saved ∙ regs-own (r .frames) w zeroRegisters refl (omega (arith, frame-room));
+                old = ap (savedIn frames w) (sym saved-size) ∙ old-own zeroed w own-saved (omega (arith, few-saved, frame-room, zeroed-length));
+                range = begun-ranged (runView file r₀ c) (base .tidy c call .code);
               };
-          elsewhere = λ u k x l. saved-other (r .saved) w own-saved few-saved u k x l;
+          elsewhere = begin-elsewhere (r .frames) w (r .seats) 0 0 zeroRegisters own-saved refl few-saved;
         }
 
     -- The lent run's own cells and plan are those of the machine.
@@ -105,9 +125,9 @@ module _ (file : List ℕ) (workers n : ℕ) (before : ℕ → ℕ → Bool) (r�
     unfolding schedule.machineBegin beginCall
     begun =
         subst⁻¹ (Matches file workers n before r₀ (schedule.settleCall (callsIn file n before r₀) M w c (M .cells) (active atEntry own-saved)))
-        (λ i. changed r w (seatAt c atEntry) (m .cells i) (withState (r .status) c running)
-        (stored (r .saved) (maxCallKeys * w) (savedOf (ownEntries (m .plan i) c) (m .cells i))))
-        (change-matches file workers n before r₀ base M r m w c (active atEntry own-saved) (seatAt c atEntry) (M .cells) (withState (r .status) c running) saved
+        (λ i. changed r w (c + 1) (m .cells i) (withState (r .status) c running) seats
+        (withSaved zeroed w (savedOf (ownEntries (m .plan i) c) (m .cells i))))
+        (change-matches file workers n before r₀ base M r m w c (active atEntry own-saved) (c + 1) (M .cells) (withState (r .status) c running) seats frames
         change)
 
   abbrev after : Machine (callsIn file n before r₀)
@@ -153,7 +173,7 @@ module _ (file : List ℕ) (workers n : ℕ) (before : ℕ → ℕ → Bool) (r�
       (λ f. refused file workers n before r₀ m NoCall 21 refl)
       (λ f.
       passes file workers n before r₀ _ _ _
-      (ap (λ (k : ℕ). ltb k (seatOf (r .head) w .call)) (m .callCount) ∙ le-ltb n (seatOf (r .head) w .call) (seat .known))
+      (ap (λ (k : ℕ). ltb k (heldAt (r .head) w)) (m .callCount) ∙ le-ltb n (heldAt (r .head) w) (seat .known))
       (tests file workers n before r₀ 23 _ _ _ _ (not (tally.isIdle (M .seat w))) (ap not (seat .free))
       (λ g. refused file workers n before r₀ m WorkerBusy 22 refl)
       (λ g. checked worker (leb-false n c f) (not-false (tally.isIdle (M .seat w)) g)))))))

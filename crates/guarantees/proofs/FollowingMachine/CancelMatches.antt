@@ -11,14 +11,14 @@ use Rattle.schedule.specs.Tally.{refusal}
 use Rattle.schedule.specs.declared.Move.the-variants.{Cancel}
 use Rattle.schedule.specs.Machine.{ready, isReady, isEnded, Machine, settleCall, cancelCall, cancelWorker}
 use Rattle.analysis.proofs.GatheredLaws.{if-true}
-use Rattle.machine.specs.Run.{Run, idleSeat, withState, waiting}
+use Rattle.machine.specs.Run.{Run, savedIn, withState, waiting}
 use Rattle.machine.specs.Step.{restored}
-use Rattle.machine.specs.Moves.{stay, callKeyCount, ownEntries, savedIn, cancelHeld, cancelFor, cancelOf}
+use Rattle.machine.specs.Moves.{stay, callKeyCount, ownEntries, cancelHeld, cancelFor, cancelOf}
 use Rattle.machine.specs.Answer.{answerNumber}
 use Rattle.machine.specs.declared.Answer.the-variants.{Accepted, Damaged}
 use Rattle.machine.proofs.RestoreLaws.{restored-length}
 use Rattle.guarantees.proofs.FollowingMachine.RunMatches.{Base, callsIn, HoldsRunning, Matches}
-use Rattle.guarantees.proofs.FollowingMachine.BufferLaws.{state-here, state-there, state-length}
+use Rattle.guarantees.proofs.FollowingMachine.BufferLaws.{state-here, state-there, state-length, seat-stays}
 use Rattle.guarantees.proofs.FollowingMachine.ChangeMatches.{changed, CallChange, change-matches}
 use Rattle.guarantees.proofs.FollowingMachine.Follows.{Follows, large, can-restore}
 use Rattle.guarantees.proofs.FollowingMachine.HeldMatches.{held-follows}
@@ -29,7 +29,7 @@ module _ (file : List ℕ) (workers n : ℕ) (before : ℕ → ℕ → Bool) (r�
     abbrev cells : List ℤ
     cells = restored (ownEntries (r₀ .plan) c) (k .kept) (M .cells)
 
-    change : CallChange file workers n before r₀ base M r w c ready idleSeat cells (withState (r .status) c waiting) (r .saved)
+    change : CallChange file workers n before r₀ base M r w c ready 0 cells (withState (r .status) c waiting) (r .seats) (r .frames)
     change =
         record {
           worker = k .worker;
@@ -38,7 +38,8 @@ module _ (file : List ℕ) (workers n : ℕ) (before : ℕ → ℕ → Bool) (r�
           sole = λ u f. m .sole u w c f e;
           cellLength = restored-length (ownEntries (r₀ .plan) c) (k .kept) (M .cells) ∙ ap length (sym (m .cells));
           statusLength = state-length (r .status) c waiting;
-          oldLength = refl;
+          seatLength = refl;
+          frameLength = refl;
           stands =
               let room : 256 * 4 ≤ length (r .status) = large file workers n before r₀ base M r m .status in
               let few : n ≤ 256 = base .fewCalls in
@@ -46,11 +47,11 @@ module _ (file : List ℕ) (workers n : ℕ) (before : ℕ → ℕ → Bool) (r�
               state-here (r .status) c waiting (omega arith);
           others = λ d j x l. state-there (r .status) c waiting d j x l;
           seated = refl;
-          elsewhere = λ u j x l. refl;
+          elsewhere = λ u x. seat-stays (r .seats) (r .frames) u;
         }
 
-    old : savedIn (r .saved) w (callKeyCount (r .plan) c) ≡ k .kept
-    old = ap (λ (plan : List ℕ). savedIn (r .saved) w (callKeyCount plan c)) (m .plan) ∙ k .own .old
+    old : savedIn (r .frames) w (callKeyCount (r .plan) c) ≡ k .kept
+    old = ap (λ (plan : List ℕ). savedIn (r .frames) w (callKeyCount plan c)) (m .plan) ∙ k .own .old
 
     machine-cancels : cancelWorker (callsIn file n before r₀) M w (M .seat w) ≡ settleCall (callsIn file n before r₀) M w c cells ready
     unfolding cancelWorker cancelCall
@@ -60,13 +61,14 @@ module _ (file : List ℕ) (workers n : ℕ) (before : ℕ → ℕ → Bool) (r�
     -- The lent run's own cells, plan and old values are those of the machine.
     abbrev left : Run
     left =
-        changed r w idleSeat (restored (ownEntries (r .plan) c) (savedIn (r .saved) w (callKeyCount (r .plan) c)) (r .cells)) (withState (r .status) c waiting) (r .saved)
+        changed r w 0 (restored (ownEntries (r .plan) c) (savedIn (r .frames) w (callKeyCount (r .plan) c)) (r .cells)) (withState (r .status) c waiting) (r .seats)
+        (r .frames)
 
     left-matches : Matches file workers n before r₀ (settleCall (callsIn file n before r₀) M w c cells ready) left
     left-matches =
         subst⁻¹ (Matches file workers n before r₀ (settleCall (callsIn file n before r₀) M w c cells ready))
-        (λ i. changed r w idleSeat (restored (ownEntries (m .plan i) c) (old i) (m .cells i)) (withState (r .status) c waiting) (r .saved))
-        (change-matches file workers n before r₀ base M r m w c ready idleSeat cells (withState (r .status) c waiting) (r .saved) change)
+        (λ i. changed r w 0 (restored (ownEntries (m .plan i) c) (old i) (m .cells i)) (withState (r .status) c waiting) (r .seats) (r .frames))
+        (change-matches file workers n before r₀ base M r m w c ready 0 cells (withState (r .status) c waiting) (r .seats) (r .frames) change)
 
     cancelled : Follows file workers n before r₀ M (cancelWorker (callsIn file n before r₀) M w (M .seat w)) 0 (cancelHeld r w c)
     unfolding cancelHeld answerNumber

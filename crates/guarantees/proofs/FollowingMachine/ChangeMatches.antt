@@ -1,5 +1,5 @@
 -- One call and its worker change: the run that is changed likewise stands for the changed machine.
-use mathlib.Core.Path.{_≡_, refl, sym, ap, subst, _∙_}
+use mathlib.Core.Path.{_≡_, refl, sym, ap, subst, subst⁻¹, _∙_}
 use mathlib.Core.Bool.{Bool}
 use mathlib.Core.List.{List}
 use Prim.Native.Nat.{ℕ, _≤_, _<_}
@@ -12,16 +12,17 @@ use Rattle.schedule.specs.Tally as tally
 use Rattle.schedule.specs.Tally.{put}
 use Rattle.schedule.specs.Machine.{ready, active, ended, kept, Machine, settleCall}
 use Rattle.schedule.proofs.Valid.{put-here, put-there, put-all}
-use Rattle.machine.specs.Run.{Run, sizesOf, seatOf, withSeat, idleSeat, statusWord, statusWords}
-use Rattle.machine.specs.Moves.{savedIn, callKeyCount}
-use Rattle.machine.specs.declared.Seat.{Seat}
+use Rattle.machine.specs.Run.{Run, sizesOf, heldAt, withHeld, statusWord, statusWords}
+use Rattle.machine.specs.Moves.{callKeyCount}
+use Rattle.machine.specs.Step.{View}
 use Rattle.guarantees.proofs.CallsOfRun.ViewCalls.{Place, broken, receipt, runView}
 use Rattle.guarantees.proofs.FollowingMachine.RunMatches.{CallState, StatusSays, RunningSeat, Seated, Base, callsIn, HoldsRunning, Matches}
+use Rattle.guarantees.proofs.FollowingMachine.BufferLaws.{SeatKept}
 
--- The run with worker w's seat and three buffers changed.
-abbrev pub changed : Run → ℕ → Seat → List ℤ → List ℕ → List ℤ → Run
-changed r w seat cells status saved =
-    record { head = withSeat (r .head) w seat; plan = r .plan; keys = r .keys; cells = cells; status = status; saved = saved }
+-- The run with what worker w holds and four buffers changed.
+abbrev pub changed : Run → (w held : ℕ) → (cells : List ℤ) → (status seats : List ℕ) → (frames : List ℤ) → Run
+changed r w held cells status seats frames =
+    record { head = withHeld (r .head) w held; plan = r .plan; keys = r .keys; cells = cells; status = status; seats = seats; frames = frames }
 
 -- ---- what a state says of a call stays said by equal words
 
@@ -40,22 +41,23 @@ kept-holds c d (active l o) e = cc
 kept-holds c d (ended r) e = let z : _≡_ {A = ℕ} 0 1 = cc in absurd (omega arith)
 
 -- A worker whose seat is that of a call in a state: it is free, or the call runs.
-freed : (r₀ : Run) (saved : List ℤ) (seat : Seat) (w c : ℕ) (a : CallState) → Seated r₀ saved seat w c a → kept c a ≡ tally.idle → seat ≡ idleSeat
-freed r₀ saved seat w c ready h e = h
-freed r₀ saved seat w c (active l o) h e = let z : _≡_ {A = ℕ} 0 1 = cc in absurd (omega arith)
-freed r₀ saved seat w c (ended r) h e = h
+freed : (v : View) (held : ℕ) (seats : List ℕ) (frames : List ℤ) (w c : ℕ) (a : CallState) → Seated v held seats frames w c a
+    → kept c a ≡ tally.idle → held ≡ 0
+freed v held seats frames w c ready h e = h
+freed v held seats frames w c (active l o) h e = let z : _≡_ {A = ℕ} 0 1 = cc in absurd (omega arith)
+freed v held seats frames w c (ended r) h e = h
 
-record Runs (r₀ : Run) (saved : List ℤ) (seat : Seat) (w c : ℕ) (a : CallState) : Type 0 where
+record Runs (v : View) (held : ℕ) (seats : List ℕ) (frames : List ℤ) (w c : ℕ) (a : CallState) : Type 0 where
   local : Place
   own-saved : List ℤ
   is : a ≡ active local own-saved
-  own : RunningSeat r₀ saved seat w c local own-saved
+  own : RunningSeat v held seats frames w c local own-saved
 
-runs : (r₀ : Run) (saved : List ℤ) (seat : Seat) (w c : ℕ) (a : CallState) → Seated r₀ saved seat w c a
-    → (d : ℕ) → kept c a ≡ tally.holds d → Runs r₀ saved seat w c a
-runs r₀ saved seat w c ready h d e = let z : _≡_ {A = ℕ} 0 1 = cc in absurd (omega arith)
-runs r₀ saved seat w c (active l o) h d e = record { local = l; own-saved = o; is = refl; own = h }
-runs r₀ saved seat w c (ended r) h d e = let z : _≡_ {A = ℕ} 0 1 = cc in absurd (omega arith)
+runs : (v : View) (held : ℕ) (seats : List ℕ) (frames : List ℤ) (w c : ℕ) (a : CallState) → Seated v held seats frames w c a
+    → (d : ℕ) → kept c a ≡ tally.holds d → Runs v held seats frames w c a
+runs v held seats frames w c ready h d e = let z : _≡_ {A = ℕ} 0 1 = cc in absurd (omega arith)
+runs v held seats frames w c (active l o) h d e = record { local = l; own-saved = o; is = refl; own = h }
+runs v held seats frames w c (ended r) h d e = let z : _≡_ {A = ℕ} 0 1 = cc in absurd (omega arith)
 
 module _ (file : List ℕ) (workers n : ℕ) (before : ℕ → ℕ → Bool) (r₀ : Run) (base : Base file workers n before r₀) where
   -- A call has at most 24 keys.
@@ -65,44 +67,54 @@ module _ (file : List ℕ) (workers n : ℕ) (before : ℕ → ℕ → Bool) (r�
       let count : callKeyCount (r₀ .plan) c ≡ length (runView file r₀ c .entries) = base .tidy c l .count in
       omega arith
 
-  -- Call c of worker w comes to the state a: what the changed seat and buffers have to say, and that no other worker holds c nor w another call.
+  -- Call c of worker w comes to the state a: what the worker holds and the changed buffers have to say, and that no other worker holds c nor w another call.
   pub record CallChange (M : Machine (callsIn file n before r₀)) (r : Run) (w c : ℕ) (a : CallState)
-      (seat : Seat) (cells : List ℤ) (status : List ℕ) (saved : List ℤ) : Type 0 where
+      (held : ℕ) (cells : List ℤ) (status seats : List ℕ) (frames : List ℤ) : Type 0 where
     pub worker : w < workers
     pub call : c < n
     pub mine : (d : ℕ) → M .seat w ≡ tally.holds d → d ≡ c
     pub sole : (u : ℕ) → M .seat u ≡ tally.holds c → u ≡ w
     pub cellLength : length cells ≡ length (r .cells)
     pub statusLength : length status ≡ length (r .status)
-    pub oldLength : length saved ≡ length (r .saved)
+    pub seatLength : length seats ≡ length (r .seats)
+    pub frameLength : length frames ≡ length (r .frames)
     pub stands : StatusSays status c a
     pub others : (d k : ℕ) → ¬ (d ≡ c) → k < statusWords → statusWord status d k ≡ statusWord (r .status) d k
-    pub seated : Seated r₀ saved seat w c a
-    pub elsewhere : (u k : ℕ) → ¬ (u ≡ w) → k ≤ maxCallKeys → savedIn saved u k ≡ savedIn (r .saved) u k
+    pub seated : Seated (runView file r₀ c) held seats frames w c a
+    pub elsewhere : (u : ℕ) → ¬ (u ≡ w) → SeatKept (r .seats) seats (r .frames) frames u
 
   module _ (M : Machine (callsIn file n before r₀)) (r : Run) (m : Matches file workers n before r₀ M r)
-      (w c : ℕ) (a : CallState) (seat : Seat) (cells : List ℤ) (status : List ℕ) (saved : List ℤ)
-      (h : CallChange M r w c a seat cells status saved) where
+      (w c : ℕ) (a : CallState) (held : ℕ) (cells : List ℤ) (status seats : List ℕ) (frames : List ℤ)
+      (h : CallChange M r w c a held cells status seats frames) where
     abbrev M′ : Machine (callsIn file n before r₀)
     M′ = record { cells = cells; call = put (M .call) c a; seat = put (M .seat) w (kept c a) }
 
     abbrev r′ : Run
-    r′ = changed r w seat cells status saved
+    r′ = changed r w held cells status seats frames
 
-    new-seat : seatOf (r′ .head) w ≡ seat
-    new-seat =
+    new-held : heldAt (r′ .head) w ≡ held
+    new-held =
         let few : w < 8 = let l : w < workers = h .worker in let f : workers ≤ 8 = base .fewWorkers in omega arith in
-        getD-set-same (r .head .seats) w seat idleSeat (rw (m .seats) few)
+        getD-set-same (r .head .held) w held 0 (rw (m .heldLength) few)
 
-    old-seat : (u : ℕ) → ¬ (u ≡ w) → seatOf (r′ .head) u ≡ seatOf (r .head) u
-    old-seat u x = getD-set-other (r .head .seats) w u seat idleSeat x
+    old-held : (u : ℕ) → ¬ (u ≡ w) → heldAt (r′ .head) u ≡ heldAt (r .head) u
+    old-held u x = getD-set-other (r .head .held) w u held 0 x
 
     sizes : sizesOf r′ ≡ sizesOf r
-    sizes = λ i. record { plan = length (r .plan); keys = length (r .keys); cells = h .cellLength i; status = h .statusLength i; saved = h .oldLength i }
+    sizes =
+        λ i. record {
+          plan = length (r .plan);
+          keys = length (r .keys);
+          cells = h .cellLength i;
+          status = h .statusLength i;
+          seats = h .seatLength i;
+          frames = h .frameLength i;
+        }
 
     held-new : (d : ℕ) → kept c a ≡ tally.holds d → HoldsRunning file workers n before r₀ M′ r′ w d
     held-new d e =
-        let x : Runs r₀ saved seat w c a = runs r₀ saved seat w c a (h .seated) d e in
+        let v : View = runView file r₀ c in
+        let x : Runs v held seats frames w c a = runs v held seats frames w c a (h .seated) d e in
         let own : HoldsRunning file workers n before r₀ M′ r′ w c =
         record {
           worker = h .worker;
@@ -110,13 +122,14 @@ module _ (file : List ℕ) (workers n : ℕ) (before : ℕ → ℕ → Bool) (r�
           local = x .local;
           kept = x .own-saved;
           runs = put-here (M .call) c a ∙ x .is;
-          own = record { seated = new-seat ∙ x .own .seated; old = x .own .old; within = x .own .within; counted = x .own .counted };
+          own = subst⁻¹ (λ (now : ℕ). RunningSeat v now seats frames w c (x .local) (x .own-saved)) new-held (x .own);
         } in
         subst (HoldsRunning file workers n before r₀ M′ r′ w) (kept-holds c d a e) own
 
     held-old : (u : ℕ) → ¬ (u ≡ w) → (d : ℕ) → M .seat u ≡ tally.holds d → HoldsRunning file workers n before r₀ M′ r′ u d
     held-old u x d e =
         let k : HoldsRunning file workers n before r₀ M r u d = m .holds u d e in
+        let same : SeatKept (r .seats) seats (r .frames) frames u = h .elsewhere u x in
         record {
           worker = k .worker;
           call = k .call;
@@ -125,10 +138,12 @@ module _ (file : List ℕ) (workers n : ℕ) (before : ℕ → ℕ → Bool) (r�
           runs = put-there (M .call) c a d (λ q. x (h .sole u (e ∙ ap tally.holds q))) ∙ k .runs;
           own =
               record {
-                seated = old-seat u x ∙ k .own .seated;
-                old = h .elsewhere u (callKeyCount (r₀ .plan) d) x (call-few-keys d (k .call)) ∙ k .own .old;
-                within = k .own .within;
-                counted = k .own .counted;
+                holds = old-held u x ∙ k .own .holds;
+                place = same .place ∙ k .own .place;
+                count = same .count ∙ k .own .count;
+                regs = same .regs ∙ k .own .regs;
+                old = same .old (callKeyCount (r₀ .plan) d) (call-few-keys d (k .call)) ∙ k .own .old;
+                range = k .own .range;
               };
         }
 
@@ -159,12 +174,12 @@ module _ (file : List ℕ) (workers n : ℕ) (before : ℕ → ℕ → Bool) (r�
           cellCount = m .cellCount;
           first = m .first;
           sizes = sizes ∙ m .sizes;
-          seats = length-set (r .head .seats) w seat ∙ m .seats;
+          heldLength = length-set (r .head .held) w held ∙ m .heldLength;
           cells = refl;
           calls = put-all (M .call) c a (λ d q. d < n → StatusSays status d q) (λ l. h .stands)
               (λ d x l. stands-same status (r .status) d (M .call d) (λ k. h .others d k x) (m .calls d l));
-          idle = put-all (M .seat) w (kept c a) (λ u q. u < workers → q ≡ tally.idle → seatOf (r′ .head) u ≡ idleSeat)
-              (λ l e. new-seat ∙ freed r₀ saved seat w c a (h .seated) e) (λ u x l e. old-seat u x ∙ m .idle u l e);
+          idle = put-all (M .seat) w (kept c a) (λ u q. u < workers → q ≡ tally.idle → heldAt (r′ .head) u ≡ 0)
+              (λ l e. new-held ∙ freed (runView file r₀ c) held seats frames w c a (h .seated) e) (λ u x l e. old-held u x ∙ m .idle u l e);
           holds = put-all (M .seat) w (kept c a) (λ u q. (d : ℕ) → q ≡ tally.holds d → HoldsRunning file workers n before r₀ M′ r′ u d) held-new held-old;
           sole =
               λ u v d. put-all (M .seat) w (kept c a) (λ u q. q ≡ tally.holds d → M′ .seat v ≡ tally.holds d → u ≡ v)

@@ -12,13 +12,12 @@ use Rattle.block.specs.Limits.{maxKeys, maxWorkers}
 use Rattle.schedule.specs.Tally as tally
 use Rattle.schedule.specs.Tally.{unless}
 use Rattle.schedule.specs.Machine.{ready, active, ended, isReady, isEnded, Machine}
-use Rattle.machine.specs.Run.{Run, sizesOf, largeEnough, seatOf, stateOf, isState, waiting, finished}
+use Rattle.machine.specs.Run.{Run, sizesOf, largeEnough, heldAt, stateOf, isState, waiting, finished}
 use Rattle.footprint.specs.Plan.{entryCell, entryWrites}
 use Rattle.machine.specs.Step.{View, entriesAllowed, restorable}
 use Rattle.machine.specs.Moves.{Moved, stay, callKeyCount, ownEntries}
 use Rattle.machine.specs.Answer.{answerNumber}
 use Rattle.machine.specs.declared.Answer.{Answer}
-use Rattle.machine.specs.declared.Seat.{Seat}
 use Rattle.guarantees.proofs.CallsOfRun.ViewCalls.{broken, receipt, Proper, Tidy, runView}
 use Rattle.guarantees.specs.Demand1.{Large}
 use Rattle.guarantees.proofs.AcceptedOpening.OpeningPassed.{large-sizes}
@@ -85,21 +84,21 @@ module _ (file : List ℕ) (workers n : ℕ) (before : ℕ → ℕ → Bool) (r�
 
     -- A worker's seat has a call of the run, or none.
     pub record SeatRead (w : ℕ) : Type 0 where
-      pub free : eqb (seatOf (r .head) w .call) 0 ≡ tally.isIdle (M .seat w)
-      pub known : seatOf (r .head) w .call ≤ n
+      pub free : eqb (heldAt (r .head) w) 0 ≡ tally.isIdle (M .seat w)
+      pub known : heldAt (r .head) w ≤ n
 
     pub follows-seat : (w : ℕ) → w < workers → SeatRead w
     follows-seat w l = go (M .seat w) refl
       where
         go : (s : tally.Seat) → M .seat w ≡ s → SeatRead w
         go tally.idle e =
-            let q : seatOf (r .head) w .call ≡ 0 = ap (λ (s : Seat). s .call) (m .idle w l e) in
-            record { free = eq-eqb (seatOf (r .head) w .call) 0 q ∙ ap tally.isIdle (sym e); known = omega arith }
+            let q : heldAt (r .head) w ≡ 0 = m .idle w l e in
+            record { free = eq-eqb (heldAt (r .head) w) 0 q ∙ ap tally.isIdle (sym e); known = omega arith }
         go (tally.holds c) e =
             let k : HoldsRunning file workers n before r₀ M r w c = m .holds w c e in
-            let q : seatOf (r .head) w .call ≡ c + 1 = ap (λ (s : Seat). s .call) (k .own .seated) in
+            let q : heldAt (r .head) w ≡ c + 1 = k .own .holds in
             let below : c < n = k .call in
-            record { free = ne-eqb (seatOf (r .head) w .call) 0 (omega arith) ∙ ap tally.isIdle (sym e); known = omega arith }
+            record { free = ne-eqb (heldAt (r .head) w) 0 (omega arith) ∙ ap tally.isIdle (sym e); known = omega arith }
 
     pub call-read : (c : ℕ) → c < n → StateRead (stateOf (r .status) c) (M .call c)
     call-read c l = state-read (r .status) c (M .call c) (m .calls c l)

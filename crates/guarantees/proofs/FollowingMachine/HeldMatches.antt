@@ -10,14 +10,13 @@ use Rattle.block.specs.Limits.{maxCalls}
 use Rattle.schedule.specs.Tally as tally
 use Rattle.schedule.specs.Machine.{Machine}
 use Rattle.analysis.proofs.GatheredLaws.{if-true, if-false}
-use Rattle.machine.specs.Run.{Run, seatOf}
+use Rattle.machine.specs.Run.{Run, heldAt}
 use Rattle.machine.specs.Moves as machine
 use Rattle.machine.specs.Moves.{Moved, stay, answered, heldBy}
 use Rattle.machine.specs.Answer.{answerNumber}
 use Rattle.machine.specs.declared.Answer.{Answer}
 use Rattle.machine.specs.declared.Answer.the-variants.{NoWorker, WorkerIdle}
-use Rattle.machine.specs.declared.Seat.{Seat}
-use Rattle.guarantees.proofs.FollowingMachine.RunMatches.{Base, callsIn, HoldsRunning, Matches}
+use Rattle.guarantees.proofs.FollowingMachine.RunMatches.{Base, callsIn, Matches}
 use Rattle.guarantees.proofs.FollowingMachine.Follows.{Follows, refused, sized, SeatRead, follows-seat}
 
 -- The call's number is one of the run.
@@ -44,14 +43,14 @@ module _ (file : List ℕ) (workers n : ℕ) (before : ℕ → ℕ → Bool) (r�
   unfolding heldBy
   one-call e c q =
       let seat : SeatRead file workers n before r₀ base M r m w = follows-seat file workers n before r₀ base M r m w (leb-false workers w e) in
-      let own : seatOf (r .head) w .call ≡ c + 1 = ap (λ (s : Seat). s .call) (m .holds w c q .own .seated) in
-      let number : seatOf (r .head) w .call - 1 ≡ c = omega arith in
+      let own : heldAt (r .head) w ≡ c + 1 = m .holds w c q .own .holds in
+      let number : heldAt (r .head) w - 1 ≡ c = omega arith in
       if-false _ _ (sized file workers n before r₀ base M r m)
       ∙ if-false _ _ (ap (λ (k : ℕ). leb k w) (m .workerCount) ∙ e)
       ∙ if-false _ _ (seat .free ∙ ap tally.isIdle q)
       ∙ if-false _ _
-      (ap (λ (k : ℕ). ltb maxCalls k || ltb k (seatOf (r .head) w .call)) (m .callCount)
-      ∙ numbers n (seatOf (r .head) w .call) (base .fewCalls) (seat .known))
+      (ap (λ (k : ℕ). ltb maxCalls k || ltb k (heldAt (r .head) w)) (m .callCount)
+      ∙ numbers n (heldAt (r .head) w) (base .fewCalls) (seat .known))
       ∙ ap machine.holds number
 
   -- A move that stays where nothing is held.

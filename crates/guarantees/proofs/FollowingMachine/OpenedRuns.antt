@@ -11,7 +11,7 @@ use lib.ListN.{length, getD, drop, length-map}
 use Rattle.wire.specs.Bytes.{repeated}
 use Rattle.wire.proofs.BytesLaws.{repeated-at}
 use Rattle.block.specs.Limits.{maxCode, maxCallKeys}
-use Rattle.block.specs.Record.{Function, Block, headBytes, callBytes, callOf}
+use Rattle.block.specs.Record.{Function, Block, headBytes, callRecordBytes, callOf}
 use Rattle.block.proofs.ReaderLaws.{FunctionSound}
 use Rattle.block.specs.declared.Call.{Call}
 use Rattle.block.specs.declared.CallBody.the-variants.{InRange}
@@ -25,7 +25,7 @@ use Rattle.block.specs.Naming.{functionOf}
 use Rattle.footprint.specs.Plan.{entryWord, codeWords}
 use Rattle.analysis.specs.LayoutOfBlock.{blockOf, callCount}
 use Rattle.analysis.proofs.MaskLaws.{entriesWait, waits-conflict}
-use Rattle.machine.specs.Run.{Run, Sizes, largeEnough, seatOf, idleSeat, stateOf}
+use Rattle.machine.specs.Run.{Run, Sizes, largeEnough, heldAt, stateOf}
 use Rattle.machine.specs.Moves.{ownEntries, viewOf}
 use Rattle.machine.specs.CallInRun.{madeView}
 use Rattle.machine.specs.Opening.{openingOf}
@@ -73,8 +73,8 @@ module _ (s : Sizes) (file : List ℕ) (workers : ℕ) (after : AfterOpening s f
   first = ap (λ (h : Head). h .«first_call») (after .opened .head)
 
   -- Its record in the file.
-  body : (j : ℕ) (c : Call) → Opened j c → callOf (drop (r₀ .head .«first_call» + (headBytes + callBytes) * j + headBytes) file) ≡ InRange c
-  body j c o = ap (λ (at : ℕ). callOf (drop (at + 34 * j + 4) file)) first ∙ o .body
+  body : (j : ℕ) (c : Call) → Opened j c → callOf (drop (r₀ .head .«first_call» + callRecordBytes * j + headBytes) file) ≡ InRange c
+  body j c o = ap (λ (at : ℕ). callOf (drop (at + callRecordBytes * j + headBytes) file)) first ∙ o .body
 
   view-is : (j : ℕ) (c : Call) → Opened j c → runView file r₀ j ≡ madeView file (s .keys) (b .functions) (after .table) c
   unfolding bodyCall
@@ -126,7 +126,7 @@ module _ (s : Sizes) (file : List ℕ) (workers : ℕ) (after : AfterOpening s f
         body = λ c l. let o = after .opened .calls c l in (o .0, body c (o .0) (o .1));
         inside = λ c l.
             let o = after .opened .calls c l in
-            subst⁻¹ (λ (at : ℕ). at + 34 * c + 34 ≤ length file) first (o .1 .within);
+            subst⁻¹ (λ (at : ℕ). at + callRecordBytes * c + callRecordBytes ≤ length file) first (o .1 .within);
         row = λ i c less l. after .opened .waits i c l ∙ ap (λ (t : Bool). t && isBefore file i c) (lt-ltb i c less);
       }
 
@@ -142,10 +142,10 @@ module _ (s : Sizes) (file : List ℕ) (workers : ℕ) (after : AfterOpening s f
         cellCount = refl;
         first = refl;
         sizes = refl;
-        seats = ap (λ (h : Head). length (h .seats)) (after .opened .head);
+        heldLength = ap (λ (h : Head). length (h .held)) (after .opened .head);
         cells = refl;
         calls = λ c l. ap (λ (status : List ℕ). stateOf status c) (after .opened .status) ∙ repeated-at (s .status) _ 0;
-        idle = λ w l e. ap (λ (h : Head). seatOf h w) (after .opened .head) ∙ repeated-at 8 w idleSeat;
+        idle = λ w l e. ap (λ (h : Head). heldAt h w) (after .opened .head) ∙ repeated-at 8 w 0;
         holds = λ w c e. none-held e;
         sole = λ w u c e. none-held e;
         worker = λ c l kept e. let z : _≡_ {A = ℕ} 0 1 = cc in absurd (omega arith);

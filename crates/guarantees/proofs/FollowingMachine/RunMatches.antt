@@ -2,12 +2,12 @@
 use mathlib.Core.Path.{_≡_}
 use mathlib.Core.Bool.{Bool, true}
 use mathlib.Core.List.{List}
-use Prim.Native.Nat.{ℕ, _+_, _-_, _*_, _≤_, _<_}
+use Prim.Native.Nat.{ℕ, _+_, _*_, _≤_, _<_}
 use lib.IntN.{ℤ}
 use lib.ListN.{length, drop}
 use Rattle.wire.specs.Rows.{inRow}
 use Rattle.block.specs.Limits.{maxCalls, maxWorkers}
-use Rattle.block.specs.Record.{headBytes, callBytes, callOf}
+use Rattle.block.specs.Record.{headBytes, callRecordBytes, callOf}
 use Rattle.block.specs.declared.Call.{Call}
 use Rattle.block.specs.declared.CallBody.the-variants.{InRange}
 use Rattle.schedule.specs.Calls.{Calls}
@@ -15,10 +15,9 @@ use Rattle.schedule.specs.Tally as tally
 use Rattle.schedule.specs.declared.Move.{Move}
 use Rattle.schedule.specs.declared.Move.the-variants.{Begin, Step, Cancel}
 use Rattle.schedule.specs.Machine.{Activity, ready, active, ended, Machine}
-use Rattle.machine.specs.Run.{Run, sizesOf, largeEnough, seatOf, idleSeat, planWord, rowIn, stateOf, statusWord, waiting, running, finished}
-use Rattle.machine.specs.Step.{damaged, stepCall}
-use Rattle.machine.specs.Moves.{callKeyCount, savedIn}
-use Rattle.machine.specs.declared.Seat.{Seat}
+use Rattle.machine.specs.Run.{Run, sizesOf, largeEnough, heldAt, placeIn, countIn, regsIn, savedIn, rowIn, stateOf, statusWord, waiting, running, finished}
+use Rattle.machine.specs.Step.{View, damaged, stepCall}
+use Rattle.machine.proofs.StepLaws.{Ranged}
 use Rattle.guarantees.proofs.CallsOfRun.ViewCalls.{Place, placeWithSaved, Receipt, broken, receipt, viewCalls, Tidy, runView}
 
 -- What the machine has of a call.
@@ -33,22 +32,20 @@ StatusSays status c (ended broken) = ⊥
 StatusSays status c (ended (receipt outcome count)) =
     (stateOf status c ≡ finished) × (statusWord status c 1 ≡ outcome) × (statusWord status c 2 ≡ count)
 
--- The seat of a worker that holds call c at that place.
-abbrev pub seatAt : ℕ → Place → Seat
-seatAt c l = record { call = c + 1; place = l .place; count = l .count; regs = l .regs }
+-- Worker w holds call c, and its seat and frame are those of the running call, which is in its range.
+pub record RunningSeat (v : View) (held : ℕ) (seats : List ℕ) (frames : List ℤ) (w c : ℕ) (l : Place) (kept : List ℤ) : Type 0 where
+  pub holds : held ≡ c + 1
+  pub place : placeIn seats w ≡ l .place
+  pub count : countIn seats w ≡ l .count
+  pub regs : regsIn frames w ≡ l .regs
+  pub old : savedIn frames w (v .count) ≡ kept
+  pub range : Ranged v (l .place) (l .count)
 
--- Worker w's seat and old values are those of the running call c, whose count is below its place. `r₀` is the run as it was opened.
-pub record RunningSeat (r₀ : Run) (saved : List ℤ) (seat : Seat) (w c : ℕ) (l : Place) (kept : List ℤ) : Type 0 where
-  pub seated : seat ≡ seatAt c l
-  pub old : savedIn saved w (callKeyCount (r₀ .plan) c) ≡ kept
-  pub within : l .place ≤ planWord (r₀ .plan) c 1
-  pub counted : l .count ≤ l .place - 1
-
--- "A finished or cancelled call frees its worker": the seat of the worker of a call in that state.
-abbrev pub Seated : Run → List ℤ → Seat → ℕ → ℕ → CallState → Type 0
-Seated r₀ saved seat w c ready = seat ≡ idleSeat
-Seated r₀ saved seat w c (active l kept) = RunningSeat r₀ saved seat w c l kept
-Seated r₀ saved seat w c (ended r) = seat ≡ idleSeat
+-- "A finished or cancelled call frees its worker": the worker of a call in that state.
+abbrev pub Seated : View → (held : ℕ) → List ℕ → List ℤ → ℕ → ℕ → CallState → Type 0
+Seated v held seats frames w c ready = held ≡ 0
+Seated v held seats frames w c (active l kept) = RunningSeat v held seats frames w c l kept
+Seated v held seats frames w c (ended r) = held ≡ 0
 
 -- A run r₀ as an opening leaves it for that many workers: its sizes, its n calls with their records, entries and code, and in
 -- each call's row the calls that are before it.
@@ -58,8 +55,8 @@ pub record Base (file : List ℕ) (workers n : ℕ) (before : ℕ → ℕ → Bo
   pub fewWorkers : workers ≤ maxWorkers
   pub fewCalls : n ≤ maxCalls
   pub tidy : (c : ℕ) → c < n → Tidy (runView file r₀ c)
-  pub body : (c : ℕ) → c < n → (call : Call) × (callOf (drop (r₀ .head .«first_call» + (headBytes + callBytes) * c + headBytes) file) ≡ InRange call)
-  pub inside : (c : ℕ) → c < n → r₀ .head .«first_call» + (headBytes + callBytes) * c + (headBytes + callBytes) ≤ length file
+  pub body : (c : ℕ) → c < n → (call : Call) × (callOf (drop (r₀ .head .«first_call» + callRecordBytes * c + headBytes) file) ≡ InRange call)
+  pub inside : (c : ℕ) → c < n → r₀ .head .«first_call» + callRecordBytes * c + callRecordBytes ≤ length file
   pub row : (i c : ℕ) → i < c → c < n → inRow (rowIn (r₀ .plan) c) i ≡ before i c
 
 -- The calls of the run.
@@ -87,7 +84,7 @@ module _ (file : List ℕ) (workers n : ℕ) (before : ℕ → ℕ → Bool) (r�
     pub local : Place
     pub kept : List ℤ
     pub runs : M .call c ≡ active local kept
-    pub own : RunningSeat r₀ (r .saved) (seatOf (r .head) w) w c local kept
+    pub own : RunningSeat (runView file r₀ c) (heldAt (r .head) w) (r .seats) (r .frames) w c local kept
 
   -- The run r stands for the machine's state M.
   pub record Matches (M : Machine (callsIn file n before r₀)) (r : Run) : Type 0 where
@@ -99,12 +96,12 @@ module _ (file : List ℕ) (workers n : ℕ) (before : ℕ → ℕ → Bool) (r�
     pub cellCount : r .head .cells ≡ r₀ .head .cells
     pub first : r .head .«first_call» ≡ r₀ .head .«first_call»
     pub sizes : sizesOf r ≡ sizesOf r₀
-    pub seats : length (r .head .seats) ≡ maxWorkers
+    pub heldLength : length (r .head .held) ≡ maxWorkers
     -- the cells, and each call
     pub cells : r .cells ≡ M .cells
     pub calls : (c : ℕ) → c < n → StatusSays (r .status) c (M .call c)
     -- each worker: it is free or holds a running call, which no other holds; and each running call is held
-    pub idle : (w : ℕ) → w < workers → M .seat w ≡ tally.idle → seatOf (r .head) w ≡ idleSeat
+    pub idle : (w : ℕ) → w < workers → M .seat w ≡ tally.idle → heldAt (r .head) w ≡ 0
     pub holds : (w c : ℕ) → M .seat w ≡ tally.holds c → HoldsRunning M r w c
     pub sole : (w u c : ℕ) → M .seat w ≡ tally.holds c → M .seat u ≡ tally.holds c → w ≡ u
     pub worker : (c : ℕ) (l : Place) (kept : List ℤ) → M .call c ≡ active l kept → (w : ℕ) × (M .seat w ≡ tally.holds c)

@@ -2,14 +2,17 @@
 use mathlib.Core.Path.{_≡_, refl, sym, ap, subst, subst⁻¹, _∙_}
 use mathlib.Core.Bool.{Bool, false, _||_}
 use mathlib.Core.List.{List}
-use Prim.Native.Nat.{ℕ, _+_, _-_, _*_, _≤_, _<_}
+use Prim.Native.Nat.{ℕ, _+_, _*_, _≤_, _<_}
 use native.Mathlib.Omega.{arith}
 use borrow.Author.Tests.{le-ltb}
 use lib.Dec.{ltb}
 use lib.IntN.{ℤ}
 use lib.ListN.{length, drop}
+use lib.Seq.{set-getD}
+use Rattle.wire.proofs.BytesLaws.{stored-length}
 use Rattle.block.specs.Limits.{maxCode}
-use Rattle.block.specs.Record.{headBytes, callBytes, callOf}
+use Rattle.block.specs.Outcomes.{maxCount}
+use Rattle.block.specs.Record.{headBytes, callRecordBytes, callOf}
 use Rattle.block.specs.declared.Call.{Call}
 use Rattle.block.specs.declared.CallBody.the-variants.{InRange}
 use Rattle.schedule.specs.Tally as tally
@@ -18,14 +21,16 @@ use Rattle.schedule.specs.declared.Move.the-variants.{Step}
 use Rattle.schedule.specs.Machine as schedule
 use Rattle.schedule.specs.Machine.{active, ended, isReady, isEnded, activity, Machine, settleCall, stepWorker}
 use Rattle.analysis.proofs.GatheredLaws.{if-false}
-use Rattle.machine.specs.Run.{Run, seatOf, idleSeat, planWord, withReceipt}
+use Rattle.machine.specs.Run.{Run, seatWords, registers, frameValues, withHeld, placeIn, countIn, withSeat, withRegs, savedIn, planWord, withReceipt}
 use Rattle.machine.specs.Step.{Local, Stepped, damaged, more, done, stepCall}
-use Rattle.machine.specs.Moves.{callKeyCount, ownEntries, savedIn, viewOf, localOf, stepped, stepRecord, stepHeld, stepFor, stepOf}
+use Rattle.machine.specs.Moves.{callKeyCount, ownEntries, viewOf, localOf, stepped, stepRecord, stepHeld, stepFor, stepOf}
 use Rattle.machine.specs.Answer.{answerNumber}
+use Rattle.machine.specs.declared.Head.{Head}
+use Rattle.machine.proofs.StepLaws.{Ranged, ranged-count, StepLowers, step-lowers}
 use Rattle.guarantees.proofs.CallsOfRun.ViewCalls.{placeWithSaved, receipt, pointOf, runView}
 use Rattle.guarantees.proofs.FollowingMachine.RunMatches.{StatusSays, Base, callsIn, StepWhole, HoldsRunning, Matches}
-use Rattle.guarantees.proofs.FollowingMachine.BufferLaws.{receipt-here, receipt-there, status-length}
-use Rattle.guarantees.proofs.FollowingMachine.StepKeeps.{PlaceKept, StepKept, broken, on, over, step-kept}
+use Rattle.guarantees.proofs.FollowingMachine.BufferLaws.{receipt-here, receipt-there, status-length, seat-stays, seat-length, seat-own, regs-length, regs-own, regs-leave-old, step-elsewhere}
+use Rattle.guarantees.proofs.CallsOfRun.ViewFrame.{step-keeps}
 use Rattle.guarantees.proofs.FollowingMachine.ChangeMatches.{CallChange, change-matches}
 use Rattle.guarantees.proofs.FollowingMachine.Follows.{Follows, large}
 use Rattle.guarantees.proofs.FollowingMachine.HeldMatches.{held-follows}
@@ -57,10 +62,27 @@ module _ (file : List ℕ) (workers n : ℕ) (before : ℕ → ℕ → Bool) (r�
     mine : (d : ℕ) → M .seat w ≡ tally.holds d → d ≡ c
     mine d f = let z : tally.holds c ≡ tally.holds d = sym e ∙ f in cc
 
-    more-change : (l : Local) (cells : List ℤ) → PlaceKept (runView file r₀ c .code) (l .place) (l .count) → length cells ≡ length (M .cells)
+    -- The worker's seat and frame are there.
+    seat-room : seatWords * w + 1 < length (r .seats)
+    seat-room =
+        let room : 8 * 16 ≤ length (r .seats) = large file workers n before r₀ base M r m .seats in
+        let few : workers ≤ 8 = base .fewWorkers in
+        let below : w < workers = k .worker in
+        omega arith
+
+    frame-room : frameValues * w + registers ≤ length (r .frames)
+    frame-room =
+        let room : 8 * 32 ≤ length (r .frames) = large file workers n before r₀ base M r m .frames in
+        let few : workers ≤ 8 = base .fewWorkers in
+        let below : w < workers = k .worker in
+        omega arith
+
+    more-change : (l : Local) (cells : List ℤ) → Ranged (runView file r₀ c) (l .place) (l .count) → length (l .regs) ≡ registers
+        → length cells ≡ length (M .cells)
         → CallChange file workers n before r₀ base M r w c (active (record { place = l .place; count = l .count; regs = l .regs }) (k .kept))
-        (record { call = c + 1; place = l .place; count = l .count; regs = l .regs }) cells (r .status) (r .saved)
-    more-change l cells kept size =
+        (c + 1) cells (r .status) (withSeat (r .seats) w (l .place) (l .count)) (withRegs (r .frames) w (l .regs))
+    more-change l cells range eight size =
+        let seat = seat-own (r .seats) w (l .place) (l .count) seat-room in
         record {
           worker = k .worker;
           call = k .call;
@@ -68,15 +90,24 @@ module _ (file : List ℕ) (workers n : ℕ) (before : ℕ → ℕ → Bool) (r�
           sole = λ u f. m .sole u w c f e;
           cellLength = size ∙ ap length (sym (m .cells));
           statusLength = refl;
-          oldLength = refl;
+          seatLength = seat-length (r .seats) w (l .place) (l .count);
+          frameLength = stored-length (l .regs) (r .frames) (frameValues * w);
           stands = subst (StatusSays (r .status) c) (k .runs) (m .calls c (k .call));
           others = λ d j x less. refl;
-          seated = record { seated = refl; old = k .own .old; within = kept .within; counted = kept .counted };
-          elsewhere = λ u j x less. refl;
+          seated =
+              record {
+                holds = refl;
+                place = seat .0;
+                count = seat .1;
+                regs = regs-own (r .frames) w (l .regs) eight frame-room;
+                old = regs-leave-old (r .frames) w (l .regs) eight (callKeyCount (r₀ .plan) c) ∙ k .own .old;
+                range = range;
+              };
+          elsewhere = step-elsewhere (r .frames) w (l .regs) eight (r .seats) (l .place) (l .count);
         }
 
     done-change : (outcome count : ℕ) (cells : List ℤ) → length cells ≡ length (M .cells)
-        → CallChange file workers n before r₀ base M r w c (ended (receipt outcome count)) idleSeat cells (withReceipt (r .status) c outcome count) (r .saved)
+        → CallChange file workers n before r₀ base M r w c (ended (receipt outcome count)) 0 cells (withReceipt (r .status) c outcome count) (r .seats) (r .frames)
     done-change outcome count cells size =
         record {
           worker = k .worker;
@@ -85,7 +116,8 @@ module _ (file : List ℕ) (workers n : ℕ) (before : ℕ → ℕ → Bool) (r�
           sole = λ u f. m .sole u w c f e;
           cellLength = size ∙ ap length (sym (m .cells));
           statusLength = status-length (r .status) c outcome count;
-          oldLength = refl;
+          seatLength = refl;
+          frameLength = refl;
           stands =
               let room : 256 * 4 ≤ length (r .status) = large file workers n before r₀ base M r m .status in
               let few : n ≤ 256 = base .fewCalls in
@@ -93,24 +125,53 @@ module _ (file : List ℕ) (workers n : ℕ) (before : ℕ → ℕ → Bool) (r�
               receipt-here (r .status) c outcome count (omega arith);
           others = λ d j x less. receipt-there (r .status) c outcome count d j x less;
           seated = refl;
-          elsewhere = λ u j x less. refl;
+          elsewhere = λ u x. seat-stays (r .seats) (r .frames) u;
+        }
+
+    -- The worker holds what it held.
+    still-held : withHeld (r .head) w (c + 1) ≡ r .head
+    still-held =
+        ap (withHeld (r .head) w) (sym (k .own .holds)) ∙ (λ i. record {
+          workers = r .head .workers;
+          calls = r .head .calls;
+          cells = r .head .cells;
+          «first_call» = r .head .«first_call»;
+          held = set-getD (r .head .held) w 0 i;
+        })
+
+    abbrev withHead : Head → Local → List ℤ → Run
+    withHead head l cells =
+        record {
+          head = head;
+          plan = r .plan;
+          keys = r .keys;
+          cells = cells;
+          status = r .status;
+          seats = withSeat (r .seats) w (l .place) (l .count);
+          frames = withRegs (r .frames) w (l .regs);
         }
 
     -- By what the step leaves.
-    stepped-matches : (result ≡ damaged → ⊥) → (x : Stepped) → result ≡ x → StepKept (runView file r₀ c .code) (length (M .cells)) x
-        → Follows file workers n before r₀ M (settled x) 0 (stepped r w c x)
+    stepped-matches : (result ≡ damaged → ⊥) → (x : Stepped) → result ≡ x → StepLowers (runView file r₀ c) (placeWithSaved (k .local) (k .kept)) x
+        → length (pointOf (M .cells) x .state) ≡ length (M .cells) → Follows file workers n before r₀ M (settled x) 0 (stepped r w c x)
     unfolding stepped pointOf answerNumber
-    stepped-matches whole damaged q broken = absurd (whole q)
-    stepped-matches whole (more l cells) q (on kept size) =
-        record { same = refl; run = change-matches file workers n before r₀ base M r m w c _ _ cells (r .status) (r .saved) (more-change l cells kept size) }
-    stepped-matches whole (done outcome count cells) q (over size) =
+    stepped-matches whole damaged q low size = absurd (whole q)
+    stepped-matches whole (more l cells) q low size =
+        let eight : length (l .regs) ≡ 8 = omega (arith, low .registers, ap length (k .own .regs), regs-length (r .frames) w frame-room) in
         record {
           same = refl;
-          run = change-matches file workers n before r₀ base M r m w c _ idleSeat cells _ (r .saved) (done-change outcome count cells size);
+          run =
+              subst (λ (h : Head). Matches file workers n before r₀ (settled (more l cells)) (withHead h l cells)) still-held
+              (change-matches file workers n before r₀ base M r m w c _ (c + 1) cells (r .status) _ _ (more-change l cells (low .lowers .range) eight size));
+        }
+    stepped-matches whole (done outcome count cells) q low size =
+        record {
+          same = refl;
+          run = change-matches file workers n before r₀ base M r m w c _ 0 cells _ (r .seats) (r .frames) (done-change outcome count cells size);
         }
 
     -- The lent run's view, local state and cells are those of the machine.
-    view-same : (call : Call) → callOf (drop (r₀ .head .«first_call» + (headBytes + callBytes) * c + headBytes) file) ≡ InRange call
+    view-same : (call : Call) → callOf (drop (r₀ .head .«first_call» + callRecordBytes * c + headBytes) file) ≡ InRange call
         → viewOf file r c call ≡ runView file r₀ c
     unfolding bodyCall
     view-same call body =
@@ -124,41 +185,40 @@ module _ (file : List ℕ) (workers n : ℕ) (before : ℕ → ℕ → Bool) (r�
           keys = m .keys i;
         }
 
-    old : savedIn (r .saved) w (callKeyCount (r .plan) c) ≡ k .kept
-    old = ap (λ (plan : List ℕ). savedIn (r .saved) w (callKeyCount plan c)) (m .plan) ∙ k .own .old
+    old : savedIn (r .frames) w (callKeyCount (r .plan) c) ≡ k .kept
+    old = ap (λ (plan : List ℕ). savedIn (r .frames) w (callKeyCount plan c)) (m .plan) ∙ k .own .old
 
     local-same : localOf r w c ≡ placeWithSaved (k .local) (k .kept)
-    local-same =
-        λ i. record { place = k .own .seated i .place; count = k .own .seated i .count; regs = k .own .seated i .regs; saved = old i }
+    local-same = λ i. record { place = k .own .place i; count = k .own .count i; regs = k .own .regs i; saved = old i }
 
     -- The tests of a held call.
     abbrev at : Run → ℕ
-    at s = s .head .«first_call» + (headBytes + callBytes) * c
+    at s = s .head .«first_call» + callRecordBytes * c
 
     held-steps : stepHeld file r w c ≡ stepped r w c result
     unfolding stepHeld stepRecord
     held-steps =
         let body = base .body c (k .call) in
         let code : planWord (r .plan) c 1 ≡ planWord (r₀ .plan) c 1 = ap (λ (plan : List ℕ). planWord plan c 1) (m .plan) in
-        let few : planWord (r₀ .plan) c 1 ≤ 65 = base .tidy c (k .call) .code in
-        let place : seatOf (r .head) w .place ≡ k .local .place = ap (λ s. s .place) (k .own .seated) in
-        let count : seatOf (r .head) w .count ≡ k .local .count = ap (λ s. s .count) (k .own .seated) in
-        let within : k .local .place ≤ planWord (r₀ .plan) c 1 = k .own .within in
-        let counted : k .local .count ≤ k .local .place - 1 = k .own .counted in
-        let inside : r₀ .head .«first_call» + 34 * c + 34 ≤ length file = base .inside c (k .call) in
+        let few : planWord (r₀ .plan) c 1 ≤ maxCode + 1 = k .own .range .code in
+        let place : placeIn (r .seats) w ≡ k .local .place = k .own .place in
+        let count : countIn (r .seats) w ≡ k .local .count = k .own .count in
+        let within : k .local .place ≤ planWord (r₀ .plan) c 1 = k .own .range .within in
+        let counted : k .local .count ≤ maxCount = ranged-count (k .own .range) in
+        let inside : r₀ .head .«first_call» + callRecordBytes * c + callRecordBytes ≤ length file = base .inside c (k .call) in
         let first : r .head .«first_call» ≡ r₀ .head .«first_call» = m .first in
-        if-false _ _ (in-code (planWord (r .plan) c 1) (seatOf (r .head) w .place) (omega arith) (omega arith))
-        ∙ if-false _ _ (le-ltb maxCode (seatOf (r .head) w .count) (omega arith))
-        ∙ if-false _ _ (le-ltb (length file) (at r + (headBytes + callBytes)) (omega arith))
-        ∙ ap (stepRecord file r w c) (ap (λ (s : ℕ). callOf (drop (s + 34 * c + 4) file)) first ∙ body .1)
+        if-false _ _ (in-code (planWord (r .plan) c 1) (placeIn (r .seats) w) (omega arith) (omega arith))
+        ∙ if-false _ _ (le-ltb maxCount (countIn (r .seats) w) (omega arith))
+        ∙ if-false _ _ (le-ltb (length file) (at r + callRecordBytes) (omega arith))
+        ∙ ap (stepRecord file r w c) (ap (λ (s : ℕ). callOf (drop (s + callRecordBytes * c + headBytes) file)) first ∙ body .1)
         ∙ (λ i. stepped r w c (stepCall (view-same (body .0) (body .1) i) (local-same i) (m .cells i)))
 
     steps : (result ≡ damaged → ⊥) → Follows file workers n before r₀ M after 0 (stepHeld file r w c)
     steps whole =
         subst⁻¹ (Follows file workers n before r₀ M after 0) held-steps
         (subst⁻¹ (λ (a : Machine (callsIn file n before r₀)). Follows file workers n before r₀ M a 0 (stepped r w c result)) machine-steps
-        (stepped-matches whole result refl
-        (step-kept (runView file r₀ c) (placeWithSaved (k .local) (k .kept)) (M .cells) (record { within = k .own .within; counted = k .own .counted }))))
+        (stepped-matches whole result refl (step-lowers (runView file r₀ c) (placeWithSaved (k .local) (k .kept)) (M .cells) (k .own .range))
+        (step-keeps (runView file r₀ c) (placeWithSaved (k .local) (k .kept)) (M .cells) .room)))
 
   pub step-follows : StepWhole file n before r₀ M w → Follows file workers n before r₀ M (stepWorker (callsIn file n before r₀) M w (M .seat w))
       (refusal workers n before (λ i. isReady (M .call i)) (λ i. isEnded (M .call i)) (M .seat) (Step w)) (stepOf file r w)

@@ -12,10 +12,11 @@ use Rattle.arith.proofs.ChoiceLaws.{if-all, neither}
 use Rattle.schedule.specs.declared.Move.{Move}
 use Rattle.schedule.specs.declared.Move.the-variants.{Begin, Step, Cancel}
 use Rattle.block.specs.Limits.{maxCalls, maxCode}
-use Rattle.block.specs.Record.{headBytes, callBytes, callOf}
+use Rattle.block.specs.Outcomes.{maxCount}
+use Rattle.block.specs.Record.{headBytes, callRecordBytes, callOf}
 use Rattle.block.specs.declared.CallBody.{CallBody}
 use Rattle.block.specs.declared.CallBody.the-variants.{InRange, OutOfRange}
-use Rattle.machine.specs.Run.{Run, seatOf, planWord}
+use Rattle.machine.specs.Run.{Run, placeIn, countIn, planWord}
 use Rattle.machine.specs.Step.{Stepped, damaged, more, done, restorable, stepCall}
 use Rattle.machine.specs.Moves.{Moved, stay, callKeyCount, ownEntries, viewOf, localOf, Held, answered, holds, heldBy, stepped, stepRecord, stepHeld, stepFor, stepOf, cancelHeld, cancelFor, cancelOf, moveOf}
 use Rattle.machine.specs.declared.Answer.{Answer}
@@ -146,10 +147,10 @@ module _ (block : List ℕ) (r : Run) (w : ℕ) where
   step-stays : (c : ℕ) → StaysDamaged r (stepHeld block r w c)
   unfolding stepHeld
   step-stays c =
-      let at : ℕ = r .head .«first_call» + (headBytes + callBytes) * c in
-      if-all (StaysDamaged r) (ltb (maxCode + 1) (planWord (r .plan) c 1) || ltb (planWord (r .plan) c 1) (seatOf (r .head) w .place)) (λ e. here r) λ e.
-      if-all (StaysDamaged r) (ltb maxCode (seatOf (r .head) w .count)) (λ f. here r) λ f.
-      if-all (StaysDamaged r) (ltb (length block) (at + (headBytes + callBytes))) (λ g. here r) λ g.
+      let at : ℕ = r .head .«first_call» + callRecordBytes * c in
+      if-all (StaysDamaged r) (ltb (maxCode + 1) (planWord (r .plan) c 1) || ltb (planWord (r .plan) c 1) (placeIn (r .seats) w)) (λ e. here r) λ e.
+      if-all (StaysDamaged r) (ltb maxCount (countIn (r .seats) w)) (λ f. here r) λ f.
+      if-all (StaysDamaged r) (ltb (length block) (at + callRecordBytes)) (λ g. here r) λ g.
       record-stays c (callOf (drop (at + headBytes) block))
 
   pub steps : (a : Answer) → (a ≡ answer.Accepted → ⊥) → (a ≡ answer.Damaged → ⊥) → Exactly (stepOf block r w .answer ≡ a) (HeldRefuses r w a)

@@ -8,7 +8,7 @@ use borrow.Author.Tests.{ltb-false, le-ltb}
 use lib.Dec.{ltb}
 use lib.ListN.{length, length-map}
 use Rattle.block.specs.Limits.{maxCallKeys, maxKeys}
-use Rattle.block.specs.Record.{Function, Block}
+use Rattle.block.specs.Record.{Function, Block, callRecordBytes}
 use Rattle.block.specs.Reader.{readBlock}
 use Rattle.block.specs.Encoding.{All, AreBytes, Contents, blockFor, ReaderExact}
 use Rattle.block.specs.declared.Call.{Call}
@@ -56,7 +56,7 @@ module _ (file : List ℕ) (functions : List Function) where
       let all : length (keysTogether (insertKeys table (setsOf file functions c)) (own cs)) ≤ maxKeys = w .together in
       let room : length (insertKeys table (setsOf file functions c)) ≤ maxKeys = omega (arith, together-grows (insertKeys table (setsOf file functions c)) (own cs)) in
       analyse-next file functions c cs at before table (le-ltb maxCallKeys (length es) short) (le-ltb maxKeys (length (insertKeys table es)) room)
-      ∙ analyse-whole cs (at + 34) (before ++ (es ∷ [])) (insertKeys table es) (record { each = w .each .1; together = w .together })
+      ∙ analyse-whole cs (at + callRecordBytes) (before ++ (es ∷ [])) (insertKeys table es) (record { each = w .each .1; together = w .together })
       ∙ ap (λ (sets : List (List Access)). analysed sets (keysTogether (insertKeys table es) (own cs))) (append-assoc before (es ∷ []) (own cs))
 
   -- It refuses nothing only within the limits.
@@ -66,7 +66,7 @@ module _ (file : List ℕ) (functions : List Function) where
   analyse-within [] at before table sets keys few e = record { each = tt; together = few }
   analyse-within (c ∷ cs) at before table sets keys few e =
       go (ltb maxCallKeys (length es)) refl (ltb maxKeys (length next)) refl
-      (analyse-within cs (at + 34) (before ++ (es ∷ [])) next sets keys)
+      (analyse-within cs (at + callRecordBytes) (before ++ (es ∷ [])) next sets keys)
     where
       es : List Access
       es = setsOf file functions c
@@ -75,7 +75,7 @@ module _ (file : List ℕ) (functions : List Function) where
       next = insertKeys table es
 
       go : (t : Bool) → ltb maxCallKeys (length es) ≡ t → (u : Bool) → ltb maxKeys (length next) ≡ u
-          → (length next ≤ maxKeys → analyse file functions cs (at + 34) (before ++ (es ∷ [])) next ≡ analysed sets keys → SetsWithin (own cs) next)
+          → (length next ≤ maxKeys → analyse file functions cs (at + callRecordBytes) (before ++ (es ∷ [])) next ≡ analysed sets keys → SetsWithin (own cs) next)
           → SetsWithin (own (c ∷ cs)) table
       go true over u g later = absurd (never (sym (analyse-over file functions c cs at before table over) ∙ e))
       go false fits true full later = absurd (never (sym (analyse-full file functions c cs at before table fits full) ∙ e))

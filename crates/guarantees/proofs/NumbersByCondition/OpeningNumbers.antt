@@ -9,7 +9,7 @@ use lib.Dec.{eqb, ltb}
 use lib.ListN.{length, getD, take, length-map}
 use Rattle.arith.proofs.ChoiceLaws.{if-all, neither}
 use Rattle.block.specs.Limits.{maxCallKeys, maxKeys, maxWorkers}
-use Rattle.block.specs.Record.{Function, Block}
+use Rattle.block.specs.Record.{Function, Block, callRecordBytes}
 use Rattle.block.specs.Reader.{Read, accepted, refused, readBlock}
 use Rattle.block.proofs.ReaderLaws.{accepted-laws}
 use Rattle.block.specs.declared.Call.{Call}
@@ -56,7 +56,7 @@ module _ (es : List Access) (sets : List (List Access)) (keys : List ℕ) (first
   first-1024 few short over =
       record { call = 0; there = omega arith; offset = omega arith; before = before-none few; own = short; over = over }
 
-  later-24 : (at : ℕ) → length es ≤ maxCallKeys → Over24 sets (insertKeys keys es) (first + 34) at → Over24 (es ∷ sets) keys first at
+  later-24 : (at : ℕ) → length es ≤ maxCallKeys → Over24 sets (insertKeys keys es) (first + callRecordBytes) at → Over24 (es ∷ sets) keys first at
   later-24 at short o =
       record {
         call = suc (o .call);
@@ -66,7 +66,7 @@ module _ (es : List Access) (sets : List (List Access)) (keys : List ℕ) (first
         over = o .over;
       }
 
-  later-1024 : (at : ℕ) → length es ≤ maxCallKeys → Over1024 sets (insertKeys keys es) (first + 34) at → Over1024 (es ∷ sets) keys first at
+  later-1024 : (at : ℕ) → length es ≤ maxCallKeys → Over1024 sets (insertKeys keys es) (first + callRecordBytes) at → Over1024 (es ∷ sets) keys first at
   unfolding keysTogether
   later-1024 at short o =
       record {
@@ -102,7 +102,7 @@ Tells sets keys first (table.analysed all t) = Unit {0}
 Tells sets keys first (table.refused why) = Refuses sets keys first why
 
 refuses-later : (es : List Access) (sets : List (List Access)) (keys : List ℕ) (first : ℕ) → length es ≤ maxCallKeys → (why : Refusal)
-    → Refuses sets (insertKeys keys es) (first + 34) why → Refuses (es ∷ sets) keys first why
+    → Refuses sets (insertKeys keys es) (first + callRecordBytes) why → Refuses (es ∷ sets) keys first why
 refuses-later es sets keys first short InputTooLong h = h
 refuses-later es sets keys first short (Missing at) h = h
 refuses-later es sets keys first short (Kind at) h = h
@@ -119,7 +119,7 @@ refuses-later es sets keys first short Workers h = h
 refuses-later es sets keys first short Buffers h = h
 
 tells-later : (es : List Access) (sets : List (List Access)) (keys : List ℕ) (first : ℕ) → length es ≤ maxCallKeys → (a : Analysis)
-    → Tells sets (insertKeys keys es) (first + 34) a → Tells (es ∷ sets) keys first a
+    → Tells sets (insertKeys keys es) (first + callRecordBytes) a → Tells (es ∷ sets) keys first a
 tells-later es sets keys first short (table.analysed all t) h = tt
 tells-later es sets keys first short (table.refused why) h = refuses-later es sets keys first short why h
 
@@ -132,7 +132,7 @@ module _ (file : List ℕ) (functions : List Function) where
   unfolding analyse
   tells [] at before keys few = tt
   tells (c ∷ cs) at before keys few =
-      go (ltb maxCallKeys (length es)) refl (ltb maxKeys (length next)) refl (tells cs (at + 34) (before ++ (es ∷ [])) next)
+      go (ltb maxCallKeys (length es)) refl (ltb maxKeys (length next)) refl (tells cs (at + callRecordBytes) (before ++ (es ∷ [])) next)
     where
       es : List Access
       es = setsOf file functions c
@@ -141,7 +141,7 @@ module _ (file : List ℕ) (functions : List Function) where
       next = insertKeys keys es
 
       go : (t : Bool) → ltb maxCallKeys (length es) ≡ t → (u : Bool) → ltb maxKeys (length next) ≡ u
-          → (length next ≤ maxKeys → Tells (own cs) next (at + 34) (analyse file functions cs (at + 34) (before ++ (es ∷ [])) next))
+          → (length next ≤ maxKeys → Tells (own cs) next (at + callRecordBytes) (analyse file functions cs (at + callRecordBytes) (before ++ (es ∷ [])) next))
           → Tells (own (c ∷ cs)) keys at (analyse file functions (c ∷ cs) at before keys)
       go true over u g later =
           subst⁻¹ (Tells (own (c ∷ cs)) keys at) (analyse-over file functions c cs at before keys over)
@@ -151,7 +151,7 @@ module _ (file : List ℕ) (functions : List Function) where
           (first-1024 es (own cs) keys at few (ltb-false maxCallKeys (length es) fits) (ltb-true maxKeys (length next) full))
       go false fits false room later =
           subst⁻¹ (Tells (own (c ∷ cs)) keys at) (analyse-next file functions c cs at before keys fits room)
-          (tells-later es (own cs) keys at (ltb-false maxCallKeys (length es) fits) (analyse file functions cs (at + 34) (before ++ (es ∷ [])) next)
+          (tells-later es (own cs) keys at (ltb-false maxCallKeys (length es) fits) (analyse file functions cs (at + callRecordBytes) (before ++ (es ∷ [])) next)
           (later (ltb-false maxKeys (length next) room)))
 
   -- The calls before the first that is over a limit are passed.
@@ -160,20 +160,20 @@ module _ (file : List ℕ) (functions : List Function) where
       → analyse file functions (c ∷ cs) at before keys ≡ table.refused (why at))
       → ((es : List Access) (sets : List (List Access)) (keys : List ℕ) (n : ℕ) → over (es ∷ sets) keys (suc n) → over sets (insertKeys keys es) n)
       → (cs : List Call) (at : ℕ) (before : List (List Access)) (keys : List ℕ) (n : ℕ) → n < length (own cs) → KeysBefore (own cs) keys n
-      → over (own cs) keys n → analyse file functions cs at before keys ≡ table.refused (why (at + 34 * n))
+      → over (own cs) keys n → analyse file functions cs at before keys ≡ table.refused (why (at + callRecordBytes * n))
   unfolding keysTogether
   passed why over now next [] at before keys n l b o = absurd (omega arith)
   passed why over now next (c ∷ cs) at before keys zero l b o =
-      let here : at ≡ at + 34 * 0 = omega arith in now c cs at before keys o ∙ ap (λ (n : ℕ). table.refused (why n)) here
+      let here : at ≡ at + callRecordBytes * 0 = omega arith in now c cs at before keys o ∙ ap (λ (n : ℕ). table.refused (why n)) here
   passed why over now next (c ∷ cs) at before keys (suc n) l b o =
       let es : List Access = setsOf file functions c in
       let short : length (setsOf file functions c) ≤ maxCallKeys = b .each 0 (omega arith) in
       let all : length (keysTogether (insertKeys keys (setsOf file functions c)) (take n (own cs))) ≤ maxKeys = b .together in
       let room : length (insertKeys keys (setsOf file functions c)) ≤ maxKeys =
       omega (arith, together-grows (insertKeys keys (setsOf file functions c)) (take n (own cs))) in
-      let there : at + 34 + 34 * n ≡ at + 34 * suc n = omega arith in
+      let there : at + callRecordBytes + callRecordBytes * n ≡ at + callRecordBytes * suc n = omega arith in
       analyse-next file functions c cs at before keys (le-ltb maxCallKeys (length es) short) (le-ltb maxKeys (length (insertKeys keys es)) room)
-      ∙ passed why over now next cs (at + 34) (before ++ (es ∷ [])) (insertKeys keys es) n (omega arith)
+      ∙ passed why over now next cs (at + callRecordBytes) (before ++ (es ∷ [])) (insertKeys keys es) n (omega arith)
       (record { each = λ i h. b .each (suc i) (omega arith); together = b .together }) (next es (own cs) keys n o)
       ∙ ap (λ (k : ℕ). table.refused (why k)) there
 

@@ -10,8 +10,8 @@ use lib.ListN.{length}
 use lib.Signed.{nonNeg}
 use Rattle.arith.specs.Choice.{if_then_else_}
 use Rattle.arith.proofs.ChoiceLaws.{if-all, neither}
-use Rattle.block.specs.Limits.{maxCalls, maxCode, maxKeys}
-use Rattle.block.specs.Outcomes.{notPaid}
+use Rattle.block.specs.Limits.{maxCalls, maxKeys}
+use Rattle.block.specs.Outcomes.{lastOutcome, maxCount}
 use Rattle.machine.specs.Run.{Run, sizesOf, largeEnough, statusWord, stateOf, isState, finished}
 use Rattle.machine.specs.Step.{cellAt}
 use Rattle.machine.specs.declared.Answer.{Answer}
@@ -39,14 +39,14 @@ module _ (status : List ℕ) (n : ℕ) where
       all-exact (allFinished status) (λ c. eqb (stateOf status c) finished) (λ c. stateOf status c ≡ finished) refl (λ m. refl)
       (λ c. eqb-exact (stateOf status c) finished) n
 
-  receipts-exact : TestsAll (receiptsAllowed status n) n (λ c. (statusWord status c 1 ≤ notPaid) × (statusWord status c 2 ≤ maxCode))
+  receipts-exact : TestsAll (receiptsAllowed status n) n (λ c. (statusWord status c 1 ≤ lastOutcome) × (statusWord status c 2 ≤ maxCount))
   unfolding receiptsAllowed
   receipts-exact =
-      all-exact (receiptsAllowed status) (λ c. leb (statusWord status c 1) notPaid && leb (statusWord status c 2) maxCode)
-      (λ c. (statusWord status c 1 ≤ notPaid) × (statusWord status c 2 ≤ maxCode)) refl (λ m. refl)
+      all-exact (receiptsAllowed status) (λ c. leb (statusWord status c 1) lastOutcome && leb (statusWord status c 2) maxCount)
+      (λ c. (statusWord status c 1 ≤ lastOutcome) × (statusWord status c 2 ≤ maxCount)) refl (λ m. refl)
       (λ c.
-      both-exact (leb (statusWord status c 1) notPaid) (leb (statusWord status c 2) maxCode) (leb-exact (statusWord status c 1) notPaid)
-      (leb-exact (statusWord status c 2) maxCode))
+      both-exact (leb (statusWord status c 1) lastOutcome) (leb (statusWord status c 2) maxCount) (leb-exact (statusWord status c 1) lastOutcome)
+      (leb-exact (statusWord status c 2) maxCount))
       n
 
 -- Of n cells by their keys.
@@ -114,7 +114,7 @@ module _ (r : Run) (output : List ℕ) where
   pub sheet-unfinished : Before27 r → ((c : ℕ) × (c < r .head .calls) × (CallFinished r c → ⊥)) → sheetOf r output ≡ unwritten output answer.CallUnfinished
   sheet-unfinished b u = sheet-27 b ∙ rw (finished-exact (r .status) (r .head .calls) .one .1 u)
 
-  pub sheet-written : Before28 r → ((c : ℕ) → c < r .head .calls → (statusWord (r .status) c 1 ≤ notPaid) × (statusWord (r .status) c 2 ≤ maxCode))
+  pub sheet-written : Before28 r → ((c : ℕ) → c < r .head .calls → (statusWord (r .status) c 1 ≤ lastOutcome) × (statusWord (r .status) c 2 ≤ maxCount))
       → sheetOf r output ≡ written output (sheetBytes r)
   sheet-written b receipts = sheet-28 b ∙ rw (receipts-exact (r .status) (r .head .calls) .every .1 receipts)
 

@@ -11,11 +11,10 @@ use lib.Seq.{ext-getD}
 use Rattle.schedule.specs.Tally.{Phase, waiting, running, finished, Seat, idle, holds}
 use Rattle.schedule.specs.Machine.{ready, active, ended, Machine}
 use Rattle.schedule.specs.Confluent.{SamePhase}
-use Rattle.machine.specs.Run.{Run, seatOf, stateOf}
+use Rattle.machine.specs.Run.{Run, heldAt, savedIn, stateOf}
 use Rattle.machine.specs.Step.{cellAt}
-use Rattle.machine.specs.Moves.{callKeyCount, savedIn, localOf}
+use Rattle.machine.specs.Moves.{callKeyCount, localOf}
 use Rattle.machine.specs.Answer.{answerNumber}
-use Rattle.machine.specs.declared.Seat as seats
 use Rattle.machine.specs.declared.Answer.{Answer}
 use Rattle.machine.specs.declared.Answer.the-variants.{Accepted, Damaged, NoWorker, NoCall, WorkerBusy, NotWaiting, EarlierUnfinished, WorkerIdle, CallUnfinished, SheetTooLong}
 use Rattle.guarantees.specs.Agreement.{stateNumber, seatNumber}
@@ -63,13 +62,13 @@ same-cells cells cells′ size h = ext-getD (pos 0) cells cells′ size (λ x l.
 module _ (file : List ℕ) (workers n : ℕ) (before : ℕ → ℕ → Bool) (r₀ : Run) (M : Machine (callsIn file n before r₀)) (r : Run)
     (m : Matches file workers n before r₀ M r) where
   -- The call that a worker holds.
-  pub seat-holds : (w : ℕ) → w < workers → seatOf (r .head) w .call ≡ seatNumber (M .seat w)
+  pub seat-holds : (w : ℕ) → w < workers → heldAt (r .head) w ≡ seatNumber (M .seat w)
   seat-holds w l = go (M .seat w) refl
     where
-      go : (q : Seat) → M .seat w ≡ q → seatOf (r .head) w .call ≡ seatNumber q
-      go idle e = ap (λ (s : seats.Seat). s .call) (m .idle w l e)
+      go : (q : Seat) → M .seat w ≡ q → heldAt (r .head) w ≡ seatNumber q
+      go idle e = m .idle w l e
       go (holds c) e =
-          let z : seatOf (r .head) w .call ≡ c + 1 = ap (λ (s : seats.Seat). s .call) (m .holds w c e .own .seated) in
+          let z : heldAt (r .head) w ≡ c + 1 = m .holds w c e .own .holds in
           omega arith
 
   -- A running call at its worker: its place, registers, count and old values.
@@ -79,11 +78,11 @@ module _ (file : List ℕ) (workers n : ℕ) (before : ℕ → ℕ → Bool) (r�
       let same : active (h .local) (h .kept) ≡ active l kept = sym (h .runs) ∙ call in
       let place : h .local ≡ l = cc in
       let old : h .kept ≡ kept = cc in
-      let own-saved : savedIn (r .saved) w (callKeyCount (r .plan) c) ≡ kept =
-      ap (λ (plan : List ℕ). savedIn (r .saved) w (callKeyCount plan c)) (m .plan) ∙ h .own .old ∙ old in
+      let own-saved : savedIn (r .frames) w (callKeyCount (r .plan) c) ≡ kept =
+      ap (λ (plan : List ℕ). savedIn (r .frames) w (callKeyCount plan c)) (m .plan) ∙ h .own .old ∙ old in
       λ i. record {
-        place = (ap (λ (s : seats.Seat). s .place) (h .own .seated) ∙ ap (λ (p : Place). p .place) place) i;
-        count = (ap (λ (s : seats.Seat). s .count) (h .own .seated) ∙ ap (λ (p : Place). p .count) place) i;
-        regs = (ap (λ (s : seats.Seat). s .regs) (h .own .seated) ∙ ap (λ (p : Place). p .regs) place) i;
+        place = (h .own .place ∙ ap (λ (p : Place). p .place) place) i;
+        count = (h .own .count ∙ ap (λ (p : Place). p .count) place) i;
+        regs = (h .own .regs ∙ ap (λ (p : Place). p .regs) place) i;
         saved = own-saved i;
       }

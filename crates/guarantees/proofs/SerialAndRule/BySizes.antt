@@ -12,7 +12,7 @@ use Rattle.arith.specs.Choice.{if_then_else_}
 use Rattle.wire.specs.Bytes.{padded}
 use Rattle.wire.proofs.BytesLaws.{padded-at}
 use Rattle.block.specs.Limits.{maxWorkers}
-use Rattle.block.specs.Record.{Function, Block, headBytes, callBytes, callOf}
+use Rattle.block.specs.Record.{Function, Block, headBytes, callRecordBytes, callOf}
 use Rattle.block.specs.Reader.{Read, accepted, readBlock}
 use Rattle.block.specs.declared.Call.{Call}
 use Rattle.block.specs.declared.Refusal.the-variants.{Workers, Buffers}
@@ -88,7 +88,7 @@ made-alike file room room′ fs table c =
       entries = refl;
       step = λ l cells.
           step-same (madeView file room fs table c) (padded room′ 0 (tableWords table))
-          (λ i. padded-at room 0 (tableWords table) i ∙ sym (padded-at room′ 0 (tableWords table) i)) l cells;
+          (λ i. padded-at room 0 (tableWords table) i ∙ sym (padded-at room′ 0 (tableWords table) i)) cells l;
     }
 
 -- One analysis has one table.
@@ -121,7 +121,7 @@ module _ (s t : Sizes) (file : List ℕ) (workers : ℕ) (bytes : AreBytes file)
   firsts = ap (λ (h : Head). h .«first_call») (after .opened .head) ∙ sym (ap (λ (h : Head). h .«first_call») (after′ .opened .head))
 
   records : (j : ℕ) → runView file r j .call ≡ runView file r′ j .call
-  records j = ap (λ (at : ℕ). bodyCall (callOf (drop (at + (headBytes + callBytes) * j + headBytes) file))) firsts
+  records j = ap (λ (at : ℕ). bodyCall (callOf (drop (at + callRecordBytes * j + headBytes) file))) firsts
 
   views : (j : ℕ) → j < callCount file → StepsAlike (runView file r j) (runView file r′ j)
   views j h =

@@ -1,31 +1,22 @@
 -- The steps of one call to its end, against its run in the theorem on schedules: the same receipt, the same cells, as many steps,
 -- and none of them damaged.
 use mathlib.Core.Path.{_≡_, refl, sym, ap, subst, _∙_}
-use mathlib.Core.Bool.{Bool, _&&_, not}
+use mathlib.Core.Bool.{Bool}
 use mathlib.Core.List.{List}
 use Prim.Native.Nat.{ℕ, zero, suc, _+_}
 use native.Mathlib.Nat.{add-zero, zero-add}
 use native.Mathlib.Omega.{arith}
-use lib.IntN.{ℤ, _+ℤ_}
-use lib.Signed.{ltZ, leZ, nonNeg}
+use lib.IntN.{ℤ}
 use lib.Dec.{ltb}
 use Rattle.arith.proofs.ChoiceLaws.{if-all}
-use Rattle.arith.specs.Balance.{largest}
 use Rattle.schedule.specs.Calls.{Calls, CallCourse, more, done, RunPoint, advance, trace, stepsFrom, stepsOf, whole}
-use Rattle.block.specs.Key.{isBalance}
-use Rattle.footprint.specs.Access.{Access}
 use Rattle.block.specs.Outcomes.{thrown}
 use Rattle.machine.specs.Step as machine
-use Rattle.machine.specs.Step.{View, Local, Stepped, cellAt, lookup, restorable, savedOf, finish, loadCell, storeCell, depositCell, transferCells, accessAt, perform, stepCall}
+use Rattle.machine.specs.Step.{View, Local, Performed, Stepped, restorable, savedOf, stepPlace, stepCall}
 use Rattle.machine.specs.CallInRun as made
 use Rattle.machine.specs.CallInRun.{begunLocal}
 use Rattle.machine.specs.Serial.{maxSteps}
-use Rattle.machine.specs.declared.Next.{Next}
-use Rattle.machine.specs.declared.Next.the-variants.{Go, End, Load, Store, Transfer}
-use Rattle.machine.specs.declared.Lookup.{Lookup}
-use Rattle.machine.specs.declared.Lookup.the-variants.{Cell, NoCell}
 use Rattle.guarantees.proofs.CallsOfRun.ViewCalls.{Place, placeWithSaved, Receipt, broken, receipt, pointOf, viewCalls}
-use Rattle.guarantees.proofs.CallsOfRun.ViewSteps.{step-all}
 
 -- ---- the old values
 
@@ -36,50 +27,16 @@ Saves saved (machine.more l cells) = l .saved ≡ saved
 Saves saved (machine.done outcome count cells) = Unit {0}
 
 -- No step changes them.
-module _ (v : View) (l : Local) (s : List ℤ) where
-  abbrev S : Stepped → Type 0
-  S = Saves (l .saved)
-
-  finish-saves : (count outcome : ℕ) → S (finish v l count outcome s)
-  unfolding finish
-  finish-saves count outcome =
-      if-all S (ltb outcome thrown) (λ h. tt) λ h. if-all S (restorable (v .count) (v .entries)) (λ h. tt) (λ h. tt)
-
-  load-saves : (count : ℕ) (regs : List ℤ) (x : ℕ) (a : Access) (n : Lookup) → S (loadCell l count regs x a s n)
-  unfolding loadCell
-  load-saves count regs x a NoCell = tt
-  load-saves count regs x a (Cell n) = if-all S (isBalance (a .key) && not (nonNeg (cellAt s n))) (λ h. tt) (λ h. refl)
-
-  store-saves : (count : ℕ) (regs : List ℤ) (z : ℤ) (n : Lookup) → S (storeCell l count regs z s n)
-  unfolding storeCell
-  store-saves count regs z NoCell = tt
-  store-saves count regs z (Cell n) = refl
-
-  deposit-saves : (count : ℕ) (regs : List ℤ) (amount : ℤ) (n : ℕ) (m : Lookup) → S (depositCell l count regs amount n s m)
-  unfolding depositCell
-  deposit-saves count regs amount n NoCell = tt
-  deposit-saves count regs amount n (Cell m) = if-all S (nonNeg (cellAt s m) && leZ (cellAt s m +ℤ amount) largest) (λ h. refl) (λ h. tt)
-
-  transfer-saves : (count : ℕ) (regs : List ℤ) (amount : ℤ) (short : ℕ) (to : Access) (n : Lookup)
-      → S (transferCells v l count regs amount short to s n)
-  unfolding transferCells
-  transfer-saves count regs amount short to NoCell = tt
-  transfer-saves count regs amount short to (Cell n) =
-      if-all S (not (nonNeg (cellAt s n))) (λ h. tt) λ h.
-      if-all S (ltZ (cellAt s n) amount) (λ h. finish-saves count short) (λ h. deposit-saves count regs amount n (lookup v to))
-
-  perform-saves : (count : ℕ) (as′ : List Access) (regs : List ℤ) (next : Next) → S (perform v l count as′ regs next s)
-  unfolding perform
-  perform-saves count as′ regs (Go to) = refl
-  perform-saves count as′ regs (End outcome) = finish-saves count outcome
-  perform-saves count as′ regs (Load x) = load-saves count regs x (accessAt as′ 0) (lookup v (accessAt as′ 0))
-  perform-saves count as′ regs (Store z) = store-saves count regs z (lookup v (accessAt as′ 0))
-  perform-saves count as′ regs (Transfer amount short) =
-      transfer-saves count regs amount short (accessAt as′ 1) (lookup v (accessAt as′ 0))
-
-  step-saves : Saves (l .saved) (stepCall v l s)
-  step-saves =
-      step-all v l (λ f. S (f s)) tt (λ outcome count. tt) (λ count as′ regs next inside f. perform-saves count as′ regs next)
+step-saves : (v : View) (l : Local) (s : List ℤ) → Saves (l .saved) (stepCall v l s)
+unfolding stepCall machine.concluded machine.finish
+step-saves v l s = go (stepPlace v (l .place) (l .count) (l .regs) s)
+  where
+    go : (x : Performed) → Saves (l .saved) (machine.concluded v (l .saved) s x)
+    go machine.broken = tt
+    go (machine.onward to n regs after) = refl
+    go (machine.ending outcome n) =
+        if-all (Saves (l .saved)) (ltb outcome thrown) (λ h. tt) λ h.
+        if-all (Saves (l .saved)) (restorable (v .count) (v .entries)) (λ h. tt) (λ h. tt)
 
 -- ---- the run of a call
 

@@ -12,7 +12,7 @@ use lib.IntN.{ℤ}
 use lib.ListN.{length, getD, getElem?, take, drop}
 use Rattle.schedule.specs.Calls as calls
 use Rattle.schedule.specs.Calls.{Calls, done, trace, whole, alone, serial}
-use Rattle.block.specs.Record.{Function, Block, headBytes, callBytes, callOf}
+use Rattle.block.specs.Record.{Function, Block, headBytes, callRecordBytes, callOf}
 use Rattle.block.specs.declared.Call.{Call}
 use Rattle.block.specs.declared.CallBody.{CallBody}
 use Rattle.block.specs.declared.CallBody.the-variants.{OutOfRange}
@@ -171,12 +171,12 @@ module _ (s : Sizes) (file : List ℕ) (bytes : AreBytes file) (workers : ℕ) (
   view-made : (c : ℕ) (x : Call) → Opened c x → runView file r c ≡ madeView file (s .keys) (b .functions) table x
   unfolding bodyCall
   view-made c x o =
-      ap (λ (h : Head). viewOf file r c (bodyCall (callOf (drop (h .«first_call» + (headBytes + callBytes) * c + headBytes) file)))) (after .opened .head)
+      ap (λ (h : Head). viewOf file r c (bodyCall (callOf (drop (h .«first_call» + callRecordBytes * c + headBytes) file)))) (after .opened .head)
       ∙ ap (λ (d : CallBody). viewOf file r c (bodyCall d)) (o .body)
       ∙ o .view
 
   opened-fits : (c : ℕ) (x : Call) → Opened c x → CallBounded x
-  opened-fits c x o = read-call-bounded (drop (b .firstCall + 34 * c + 4) file) (drop-bytes (b .firstCall + 34 * c + 4) file bytes) x (o .body)
+  opened-fits c x o = read-call-bounded (drop (b .firstCall + callRecordBytes * c + headBytes) file) (drop-bytes (b .firstCall + callRecordBytes * c + headBytes) file bytes) x (o .body)
 
   -- Its steps, by its view in the run.
   completes : (c : ℕ) (x : Call) → Opened c x → (σ : State) → stateWithinLimit σ ≡ true → (cells : List ℤ) → Hold table σ cells

@@ -23,7 +23,7 @@ use Rattle.schedule.proofs.RunLaws.{one-answer, steps-within, steps-early}
 use Rattle.schedule.proofs.Expected.{ClosedUnderEarlier}
 use Rattle.machine.proofs.SerialRunLaws.{runCalls-append}
 use Rattle.machine.specs.Answer.{answerNumber}
-use Rattle.machine.specs.Run.{Run, seatOf}
+use Rattle.machine.specs.Run.{Run, heldAt}
 use Rattle.machine.specs.Moves.{beginOf, stepOf, moveOf}
 use Rattle.machine.specs.Step.{Stepped, damaged}
 use Rattle.machine.specs.Serial.{maxSteps, isSerialIdle, stepToEnd, stepsToEnd, runCall, runCalls, chosen, allCalls, serialRun, serialRunOf, serialSteps}
@@ -107,8 +107,8 @@ module _ (file : List ℕ) (workers n : ℕ) (before : ℕ → ℕ → Bool) (r�
       go : (s : Seat) → M .seat 0 ≡ s → isSerialIdle r ≡ tally.isIdle s
       go idle e = rw (m .idle 0 some e)
       go (holds c) e =
-          let z : seatOf (r .head) 0 .call ≡ c + 1 = ap (λ s. s .call) (m .holds 0 c e .own .seated) in
-          ne-eqb (seatOf (r .head) 0 .call) 0 (λ q. absurd (omega arith))
+          let z : heldAt (r .head) 0 ≡ c + 1 = m .holds 0 c e .own .holds in
+          ne-eqb (heldAt (r .head) 0) 0 (λ q. absurd (omega arith))
 
 -- The run follows the machine, from the opening and move by move, and no step of the serial run finds it damaged.
 module _

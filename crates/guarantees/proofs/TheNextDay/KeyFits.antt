@@ -15,7 +15,7 @@ use Rattle.block.specs.Encoding.{CellKeeps, AreBytes}
 use Rattle.block.proofs.KeyLaws.{address-of, field-of, a-of, b-of}
 use Rattle.block.specs.Limits.{maxCallKeys, maxKeys}
 use Rattle.block.specs.Instruction.{instrBytes, decode}
-use Rattle.block.specs.Record.{Function, Cell, Block, cellOf, cellAllowed, codeAt}
+use Rattle.block.specs.Record.{Function, Cell, Block, cellOf, cellAllowed, codeAt, callRecordBytes, headBytes}
 use Rattle.block.proofs.ReaderLaws as reading
 use Rattle.block.proofs.ReaderLaws.{BlockLaws}
 use Rattle.block.specs.declared.address.Address.{Address}
@@ -159,7 +159,7 @@ module _ (K : ℕ → Type 0) (file : List ℕ) (functions : List Function) wher
   analysed-hold [] at before old sets table h all e = let keys : old ≡ table = cc in subst (HoldsOfAll K) keys h
   analysed-hold (c ∷ cs) at before old sets table h all e =
       go (ltb maxCallKeys (length es)) refl (ltb maxKeys (length next)) refl
-      (analysed-hold cs (at + 34) (before ++ (es ∷ [])) next sets table (holds-inserts K old es h (all 0 c (omega arith))) (λ i d l. all (suc i) d (omega arith)))
+      (analysed-hold cs (at + callRecordBytes) (before ++ (es ∷ [])) next sets table (holds-inserts K old es h (all 0 c (omega arith))) (λ i d l. all (suc i) d (omega arith)))
     where
       es : List Access
       es = setsOf file functions c
@@ -168,7 +168,7 @@ module _ (K : ℕ → Type 0) (file : List ℕ) (functions : List Function) wher
       next = insertKeys old es
 
       go : (t : Bool) → ltb maxCallKeys (length es) ≡ t → (u : Bool) → ltb maxKeys (length next) ≡ u
-          → (analyse file functions cs (at + 34) (before ++ (es ∷ [])) next ≡ analysed sets table → HoldsOfAll K table) → HoldsOfAll K table
+          → (analyse file functions cs (at + callRecordBytes) (before ++ (es ∷ [])) next ≡ analysed sets table → HoldsOfAll K table) → HoldsOfAll K table
       go true over u g later =
           let f : refused _ ≡ analysed sets table = sym (analyse-over file functions c cs at before old over) ∙ e in
           let z : _≡_ {A = ℕ} 0 1 = cc in absurd (omega arith)
@@ -185,7 +185,7 @@ table-fits s file workers bytes o =
     analysed-hold KeyFits file (b .functions) (b .calls) (b .firstCall) [] (openingKeys b) (allSets file b) (o .table)
     (opening-hold file bytes b laws)
     (λ i c h.
-    let at : ℕ = b .firstCall + 34 * i + 4 in
+    let at : ℕ = b .firstCall + callRecordBytes * i + headBytes in
     keyed-hold KeyFits (setsOf file (b .functions) (getD (b .calls) i c))
     (sets-fit (getD (b .calls) i c)
     (read-call-bounded (drop at file) (drop-bytes at file bytes) (getD (b .calls) i c) (laws .calls i c h)) file bytes (functionOf (b .functions) (getD (b .calls) i c))))

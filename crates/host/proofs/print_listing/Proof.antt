@@ -25,18 +25,21 @@ slice-aggregate-list-5 c = search needs
 slice-aggregate-list-6 : tie.Need-slice-aggregate-list-6
 slice-aggregate-list-6 c = search needs
 
+slice-aggregate-list-7 : tie.Need-slice-aggregate-list-7
+slice-aggregate-list-7 c = search needs
+
 list-requires : tie.Need-list-requires
 list-requires c κs = search needs
 
 array-share-prefix-text : tie.Need-array-share-prefix-text
 array-share-prefix-text c =
-    let c6 = c .before .before .before .before .before .before in
-    omega (arith, listing-room (c6 .list .ensures))
+    let c7 = c .before .before .before .before .before .before .before in
+    omega (arith, listing-room (c7 .list .ensures))
 
 slice-aggregate-print : tie.Need-slice-aggregate-print
 slice-aggregate-print c =
-    let c7 = c .before .before .before .before .before .before .before in
-    sym (length-take-le _ _ (omega (arith, listing-room (c7 .list .ensures))))
+    let c8 = c .before .before .before .before .before .before .before .before in
+    sym (length-take-le _ _ (omega (arith, listing-room (c8 .list .ensures))))
 
 print-requires : tie.Need-print-requires
 print-requires c κs = search needs
@@ -46,8 +49,8 @@ same-length c = search needs
 
 returns : tie.Need-returns
 returns c =
-    let c11 = c .before .before .before .before .before .before .before .before .before .before .before in
-    (handed-as (listing-front (c11 .list .ensures) refl (omega arith)) (c .before .before .print .ensures .0), c .before .before .print .ensures .1)
+    let c12 = c .before .before .before .before .before .before .before .before .before .before .before .before in
+    (handed-as (listing-front (c12 .list .ensures) refl (omega arith)) (c .before .before .print .ensures .0), c .before .before .print .ensures .1)
 
 pub print-listing-spec : {M : Type 1} → statement M
 print-listing-spec =
@@ -59,6 +62,7 @@ print-listing-spec =
     slice-aggregate-list-4
     slice-aggregate-list-5
     slice-aggregate-list-6
+    slice-aggregate-list-7
     list-requires
     array-share-prefix-text
     slice-aggregate-print

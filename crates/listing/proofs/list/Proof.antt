@@ -31,11 +31,13 @@ same-length-5 c = search needs
 same-length-6 : tie.Need-same-length-6
 same-length-6 c = search needs
 
+same-length-7 : tie.Need-same-length-7
+same-length-7 c = search needs
+
 returns : tie.Need-returns
 returns c =
-    let c15 = c .before .before .before .before .before .before .before .before .before .before .before .before .before .before .before in
-    let c15 = c15 in
-    all-listed _ _ _ _ _ _ _ _ _ _ _ _ (c15 .«open» .ensures .same) (c .before .before .before .before .before .read-block .ensures) (c .before .before .listing .ensures)
+    let c17 = c .before .before .before .before .before .before .before .before .before .before .before .before .before .before .before .before .before in
+    all-listed _ _ _ _ _ _ _ _ _ _ _ _ _ (c17 .«open» .ensures .same) (c .before .before .before .before .before .read-block .ensures) (c .before .before .listing .ensures)
 
 pub list-spec : {M : Type 1} → statement M
 list-spec =
@@ -50,4 +52,5 @@ list-spec =
     same-length-4
     same-length-5
     same-length-6
+    same-length-7
     returns)

@@ -26,8 +26,8 @@ counts-line-requires c κs = search needs
 rows-requires : tie.Need-rows-requires
 rows-requires c κs =
     let c10 = c .before .before .before .before .before .before .before .before .before .before in
-    let c10 = c10 in
-    (omega (arith, c .before .if1 .taken), omega (arith, c .before .before .before .before .counts-line .ensures .end, counts-length (c10 .args .functions) (c10 .args .cells) (c10 .args .calls) (c10 .args .keys)))
+    let a = c10 .args in
+    (omega (arith, c .before .if1 .taken), omega (arith, c .before .before .before .before .counts-line .ensures .end, counts-length (a .functions) (a .cells) (a .calls) (a .keys)))
 
 same-length : tie.Need-same-length
 same-length c = search needs
@@ -35,15 +35,14 @@ same-length c = search needs
 returns : tie.Need-returns
 returns c =
     let c7 = c .before .before .before .before .before .before .before in
-    let c7 = c7 in
     let c9 = c7 .before .before in
     listed _ _ _ _ _ _ _ _ _ _ _ _ (c9 .enum-told .given .1) (omega (arith, c .before .before .before .before .if1 .taken)) (c7 .counts-line .ensures) (c .before .before .rows .ensures)
 
 rows-requires-2 : tie.Need-rows-requires-2
 rows-requires-2 c κs =
     let c10 = c .before .before .before .before .before .before .before .before .before .before in
-    let c10 = c10 in
-    (omega arith, omega (arith, c .before .before .before .before .counts-line .ensures .end, counts-length (c10 .args .functions) (c10 .args .cells) (c10 .args .calls) (c10 .args .keys)))
+    let a = c10 .args in
+    (omega arith, omega (arith, c .before .before .before .before .counts-line .ensures .end, counts-length (a .functions) (a .cells) (a .calls) (a .keys)))
 
 same-length-2 : tie.Need-same-length-2
 same-length-2 c = search needs
@@ -51,7 +50,6 @@ same-length-2 c = search needs
 returns-2 : tie.Need-returns-2
 returns-2 c =
     let c7 = c .before .before .before .before .before .before .before in
-    let c7 = c7 in
     unlisted _ _ _ _ _ _ _ _ _ _ _ _ (c7 .verdict .given .1) (c .before .before .before .before .number-of .ensures) (c .before .before .before .offset-of .ensures) (c .before .before .block-refused-line .ensures)
 
 same-length-3 : tie.Need-same-length-3
@@ -60,7 +58,6 @@ same-length-3 c = search needs
 returns-3 : tie.Need-returns-3
 returns-3 c =
     let c7 = c .before .before .before .before .before .before .before in
-    let c7 = c7 in
     let c9 = c7 .before .before in
     listed _ _ _ _ _ _ _ _ _ _ _ _ (c9 .enum-told .given .1) (omega (arith, c .before .before .before .before .if1 .left)) (c7 .counts-line .ensures) (c .before .before .rows2 .ensures)
 

@@ -21,7 +21,6 @@ row-in-requires c κs = omega (arith, c .loop-test .taken, c .before .before .be
 cast-row-line : tie.Need-cast-row-line Inv-loop μ-loop
 cast-row-line c =
     let c6 = c .before .before .before .before .before .before in
-    let c6 = c6 in
     omega (arith, c .before .before .before .loop .inv .short, c .before .before .loop-test .taken, c6 .pre .0, c6 .pre .1)
 
 row-line-requires : tie.Need-row-line-requires Inv-loop μ-loop
@@ -30,7 +29,6 @@ row-line-requires c κs = search needs
 add-call : tie.Need-add-call Inv-loop μ-loop
 add-call c =
     let c9 = c .before .before .before .before .before .before .before .before .before in
-    let c9 = c9 in
     omega (arith, c .before .before .before .before .before .loop-test .taken, c9 .pre .0)
 
 loop-less : tie.Need-loop-less Inv-loop μ-loop
@@ -39,7 +37,6 @@ loop-less c = omega (arith, c .before .before .before .before .before .loop-test
 loop-again : tie.Need-loop-again Inv-loop μ-loop
 loop-again c =
     let c6 = c .before .before .before .before .before .before in
-    let c6 = c6 in
     rowing-on _ _ _ _ _ _ _ _ _ _ (c6 .loop .inv) (c .before .before .before .before .before .loop-test .taken) (c .before .before .before .before .row-in .ensures) (c .before .before .row-line .ensures)
 
 same-length : tie.Need-same-length Inv-loop μ-loop

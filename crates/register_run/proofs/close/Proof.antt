@@ -17,13 +17,15 @@ close-text-requires c κs = search needs
 
 array-share-prefix-text : tie.Need-array-share-prefix-text
 array-share-prefix-text c =
-    let c7 = c .before .before .before .before .before .before .before in
-    omega (arith, close-fits (lent (c7 .args .head) (c7 .args .plan .now) (c7 .args .keys .now) (c7 .args .cells .now) (c7 .args .status .now) (c7 .args .saved .now)) (c .before .close-text .ensures))
+    let c8 = c .before .before .before .before .before .before .before .before in
+    let a = c8 .args in
+    omega (arith, close-fits (lent (a .head) (a .plan .now) (a .keys .now) (a .cells .now) (a .status .now) (a .seats .now) (a .frames .now)) (c .before .close-text .ensures))
 
 slice-aggregate-print : tie.Need-slice-aggregate-print
 slice-aggregate-print c =
-    let c8 = c .before .before .before .before .before .before .before .before in
-    sym (length-take-le _ _ (omega (arith, close-fits (lent (c8 .args .head) (c8 .args .plan .now) (c8 .args .keys .now) (c8 .args .cells .now) (c8 .args .status .now) (c8 .args .saved .now)) (c .before .before .close-text .ensures))))
+    let c9 = c .before .before .before .before .before .before .before .before .before in
+    let a = c9 .args in
+    sym (length-take-le _ _ (omega (arith, close-fits (lent (a .head) (a .plan .now) (a .keys .now) (a .cells .now) (a .status .now) (a .seats .now) (a .frames .now)) (c .before .before .close-text .ensures))))
 
 print-requires : tie.Need-print-requires
 print-requires c κs = search needs
@@ -34,8 +36,9 @@ same-length c = search needs
 returns : tie.Need-returns
 returns c =
     let c6 = c .before .before .before .before .before .before in
-    let c12 = c6 .before .before .before .before .before .before in
-    (handed-as (front (c6 .close-text .ensures) (omega (arith, close-fits (lent (c12 .args .head) (c12 .args .plan .now) (c12 .args .keys .now) (c12 .args .cells .now) (c12 .args .status .now) (c12 .args .saved .now)) (c6 .close-text .ensures)))) (c .before .before .print .ensures .0), c .before .before .print .ensures .1)
+    let c13 = c6 .before .before .before .before .before .before .before in
+    let a = c13 .args in
+    (handed-as (front (c6 .close-text .ensures) (omega (arith, close-fits (lent (a .head) (a .plan .now) (a .keys .now) (a .cells .now) (a .status .now) (a .seats .now) (a .frames .now)) (c6 .close-text .ensures)))) (c .before .before .print .ensures .0), c .before .before .print .ensures .1)
 
 pub close-spec : {M : Type 1} → statement M
 close-spec =

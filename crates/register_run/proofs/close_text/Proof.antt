@@ -22,8 +22,9 @@ slice-aggregate-sheet-text c = search needs
 
 cast-sheet-text : tie.Need-cast-sheet-text
 cast-sheet-text c =
-    let c11 = c .before .before .before .before .before .before .before .before .before .before .before in
-    omega (arith, written-fits (lent (c11 .args .head) (c11 .args .plan .now) (c11 .args .keys .now) (c11 .args .cells .now) (c11 .args .status .now) (c11 .args .saved .now)) (c .before .before .before .before .before .sheet .last .1 .1 .1 .1 .1 .1 .0) _ (c .before .before .before .before .before .sheet .ensures .same) (c .before .before .n .given .0 .0) (c .before .before .n .given .1))
+    let c12 = c .before .before .before .before .before .before .before .before .before .before .before .before in
+    let a = c12 .args in
+    omega (arith, written-fits (lent (a .head) (a .plan .now) (a .keys .now) (a .cells .now) (a .status .now) (a .seats .now) (a .frames .now)) (c .before .before .before .before .before .sheet .last .1 .1 .1 .1 .1 .1 .1 .0) _ (c .before .before .before .before .before .sheet .ensures .same) (c .before .before .n .given .0 .0) (c .before .before .n .given .1))
 
 sheet-text-requires : tie.Need-sheet-text-requires
 sheet-text-requires c κs = search needs
@@ -45,8 +46,9 @@ unfolding repeated
 returns c =
     let c6 = c .before .before .before .before .before .before in
     let c9 = c6 .before .before .before in
-    let c15 = c9 .before .before .before .before .before .before in
-    closed-written (lent (c15 .args .head) (c15 .args .plan .now) (c15 .args .keys .now) (c15 .args .cells .now) (c15 .args .status .now) (c15 .args .saved .now)) (c9 .sheet .last .1 .1 .1 .1 .1 .1 .0) _ (c9 .sheet .ensures .same) refl (c6 .n .given .0 .0) (c6 .n .given .1) (c .before .before .sheet-text .ensures)
+    let c16 = c9 .before .before .before .before .before .before .before in
+    let a = c16 .args in
+    closed-written (lent (a .head) (a .plan .now) (a .keys .now) (a .cells .now) (a .status .now) (a .seats .now) (a .frames .now)) (c9 .sheet .last .1 .1 .1 .1 .1 .1 .1 .0) _ (c9 .sheet .ensures .same) refl (c6 .n .given .0 .0) (c6 .n .given .1) (c .before .before .sheet-text .ensures)
 
 same-length-2 : tie.Need-same-length-2
 same-length-2 c = search needs
@@ -56,8 +58,9 @@ unfolding repeated
 returns-2 c =
     let c6 = c .before .before .before .before .before .before in
     let c9 = c6 .before .before .before in
-    let c15 = c9 .before .before .before .before .before .before in
-    closed-refused (lent (c15 .args .head) (c15 .args .plan .now) (c15 .args .keys .now) (c15 .args .cells .now) (c15 .args .status .now) (c15 .args .saved .now)) (c9 .sheet .last .1 .1 .1 .1 .1 .1 .0) _ (c9 .sheet .ensures .same) refl (c6 .answer .given .0 .0) (c6 .answer .given .1) (c .before .before .before .answer-number .ensures) (c .before .before .refused-line .ensures)
+    let c16 = c9 .before .before .before .before .before .before .before in
+    let a = c16 .args in
+    closed-refused (lent (a .head) (a .plan .now) (a .keys .now) (a .cells .now) (a .status .now) (a .seats .now) (a .frames .now)) (c9 .sheet .last .1 .1 .1 .1 .1 .1 .1 .0) _ (c9 .sheet .ensures .same) refl (c6 .answer .given .0 .0) (c6 .answer .given .1) (c .before .before .before .answer-number .ensures) (c .before .before .refused-line .ensures)
 
 pub close-text-spec : {M : Type 1} → statement M
 close-text-spec =

@@ -16,14 +16,17 @@ play-end-requires c κs = search needs
 
 array-share-prefix-answers : tie.Need-array-share-prefix-answers
 array-share-prefix-answers c =
-    let c15 = c .before .before .before .before .before .before .before .before .before .before .before .before .before .before .before in
-    omega (arith, end-fits (c15 .args .block .now) (c15 .args .s .number) (c15 .args .s .line) (lent (c15 .args .s .head) (c15 .args .plan .now) (c15 .args .keys .now) (c15 .args .cells .now) (c15 .args .status .now) (c15 .args .saved .now)) _ (c .before .before .before .before .before .play-end .ensures))
+    let c7 = c .before .before .before .before .before .before .before in
+    let c19 = c7 .before .before .before .before .before .before .before .before .before .before .before .before in
+    let a = c19 .args in
+    omega (arith, end-fits (a .block .now) (a .s .number) (a .s .line) (lent (a .s .head) (a .plan .now) (a .keys .now) (a .cells .now) (a .status .now) (a .seats .now) (a .frames .now)) _ (c7 .play-end .ensures))
 
 slice-aggregate-print : tie.Need-slice-aggregate-print
 slice-aggregate-print c =
-    let c6 = c .before .before .before .before .before .before in
-    let c16 = c6 .before .before .before .before .before .before .before .before .before .before in
-    sym (length-take-le _ _ (omega (arith, end-fits (c16 .args .block .now) (c16 .args .s .number) (c16 .args .s .line) (lent (c16 .args .s .head) (c16 .args .plan .now) (c16 .args .keys .now) (c16 .args .cells .now) (c16 .args .status .now) (c16 .args .saved .now)) _ (c6 .play-end .ensures))))
+    let c8 = c .before .before .before .before .before .before .before .before in
+    let c20 = c8 .before .before .before .before .before .before .before .before .before .before .before .before in
+    let a = c20 .args in
+    sym (length-take-le _ _ (omega (arith, end-fits (a .block .now) (a .s .number) (a .s .line) (lent (a .s .head) (a .plan .now) (a .keys .now) (a .cells .now) (a .status .now) (a .seats .now) (a .frames .now)) _ (c8 .play-end .ensures))))
 
 print-requires : tie.Need-print-requires
 print-requires c κs = search needs
@@ -43,12 +46,16 @@ same-length-3 c = search needs
 same-length-4 : tie.Need-same-length-4
 same-length-4 c = search needs
 
+same-length-5 : tie.Need-same-length-5
+same-length-5 c = search needs
+
 returns : tie.Need-returns
 returns c =
-    let c11 = c .before .before .before .before .before .before .before .before .before .before .before in
-    let c19 = c11 .before .before .before .before .before .before .before .before in
-    let c29 = c19 .before .before .before .before .before .before .before .before .before .before in
-    (finish-handed (c29 .args .block .now) (c29 .args .s .number) (c29 .args .s .line) (lent (c29 .args .s .head) (c29 .args .plan .now) (c29 .args .keys .now) (c29 .args .cells .now) (c29 .args .status .now) (c29 .args .saved .now)) _ (c19 .play-end .ensures) (omega (arith, end-fits (c29 .args .block .now) (c29 .args .s .number) (c29 .args .s .line) (lent (c29 .args .s .head) (c29 .args .plan .now) (c29 .args .keys .now) (c29 .args .cells .now) (c29 .args .status .now) (c29 .args .saved .now)) _ (c19 .play-end .ensures))) (c11 .print .ensures .0) (c .before .before .close .ensures .0), c .before .before .close .ensures .1 ∙ c11 .print .ensures .1)
+    let c12 = c .before .before .before .before .before .before .before .before .before .before .before .before in
+    let c22 = c12 .before .before .before .before .before .before .before .before .before .before in
+    let c34 = c22 .before .before .before .before .before .before .before .before .before .before .before .before in
+    let a = c34 .args in
+    (finish-handed (a .block .now) (a .s .number) (a .s .line) (lent (a .s .head) (a .plan .now) (a .keys .now) (a .cells .now) (a .status .now) (a .seats .now) (a .frames .now)) _ (c22 .play-end .ensures) (omega (arith, end-fits (a .block .now) (a .s .number) (a .s .line) (lent (a .s .head) (a .plan .now) (a .keys .now) (a .cells .now) (a .status .now) (a .seats .now) (a .frames .now)) _ (c22 .play-end .ensures))) (c12 .print .ensures .0) (c .before .before .close .ensures .0), c .before .before .close .ensures .1 ∙ c12 .print .ensures .1)
 
 pub finish-spec : {M : Type 1} → statement M
 finish-spec =
@@ -64,4 +71,5 @@ finish-spec =
     same-length-2
     same-length-3
     same-length-4
+    same-length-5
     returns)

@@ -16,17 +16,19 @@ play-chunk-requires c κs = search needs
 
 slice-reshare-prefix-print : tie.Need-slice-reshare-prefix-print
 slice-reshare-prefix-print c =
-    let c7 = c .before .before .before .before .before .before .before in
-    let c15 = c7 .before .before .before .before .before .before .before .before in
-    let c24 = c15 .before .before .before .before .before .before .before .before .before in
-    (omega (arith, c24 .pre .1 .1 .0, c7 .play-chunk .kept .1 .1 .1 .1 .1 .1 .1 .1 .1 .0, answers-fit (c24 .args .block .now) (c15 .read-some .last .1 .0) (c24 .args .s .number) (c24 .args .s .line) (lent (c24 .args .s .head) (c24 .args .plan .now) (c24 .args .keys .now) (c24 .args .cells .now) (c24 .args .status .now) (c24 .args .saved .now)) (c15 .read-some .result .count) (c24 .args .answers .now) (c7 .play-chunk .ensures) (omega (arith, c15 .read-some .ensures .0, c24 .pre .0)) (omega (arith, c15 .read-some .ensures .0, c24 .pre .0, c24 .pre .1 .0, c15 .read-some .kept .1 .0))))
+    let c9 = c .before .before .before .before .before .before .before .before .before in
+    let c18 = c9 .before .before .before .before .before .before .before .before .before in
+    let c28 = c18 .before .before .before .before .before .before .before .before .before .before in
+    let a = c28 .args in
+    (omega (arith, c28 .pre .1 .1 .0, c9 .play-chunk .kept .1 .1 .1 .1 .1 .1 .1 .1 .1 .1 .0, answers-fit (a .block .now) (c18 .read-some .last .1 .0) (a .s .number) (a .s .line) (lent (a .s .head) (a .plan .now) (a .keys .now) (a .cells .now) (a .status .now) (a .seats .now) (a .frames .now)) (c18 .read-some .result .count) (a .answers .now) (c9 .play-chunk .ensures) (omega (arith, c18 .read-some .ensures .0, c28 .pre .0)) (omega (arith, c18 .read-some .ensures .0, c28 .pre .0, c28 .pre .1 .0, c18 .read-some .kept .1 .0))))
 
 slice-aggregate-print : tie.Need-slice-aggregate-print
 slice-aggregate-print c =
-    let c8 = c .before .before .before .before .before .before .before .before in
-    let c16 = c8 .before .before .before .before .before .before .before .before in
-    let c25 = c16 .before .before .before .before .before .before .before .before .before in
-    sym (length-take-le _ _ (omega (arith, c25 .pre .1 .1 .0, c8 .play-chunk .kept .1 .1 .1 .1 .1 .1 .1 .1 .1 .0, answers-fit (c25 .args .block .now) (c16 .read-some .last .1 .0) (c25 .args .s .number) (c25 .args .s .line) (lent (c25 .args .s .head) (c25 .args .plan .now) (c25 .args .keys .now) (c25 .args .cells .now) (c25 .args .status .now) (c25 .args .saved .now)) (c16 .read-some .result .count) (c25 .args .answers .now) (c8 .play-chunk .ensures) (omega (arith, c16 .read-some .ensures .0, c25 .pre .0)) (omega (arith, c16 .read-some .ensures .0, c25 .pre .0, c25 .pre .1 .0, c16 .read-some .kept .1 .0)))))
+    let c10 = c .before .before .before .before .before .before .before .before .before .before in
+    let c19 = c10 .before .before .before .before .before .before .before .before .before in
+    let c29 = c19 .before .before .before .before .before .before .before .before .before .before in
+    let a = c29 .args in
+    sym (length-take-le _ _ (omega (arith, c29 .pre .1 .1 .0, c10 .play-chunk .kept .1 .1 .1 .1 .1 .1 .1 .1 .1 .1 .0, answers-fit (a .block .now) (c19 .read-some .last .1 .0) (a .s .number) (a .s .line) (lent (a .s .head) (a .plan .now) (a .keys .now) (a .cells .now) (a .status .now) (a .seats .now) (a .frames .now)) (c19 .read-some .result .count) (a .answers .now) (c10 .play-chunk .ensures) (omega (arith, c19 .read-some .ensures .0, c29 .pre .0)) (omega (arith, c19 .read-some .ensures .0, c29 .pre .0, c29 .pre .1 .0, c19 .read-some .kept .1 .0)))))
 
 print-requires : tie.Need-print-requires
 print-requires c κs = search needs
@@ -49,14 +51,18 @@ same-length-5 c = search needs
 same-length-6 : tie.Need-same-length-6
 same-length-6 c = search needs
 
+same-length-7 : tie.Need-same-length-7
+same-length-7 c = search needs
+
 returns : tie.Need-returns
 returns c =
-    let c13 = c .before .before .before .before .before .before .before .before .before .before .before .before .before in
-    let c21 = c13 .before .before .before .before .before .before .before .before in
-    let c30 = c21 .before .before .before .before .before .before .before .before .before in
-    piece-played (c30 .args .block .now) (c21 .read-some .last .1 .0) (c30 .args .s .number) (c30 .args .s .line) (lent (c30 .args .s .head) (c30 .args .plan .now) (c30 .args .keys .now) (c30 .args .cells .now) (c30 .args .status .now) (c30 .args .saved .now)) (c21 .read-some .result .count) (c30 .args .answers .now)
-    (c13 .play-chunk .ensures) (c30 .args .x) (c30 .args .limit) (c30 .args .transcript .now) refl refl (c21 .read-some .ensures .1) (c21 .read-some .ensures .0)
-    (omega (arith, c21 .read-some .ensures .0, c30 .pre .0, c30 .pre .1 .0, c21 .read-some .kept .1 .0)) (omega (arith, c30 .pre .1 .1 .0, c13 .play-chunk .kept .1 .1 .1 .1 .1 .1 .1 .1 .1 .0, answers-fit (c30 .args .block .now) (c21 .read-some .last .1 .0) (c30 .args .s .number) (c30 .args .s .line) (lent (c30 .args .s .head) (c30 .args .plan .now) (c30 .args .keys .now) (c30 .args .cells .now) (c30 .args .status .now) (c30 .args .saved .now)) (c21 .read-some .result .count) (c30 .args .answers .now) (c13 .play-chunk .ensures) (omega (arith, c21 .read-some .ensures .0, c30 .pre .0)) (omega (arith, c21 .read-some .ensures .0, c30 .pre .0, c30 .pre .1 .0, c21 .read-some .kept .1 .0)))) (c .before .before .before .print .ensures .0) (c .before .before .before .print .ensures .1)
+    let c15 = c .before .before .before .before .before .before .before .before .before .before .before .before .before .before .before in
+    let c24 = c15 .before .before .before .before .before .before .before .before .before in
+    let c34 = c24 .before .before .before .before .before .before .before .before .before .before in
+    let a = c34 .args in
+    piece-played (a .block .now) (c24 .read-some .last .1 .0) (a .s .number) (a .s .line) (lent (a .s .head) (a .plan .now) (a .keys .now) (a .cells .now) (a .status .now) (a .seats .now) (a .frames .now)) (c24 .read-some .result .count) (a .answers .now)
+    (c15 .play-chunk .ensures) (a .x) (a .limit) (a .transcript .now) refl refl (c24 .read-some .ensures .1) (c24 .read-some .ensures .0)
+    (omega (arith, c24 .read-some .ensures .0, c34 .pre .0, c34 .pre .1 .0, c24 .read-some .kept .1 .0)) (omega (arith, c34 .pre .1 .1 .0, c15 .play-chunk .kept .1 .1 .1 .1 .1 .1 .1 .1 .1 .1 .0, answers-fit (a .block .now) (c24 .read-some .last .1 .0) (a .s .number) (a .s .line) (lent (a .s .head) (a .plan .now) (a .keys .now) (a .cells .now) (a .status .now) (a .seats .now) (a .frames .now)) (c24 .read-some .result .count) (a .answers .now) (c15 .play-chunk .ensures) (omega (arith, c24 .read-some .ensures .0, c34 .pre .0)) (omega (arith, c24 .read-some .ensures .0, c34 .pre .0, c34 .pre .1 .0, c24 .read-some .kept .1 .0)))) (c .before .before .before .print .ensures .0) (c .before .before .before .print .ensures .1)
 
 pub play-some-spec : {M : Type 1} → statement M
 play-some-spec =
@@ -73,4 +79,5 @@ play-some-spec =
     same-length-4
     same-length-5
     same-length-6
+    same-length-7
     returns)

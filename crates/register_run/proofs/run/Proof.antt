@@ -20,6 +20,9 @@ slice-aggregate-open-4 c = search needs
 slice-aggregate-open-5 : tie.Need-slice-aggregate-open-5
 slice-aggregate-open-5 c = search needs
 
+slice-aggregate-open-6 : tie.Need-slice-aggregate-open-6
+slice-aggregate-open-6 c = search needs
+
 open-requires : tie.Need-open-requires
 open-requires c κs = search needs
 
@@ -47,6 +50,9 @@ slice-aggregate-run-opened-4 c = search needs
 slice-aggregate-run-opened-5 : tie.Need-slice-aggregate-run-opened-5
 slice-aggregate-run-opened-5 c = search needs
 
+slice-aggregate-run-opened-6 : tie.Need-slice-aggregate-run-opened-6
+slice-aggregate-run-opened-6 c = search needs
+
 run-opened-requires : tie.Need-run-opened-requires
 run-opened-requires c κs = search needs
 
@@ -55,18 +61,19 @@ same-length c = search needs
 
 returns : tie.Need-returns
 returns c =
-    let c13 = c .before .before .before .before .before .before .before .before .before .before .before .before .before in
-    runs-refused (omega arith) (c13 .«open» .ensures .same) (c .before .before .before .before .before .verdict .given .0 .0) (c .before .before .before .before .before .verdict .given .1) (c .before .before .print-refusal .ensures .0) (c .before .before .print-refusal .ensures .1)
+    let c14 = c .before .before .before .before .before .before .before .before .before .before .before .before .before .before in
+    runs-refused (omega arith) (c14 .«open» .ensures .same) (c .before .before .before .before .before .verdict .given .0 .0) (c .before .before .before .before .before .verdict .given .1) (c .before .before .print-refusal .ensures .0) (c .before .before .print-refusal .ensures .1)
 
 same-length-2 : tie.Need-same-length-2
 same-length-2 c = search needs
 
 returns-2 : tie.Need-returns-2
 returns-2 c =
-    let c12 = c .before .before .before .before .before .before .before .before .before .before .before .before in
-    let c20 = c12 .before .before .before .before .before .before .before .before in
-    let c28 = c20 .before .before .before .before .before .before .before .before in
-    runs-accepted (omega (arith, c28 .fits .limit .fits)) (c20 .«open» .ensures .same) (c12 .enum-told .given .1) (c .before .before .before .before .before .run-opened .ensures)
+    let c6 = c .before .before .before .before .before .before in
+    let c14 = c6 .before .before .before .before .before .before .before .before in
+    let c23 = c14 .before .before .before .before .before .before .before .before .before in
+    let c32 = c23 .before .before .before .before .before .before .before .before .before in
+    runs-accepted (omega (arith, c32 .fits .limit .fits)) (c23 .«open» .ensures .same) (c14 .enum-told .given .1) (c6 .run-opened .ensures)
 
 pub run-spec : {M : Type 1} → statement M
 run-spec =
@@ -77,6 +84,7 @@ run-spec =
     slice-aggregate-open-3
     slice-aggregate-open-4
     slice-aggregate-open-5
+    slice-aggregate-open-6
     open-requires
     enum-known-verdict
     print-refusal-requires
@@ -86,6 +94,7 @@ run-spec =
     slice-aggregate-run-opened-3
     slice-aggregate-run-opened-4
     slice-aggregate-run-opened-5
+    slice-aggregate-run-opened-6
     run-opened-requires
     same-length
     returns

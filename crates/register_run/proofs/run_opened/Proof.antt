@@ -28,12 +28,15 @@ same-length-3 c = search needs
 same-length-4 : tie.Need-same-length-4
 same-length-4 c = search needs
 
+same-length-5 : tie.Need-same-length-5
+same-length-5 c = search needs
+
 returns : tie.Need-returns
 returns c =
-    let c6 = c .before .before .before .before .before .before in
-    let c21 = c6 .before .before .before .before .before .before .before .before .before .before .before .before .before .before .before in
-    let c33 = c21 .before .before .before .before .before .before .before .before .before .before .before .before in
-    runs-on (c21 .play-input .ensures) (c6 .finish .ensures .0) (c6 .finish .ensures .1) (c33 .pre)
+    let c8 = c .before .before .before .before .before .before .before .before in
+    let c26 = c8 .before .before .before .before .before .before .before .before .before .before .before .before .before .before .before .before .before .before in
+    let c40 = c26 .before .before .before .before .before .before .before .before .before .before .before .before .before .before in
+    runs-on (c26 .play-input .ensures) (c8 .finish .ensures .0) (c8 .finish .ensures .1) (c40 .pre)
 
 pub run-opened-spec : {M : Type 1} → statement M
 run-opened-spec =
@@ -47,4 +50,5 @@ run-opened-spec =
     same-length-2
     same-length-3
     same-length-4
+    same-length-5
     returns)

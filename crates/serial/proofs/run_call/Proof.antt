@@ -19,14 +19,25 @@ same-length-2 c = search needs
 same-length-3 : tie.Need-same-length-3
 same-length-3 c = search needs
 
+same-length-4 : tie.Need-same-length-4
+same-length-4 c = search needs
+
 returns : tie.Need-returns
 returns c =
-    let c10 = c .before .before .before .before .before .before .before .before .before .before in
-    let c18 = c10 .before .before .before .before .before .before .before .before in
-    let a = c18 .args in
-    begun-call-run (a .block .now) _ (a .call) (c10 .begin .ensures) (c .before .before .before .step-to-end .ensures)
+    let c6 = c .before .before .before .before .before .before in
+    let c16 = c6 .before .before .before .before .before .before .before .before .before .before in
+    let c26 = c16 .before .before .before .before .before .before .before .before .before .before in
+    let a = c26 .args in
+    begun-call-run (a .block .now) _ (a .call) (c16 .begin .ensures) (c6 .step-to-end .ensures)
 
 pub run-call-spec : {M : Type 1} → statement M
 run-call-spec =
     tie.close
-    (tie.spec begin-requires step-to-end-requires same-length same-length-2 same-length-3 returns)
+    (tie.spec
+    begin-requires
+    step-to-end-requires
+    same-length
+    same-length-2
+    same-length-3
+    same-length-4
+    returns)

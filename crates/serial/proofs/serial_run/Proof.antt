@@ -13,19 +13,21 @@ use Rattle.serial.proofs.serial_run.Statement.{statement}
 use Rattle.serial.proofs.serial_run.Tie as tie
 
 abbrev Inv-loop : tie.InvT-loop
-Inv-loop head₀ block plan keys cells₀ status₀ saved₀ calls call₀ head cells status saved call =
+Inv-loop head₀ block plan keys cells₀ status₀ seats₀ frames₀ calls call₀ head cells status seats frames call =
     (call ≤ calls)
-    × (length cells ≡ length cells₀) × (length status ≡ length status₀) × (length saved ≡ length saved₀)
-    × (lent head plan keys cells status saved ≡ runCalls block (lent head₀ plan keys cells₀ status₀ saved₀) (below call))
+    × (length cells ≡ length cells₀) × (length status ≡ length status₀) × (length seats ≡ length seats₀) × (length frames ≡ length frames₀)
+    × (lent head plan keys cells status seats frames ≡ runCalls block (lent head₀ plan keys cells₀ status₀ seats₀ frames₀) (below call))
 
 abbrev μ-loop : tie.MeasureT-loop
-μ-loop head₀ block plan keys cells₀ status₀ saved₀ calls call₀ head cells status saved call = calls - call
+μ-loop head₀ block plan keys cells₀ status₀ seats₀ frames₀ calls call₀ head cells status seats frames call = calls - call
 
 call-count-requires : tie.Need-call-count-requires Inv-loop μ-loop
 call-count-requires c κs = search needs
 
 loop-holds : tie.Need-loop-holds Inv-loop μ-loop
-loop-holds c = (omega arith, refl, refl, refl, calls-none (c .before .before .before .before .before .args .block .now) _)
+loop-holds c =
+    let c6 = c .before .before .before .before .before .before in
+    (omega arith, refl, refl, refl, refl, calls-none (c6 .args .block .now) _)
 
 run-call-requires : tie.Need-run-call-requires Inv-loop μ-loop
 run-call-requires c κs = search needs
@@ -38,14 +40,15 @@ loop-less c = omega arith
 
 loop-again : tie.Need-loop-again Inv-loop μ-loop
 loop-again c =
-    let a = c .before .before .before .before .before .before .before .before .before .before .before .before .before .before .before .args in
-    let l = c .before .before .before .before .before .before .before .before .before .loop in
-    let made = c .before .before .before .before .run-call in (
+    let c6 = c .before .before .before .before .before .before in
+    let c12 = c6 .before .before .before .before .before .before in
+    let c19 = c12 .before .before .before .before .before .before .before in (
       omega arith,
-      made .kept .1 .1 .1 .1 .0 ∙ l .inv .1,
-      made .kept .1 .1 .1 .1 .1 .0 ∙ l .inv .2,
-      made .kept .1 .1 .1 .1 .1 .1 .0 ∙ l .inv .3,
-      calls-next (a .block .now) _ (l .call) (l .inv .4) (made .ensures),
+      c6 .run-call .kept .1 .1 .1 .1 .0 ∙ c12 .loop .inv .1,
+      c6 .run-call .kept .1 .1 .1 .1 .1 .0 ∙ c12 .loop .inv .2,
+      c6 .run-call .kept .1 .1 .1 .1 .1 .1 .0 ∙ c12 .loop .inv .3,
+      c6 .run-call .kept .1 .1 .1 .1 .1 .1 .1 .0 ∙ c12 .loop .inv .4,
+      calls-next (c19 .args .block .now) _ (c12 .loop .call) (c12 .loop .inv .5) (c6 .run-call .ensures),
     )
 
 same-length : tie.Need-same-length Inv-loop μ-loop
@@ -57,13 +60,15 @@ same-length-2 c = c .before .loop .inv .2
 same-length-3 : tie.Need-same-length-3 Inv-loop μ-loop
 same-length-3 c = c .before .loop .inv .3
 
+same-length-4 : tie.Need-same-length-4 Inv-loop μ-loop
+same-length-4 c = c .before .loop .inv .4
+
 returns : tie.Need-returns Inv-loop μ-loop
 returns c =
-    let c7 = c .before .before .before .before .before .before .before in
-    let a = c7 .args in
-    let l = c .before .loop in
-    let all : l .call ≡ min (a .head .calls) maxCalls = omega (arith, c .before .before .call-count .ensures) in
-    calls-all (a .block .now) _ (l .inv .4) all
+    let c8 = c .before .before .before .before .before .before .before .before in
+    let a = c8 .args in
+    let all : c .before .loop .call ≡ min (a .head .calls) maxCalls = omega (arith, c .before .before .call-count .ensures, c .before .loop .inv .0, c .loop-test .left) in
+    calls-all (a .block .now) _ (c .before .loop .inv .5) all
 
 pub serial-run-spec : {M : Type 1} → statement M
 serial-run-spec =
@@ -80,4 +85,5 @@ serial-run-spec =
     same-length
     same-length-2
     same-length-3
+    same-length-4
     returns)

@@ -1,4 +1,4 @@
-//! A run that a caller lends: a head and five buffers of words in fixed places.
+//! A run that a caller lends: a head and six buffers of words in fixed places.
 //! Any of these words may be damaged. A move then answers 20 where it first
 //! uses such a word, and changes nothing.
 
@@ -35,6 +35,21 @@ pub const ROW_BITS: usize = 64;
 pub const KEY_WORDS: usize = 2;
 /// Words of a call in the status: state, outcome, count, and a spare one.
 pub const STATUS_WORDS: usize = 4;
+/// Words of a worker in the seats. Behind the place and the count is room that
+/// no move touches.
+pub const SEAT_WORDS: usize = 16;
+/// The seat word that holds the place: 0 at the entry, else the index of the next
+/// instruction plus 1.
+pub const PLACE: usize = 0;
+/// The seat word that holds how many instructions ran.
+pub const COUNT: usize = 1;
+/// The first of the seat words that are room.
+pub const ROOM: usize = 2;
+/// Values of a worker in the frames: the registers, then the old values, one for
+/// each entry of its call.
+pub const FRAME_VALUES: usize = REGISTERS + MAX_CALL_KEYS;
+/// The first of the frame values that are old values.
+pub const OLDS: usize = REGISTERS;
 
 /// The state word of a waiting call.
 pub const WAITING: u64 = 0;
@@ -50,7 +65,10 @@ pub const READS: u64 = 1;
 /// The flag of an entry that the call writes.
 pub const WRITES: u64 = 2;
 
-/// The lengths of the five buffers.
+/// The number of buffers.
+pub const BUFFERS: usize = 6;
+
+/// The lengths of the buffers.
 #[derive(Clone, Copy, Debug, PartialEq, Eq)]
 #[allow(missing_docs)]
 pub struct Sizes {
@@ -58,7 +76,8 @@ pub struct Sizes {
     pub keys: usize,
     pub cells: usize,
     pub status: usize,
-    pub olds: usize,
+    pub seats: usize,
+    pub frames: usize,
 }
 
 impl Sizes {
@@ -68,30 +87,42 @@ impl Sizes {
         keys: MAX_KEYS * KEY_WORDS,
         cells: MAX_KEYS,
         status: MAX_CALLS * STATUS_WORDS,
-        olds: MAX_WORKERS * MAX_CALL_KEYS,
+        seats: MAX_WORKERS * SEAT_WORDS,
+        frames: MAX_WORKERS * FRAME_VALUES,
     };
 
-    /// Whether no buffer is shorter than its fixed size.
-    pub fn suffice(&self) -> bool {
-        self.plan >= Sizes::FIXED.plan
-            && self.keys >= Sizes::FIXED.keys
-            && self.cells >= Sizes::FIXED.cells
-            && self.status >= Sizes::FIXED.status
-            && self.olds >= Sizes::FIXED.olds
+    /// The lengths in the order of the buffers.
+    pub fn each(self) -> [usize; BUFFERS] {
+        [
+            self.plan,
+            self.keys,
+            self.cells,
+            self.status,
+            self.seats,
+            self.frames,
+        ]
     }
-}
 
-/// A worker's seat.
-#[derive(Clone, Copy, Debug, Default, PartialEq, Eq)]
-pub struct Seat {
-    /// The number of the call that the worker holds plus 1, or 0 for none.
-    pub call: u64,
-    /// 0 at the entry, else the index of the next instruction plus 1.
-    pub place: u64,
-    /// How many instructions ran.
-    pub count: u64,
-    /// The registers.
-    pub registers: [i64; REGISTERS],
+    /// The same, to be changed.
+    pub fn each_mut(&mut self) -> [&mut usize; BUFFERS] {
+        [
+            &mut self.plan,
+            &mut self.keys,
+            &mut self.cells,
+            &mut self.status,
+            &mut self.seats,
+            &mut self.frames,
+        ]
+    }
+
+    /// Whether no buffer is shorter than its fixed size.
+    pub fn suffice(self) -> bool {
+        let fixed = Sizes::FIXED.each();
+        self.each()
+            .iter()
+            .zip(fixed)
+            .all(|(size, fixed)| *size >= fixed)
+    }
 }
 
 /// The head of a run.
@@ -105,8 +136,8 @@ pub struct Head {
     pub cells: u64,
     /// The offset of the first call record, or where it would be.
     pub first: u64,
-    /// The workers' seats.
-    pub seats: [Seat; MAX_WORKERS],
+    /// For each worker the number of the call that it holds plus 1, or 0 for none.
+    pub held: [u16; MAX_WORKERS],
 }
 
 /// A lent run.
@@ -122,8 +153,10 @@ pub struct Run {
     pub cells: Vec<i64>,
     /// The state and the receipt of each call.
     pub status: Vec<u64>,
-    /// The old values that each worker keeps, one for each entry of its call.
-    pub olds: Vec<i64>,
+    /// The place and the count of each worker's call.
+    pub seats: Vec<u64>,
+    /// The registers of each worker's call, and the old values that it keeps.
+    pub frames: Vec<i64>,
 }
 
 impl Run {
@@ -135,7 +168,8 @@ impl Run {
             keys: vec![0; sizes.keys],
             cells: vec![0; sizes.cells],
             status: vec![0; sizes.status],
-            olds: vec![0; sizes.olds],
+            seats: vec![0; sizes.seats],
+            frames: vec![0; sizes.frames],
         }
     }
 
@@ -146,7 +180,8 @@ impl Run {
             keys: self.keys.len(),
             cells: self.cells.len(),
             status: self.status.len(),
-            olds: self.olds.len(),
+            seats: self.seats.len(),
+            frames: self.frames.len(),
         }
     }
 
@@ -169,25 +204,30 @@ impl Run {
         self.status[call * STATUS_WORDS]
     }
 
-    /// The words of the head, then those of plan, keys, cells, status and olds.
-    /// The head has workers, calls, cells, first, and by seat call, place,
-    /// count and the registers. A signed value is taken as its 64 bits.
+    /// A word of a worker in the seats.
+    pub fn seat_word(&self, worker: usize, word: usize) -> u64 {
+        self.seats[worker * SEAT_WORDS + word]
+    }
+
+    /// A worker's frame.
+    pub fn frame(&self, worker: usize) -> &[i64] {
+        &self.frames[worker * FRAME_VALUES..][..FRAME_VALUES]
+    }
+
+    /// The words of the head, then those of plan, keys, cells, status, seats and
+    /// frames. The head has workers, calls, cells, first, and for each worker
+    /// what it holds. A signed value is taken as its 64 bits.
     pub fn words(&self) -> impl Iterator<Item = u64> + '_ {
         let head = &self.head;
-        let seats = head.seats.iter().flat_map(|seat| {
-            let registers = seat.registers.into_iter().map(bits);
-            [seat.call, seat.place, seat.count]
-                .into_iter()
-                .chain(registers)
-        });
         [head.workers, head.calls, head.cells, head.first]
             .into_iter()
-            .chain(seats)
+            .chain(head.held.into_iter().map(u64::from))
             .chain(self.plan.iter().copied())
             .chain(self.keys.iter().copied())
             .chain(self.cells.iter().copied().map(bits))
             .chain(self.status.iter().copied())
-            .chain(self.olds.iter().copied().map(bits))
+            .chain(self.seats.iter().copied())
+            .chain(self.frames.iter().copied().map(bits))
     }
 }
 

@@ -1,10 +1,10 @@
 //! BEGIN and CANCEL on a lent run, and what STEP tests as they do.
 
 use super::{
-    Run, Seat, ENTRIES, ENTRY_SCALE, FINISHED, KEY_COUNT, PLAN_WORDS, READS, ROW, ROW_BITS,
-    RUNNING, STATUS_WORDS, WAITING, WRITES,
+    Run, COUNT, ENTRIES, ENTRY_SCALE, FINISHED, FRAME_VALUES, KEY_COUNT, OLDS, PLACE, PLAN_WORDS,
+    READS, ROW, ROW_BITS, RUNNING, SEAT_WORDS, STATUS_WORDS, WAITING, WRITES,
 };
-use crate::limits::{MAX_CALLS, MAX_CALL_KEYS, MAX_KEYS, MAX_WORKERS};
+use crate::limits::{MAX_CALLS, MAX_CALL_KEYS, MAX_KEYS, MAX_WORKERS, REGISTERS};
 use crate::refusal::MoveRefusal;
 
 /// An entry of a call: a cell and how the call uses it.
@@ -50,10 +50,11 @@ impl Run {
         if call >= self.calls()? {
             return Err(MoveRefusal::NoSuchCall);
         }
-        if self.head.seats[worker].call > self.head.calls {
+        let held = self.head.held[worker];
+        if u64::from(held) > self.head.calls {
             return Err(MoveRefusal::Damaged);
         }
-        if self.head.seats[worker].call != 0 {
+        if held != 0 {
             return Err(MoveRefusal::WorkerBusy);
         }
         if self.tested_state(call)? != WAITING {
@@ -63,26 +64,39 @@ impl Run {
             return Err(MoveRefusal::EarlierUnfinished);
         }
         let kept = self.kept(call)?;
-        for (place, cell) in kept.into_iter().enumerate() {
-            self.olds[worker * MAX_CALL_KEYS + place] = cell.map_or(0, |cell| self.cells[cell]);
+        let frame = &mut self.frames[worker * FRAME_VALUES..][..FRAME_VALUES];
+        for (old, cell) in frame[OLDS..].iter_mut().zip(kept) {
+            *old = cell.map_or(0, |cell| self.cells[cell]);
         }
         self.status[call * STATUS_WORDS] = RUNNING;
-        self.head.seats[worker] = Seat {
-            call: call as u64 + 1,
-            ..Seat::default()
-        };
+        self.head.held[worker] = call as u16 + 1;
+        self.stand(worker, 0, 0, [0; REGISTERS]);
         Ok(())
     }
 
+    /// Where the worker's call stands: its place and count in the seat, its
+    /// registers in the frame.
+    pub(super) fn stand(
+        &mut self,
+        worker: usize,
+        place: u64,
+        count: u64,
+        registers: [i64; REGISTERS],
+    ) {
+        let seat = &mut self.seats[worker * SEAT_WORDS..];
+        (seat[PLACE], seat[COUNT]) = (place, count);
+        self.frames[worker * FRAME_VALUES..][..REGISTERS].copy_from_slice(&registers);
+    }
+
     /// CANCEL(worker): 20, 21, 26, then the call's cells are restored, the call
-    /// waits and the worker is free.
+    /// waits and the worker is free. Its seat and its frame are left.
     pub fn cancel(&mut self, worker: usize) -> Result<(), MoveRefusal> {
         let call = self.held(worker)?;
         for (cell, old) in self.restoring(worker, call)? {
             self.cells[cell] = old;
         }
         self.status[call * STATUS_WORDS] = WAITING;
-        self.head.seats[worker] = Seat::default();
+        self.head.held[worker] = 0;
         Ok(())
     }
 
@@ -106,9 +120,9 @@ impl Run {
     /// The call that a worker holds: 20, 21, 26, and 20 if it is none of the run.
     pub(super) fn held(&self, worker: usize) -> Result<usize, MoveRefusal> {
         self.test_worker(worker)?;
-        match self.head.seats[worker].call {
+        match self.head.held[worker] {
             0 => Err(MoveRefusal::WorkerIdle),
-            held => below(held - 1, self.calls()?),
+            held => below(u64::from(held - 1), self.calls()?),
         }
     }
 
@@ -154,7 +168,7 @@ impl Run {
         worker: usize,
         call: usize,
     ) -> Result<Vec<(usize, i64)>, MoveRefusal> {
-        let olds = &self.olds[worker * MAX_CALL_KEYS..][..MAX_CALL_KEYS];
+        let olds = &self.frame(worker)[OLDS..];
         let kept = self.kept(call)?.into_iter().zip(olds);
         Ok(kept
             .filter_map(|(cell, old)| cell.map(|cell| (cell, *old)))

@@ -22,7 +22,7 @@ impl Run {
                 },
             );
             for _ in 0..MAX_STEPS {
-                if self.head.seats[WORKER].call == 0 {
+                if self.head.held[WORKER] == 0 {
                     break;
                 }
                 let _ = self.apply(block, Move::Step { worker: WORKER });

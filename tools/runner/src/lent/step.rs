@@ -1,7 +1,9 @@
 //! STEP on a lent run.
 
 use super::moves::below;
-use super::{key_words, Run, Seat, CODE_LENGTH, CODE_START, FINISHED, KEY_WORDS, STATUS_WORDS};
+use super::{
+    key_words, Run, CODE_LENGTH, CODE_START, COUNT, FINISHED, KEY_WORDS, PLACE, STATUS_WORDS,
+};
 use crate::block::{read_call, Call};
 use crate::code::{decode, Instruction, Parts, Source};
 use crate::execute::{calculate, holds, Outcome};
@@ -36,12 +38,8 @@ impl Run {
     /// STEP(worker): 20, 21, 26, then one step of the worker's call.
     pub fn step(&mut self, block: &[u8], worker: usize) -> Result<(), MoveRefusal> {
         let number = self.held(worker)?;
-        let Seat {
-            place,
-            count,
-            registers,
-            ..
-        } = self.head.seats[worker];
+        let place = self.seat_word(worker, PLACE);
+        let count = self.seat_word(worker, COUNT);
         let code = self.plan_word(number, CODE_LENGTH);
         let longest = MAX_INSTRUCTIONS as u64;
         if code > longest + 1 || place > code || count > longest {
@@ -51,7 +49,7 @@ impl Run {
             run: self,
             number,
             call: call_record(block, self.head.first, number)?,
-            registers,
+            registers: self.registers(worker),
             stores: Stores::new(),
         };
         let (turn, count) = if place == 0 {
@@ -74,34 +72,25 @@ impl Run {
         for (cell, value) in stores {
             self.cells[cell] = value;
         }
-        self.settle(worker, number, turn, count, registers);
+        match turn {
+            Turn::Goes { place } => self.stand(worker, place, count, registers),
+            Turn::Ends(outcome) => self.finish(worker, number, outcome, count),
+        }
         Ok(())
     }
 
-    /// The seat, and of a finished call the receipt.
-    fn settle(
-        &mut self,
-        worker: usize,
-        number: usize,
-        turn: Turn,
-        count: u64,
-        registers: [i64; REGISTERS],
-    ) {
-        let seat = &mut self.head.seats[worker];
-        match turn {
-            Turn::Goes { place } => {
-                seat.place = place;
-                seat.count = count;
-                seat.registers = registers;
-            }
-            Turn::Ends(outcome) => {
-                *seat = Seat::default();
-                let status = &mut self.status[number * STATUS_WORDS..];
-                status[0] = FINISHED;
-                status[1] = outcome.number().into();
-                status[2] = count;
-            }
-        }
+    /// The registers of a worker's frame.
+    fn registers(&self, worker: usize) -> [i64; REGISTERS] {
+        std::array::from_fn(|register| self.frame(worker)[register])
+    }
+
+    /// The call's receipt; the worker is free. Its seat and its frame are left.
+    fn finish(&mut self, worker: usize, number: usize, outcome: Outcome, count: u64) {
+        let status = &mut self.status[number * STATUS_WORDS..];
+        status[0] = FINISHED;
+        status[1] = outcome.number().into();
+        status[2] = count;
+        self.head.held[worker] = 0;
     }
 
     /// The cell that a call uses: the first of its entries with that key. 20 if

@@ -12,7 +12,7 @@ pub mod sheets;
 pub mod stream;
 pub mod titled;
 
-use crate::lent::{open, Run, Sizes};
+use crate::lent::{open, Run, Sizes, BUFFERS};
 use crate::machine::Move;
 use crate::refusal::{BlockRefusal, MoveRefusal, SheetRefusal};
 
@@ -33,37 +33,43 @@ pub enum Buffer {
     Keys = 1,
     Cells = 2,
     Status = 3,
-    Olds = 4,
+    Seats = 4,
+    Frames = 5,
 }
 
-/// A number of the head, by its number in the stream.
+impl Buffer {
+    /// All buffers in their order.
+    pub const ALL: [Buffer; BUFFERS] = [
+        Buffer::Plan,
+        Buffer::Keys,
+        Buffer::Cells,
+        Buffer::Status,
+        Buffer::Seats,
+        Buffer::Frames,
+    ];
+}
+
+/// A number of the head; in the stream 0 to 3, and from 4 on what the workers
+/// hold.
 #[derive(Clone, Copy, Debug, PartialEq, Eq)]
 #[allow(missing_docs)]
 pub enum HeadField {
-    Workers = 0,
-    Calls = 1,
-    Cells = 2,
-    First = 3,
+    Workers,
+    Calls,
+    Cells,
+    First,
+    Held(usize),
 }
 
-/// A number of a seat; in the stream 0, 1, 2 and from 3 on the registers.
-#[derive(Clone, Copy, Debug, PartialEq, Eq)]
-#[allow(missing_docs)]
-pub enum SeatField {
-    Call,
-    Place,
-    Count,
-    Register(usize),
-}
-
-impl SeatField {
+impl HeadField {
     /// The field's number in the stream.
     pub fn number(self) -> u64 {
         match self {
-            SeatField::Call => 0,
-            SeatField::Place => 1,
-            SeatField::Count => 2,
-            SeatField::Register(register) => 3 + register as u64,
+            HeadField::Workers => 0,
+            HeadField::Calls => 1,
+            HeadField::Cells => 2,
+            HeadField::First => 3,
+            HeadField::Held(worker) => 4 + worker as u64,
         }
     }
 }
@@ -80,14 +86,8 @@ pub enum Operation {
         index: usize,
         value: u64,
     },
-    /// A number of the head takes a value.
+    /// A number of the head takes a value; what a worker holds its low 16 bits.
     Head { field: HeadField, value: u64 },
-    /// A number of a seat takes a value.
-    Seat {
-        worker: usize,
-        field: SeatField,
-        value: u64,
-    },
     /// The block is lent up to a length from now on.
     Cut { length: usize },
     /// Bytes of the block are written.
@@ -167,11 +167,6 @@ impl Player {
                 value,
             } => self.set_word(buffer, index, value),
             Operation::Head { field, value } => self.set_head(field, value),
-            Operation::Seat {
-                worker,
-                field,
-                value,
-            } => self.set_seat(worker, field, value),
             Operation::Cut { length } => self.lent_block = length,
             Operation::Bytes { at, bytes } => {
                 let kept = self.block.len().saturating_sub(at).min(CHANGED_BYTES);
@@ -208,7 +203,8 @@ impl Player {
         self.run.keys[..lent.keys.len()].copy_from_slice(&lent.keys);
         self.run.cells[..lent.cells.len()].copy_from_slice(&lent.cells);
         self.run.status[..lent.status.len()].copy_from_slice(&lent.status);
-        self.run.olds[..lent.olds.len()].copy_from_slice(&lent.olds);
+        self.run.seats[..lent.seats.len()].copy_from_slice(&lent.seats);
+        self.run.frames[..lent.frames.len()].copy_from_slice(&lent.frames);
         answer
     }
 
@@ -221,7 +217,8 @@ impl Player {
             keys: run.keys[..sizes.keys].to_vec(),
             cells: run.cells[..sizes.cells].to_vec(),
             status: run.status[..sizes.status].to_vec(),
-            olds: run.olds[..sizes.olds].to_vec(),
+            seats: run.seats[..sizes.seats].to_vec(),
+            frames: run.frames[..sizes.frames].to_vec(),
         }
     }
 
@@ -232,7 +229,8 @@ impl Player {
             Buffer::Keys => self.run.keys[index],
             Buffer::Cells => self.run.cells[index] as u64,
             Buffer::Status => self.run.status[index],
-            Buffer::Olds => self.run.olds[index] as u64,
+            Buffer::Seats => self.run.seats[index],
+            Buffer::Frames => self.run.frames[index] as u64,
         }
     }
 
@@ -242,7 +240,8 @@ impl Player {
             Buffer::Keys => self.run.keys[index] = value,
             Buffer::Cells => self.run.cells[index] = value as i64,
             Buffer::Status => self.run.status[index] = value,
-            Buffer::Olds => self.run.olds[index] = value as i64,
+            Buffer::Seats => self.run.seats[index] = value,
+            Buffer::Frames => self.run.frames[index] = value as i64,
         }
     }
 
@@ -254,6 +253,7 @@ impl Player {
             HeadField::Calls => head.calls,
             HeadField::Cells => head.cells,
             HeadField::First => head.first,
+            HeadField::Held(worker) => head.held[worker].into(),
         }
     }
 
@@ -264,27 +264,7 @@ impl Player {
             HeadField::Calls => head.calls = value,
             HeadField::Cells => head.cells = value,
             HeadField::First => head.first = value,
-        }
-    }
-
-    /// The number of a seat.
-    pub fn seat(&self, worker: usize, field: SeatField) -> u64 {
-        let seat = &self.run.head.seats[worker];
-        match field {
-            SeatField::Call => seat.call,
-            SeatField::Place => seat.place,
-            SeatField::Count => seat.count,
-            SeatField::Register(register) => seat.registers[register] as u64,
-        }
-    }
-
-    fn set_seat(&mut self, worker: usize, field: SeatField, value: u64) {
-        let seat = &mut self.run.head.seats[worker];
-        match field {
-            SeatField::Call => seat.call = value,
-            SeatField::Place => seat.place = value,
-            SeatField::Count => seat.count = value,
-            SeatField::Register(register) => seat.registers[register] = value as i64,
+            HeadField::Held(worker) => head.held[worker] = value as u16,
         }
     }
 }

@@ -6,7 +6,7 @@ use super::damage::{repair, target, Aim, Target};
 use super::{Case, Operation, Player, SPARE};
 use crate::generate::draft::{Draft, Shape, CALCULATING, MIXED, PAYING, TOUCHING};
 use crate::generate::{edges, programs};
-use crate::lent::{Sizes, WAITING};
+use crate::lent::{Sizes, BUFFERS, WAITING};
 use crate::limits::{MAX_CALLS, MAX_CALL_KEYS, MAX_WORKERS};
 use crate::machine::Move;
 use crate::refusal::MoveRefusal;
@@ -84,32 +84,26 @@ fn block(rng: &mut Rng, index: usize) -> Vec<u8> {
 
 /// Mostly the fixed sizes; sometimes longer, seldom one too short.
 fn sizes(rng: &mut Rng) -> Sizes {
+    match rng.weighted(&[70, 24, 6]) {
+        0 => Sizes::FIXED,
+        1 => longer(rng),
+        _ => one_short(rng),
+    }
+}
+
+/// The fixed sizes, each with some words more.
+pub(super) fn longer(rng: &mut Rng) -> Sizes {
     let mut sizes = Sizes::FIXED;
-    let [plan, keys, cells, status, olds] = match rng.weighted(&[70, 24, 6]) {
-        0 => return sizes,
-        1 => std::array::from_fn(|_| rng.below(SPARE + 1)),
-        _ => {
-            let short = rng.below(5);
-            return one_short(sizes, short);
-        }
-    };
-    sizes.plan += plan;
-    sizes.keys += keys;
-    sizes.cells += cells;
-    sizes.status += status;
-    sizes.olds += olds;
+    for size in sizes.each_mut() {
+        *size += rng.below(SPARE + 1);
+    }
     sizes
 }
 
-/// The sizes with one of them one less.
-pub(super) fn one_short(mut sizes: Sizes, short: usize) -> Sizes {
-    match short {
-        0 => sizes.plan -= 1,
-        1 => sizes.keys -= 1,
-        2 => sizes.cells -= 1,
-        3 => sizes.status -= 1,
-        _ => sizes.olds -= 1,
-    }
+/// The fixed sizes with one of them one less.
+pub(super) fn one_short(rng: &mut Rng) -> Sizes {
+    let mut sizes = Sizes::FIXED;
+    *sizes.each_mut()[rng.below(BUFFERS)] -= 1;
     sizes
 }
 
@@ -233,8 +227,8 @@ impl Writer<'_> {
         let (worker, call) = match chosen {
             Move::Begin { worker, call } => (worker, call),
             Move::Step { worker } | Move::Cancel { worker } => {
-                let held = self.player.run.head.seats.get(worker)?.call;
-                (worker, usize::try_from(held.checked_sub(1)?).ok()?)
+                let held = self.player.run.head.held.get(worker)?;
+                (worker, usize::from(held.checked_sub(1)?))
             }
         };
         if call >= MAX_CALLS {
@@ -253,7 +247,7 @@ impl Writer<'_> {
         let head = &self.player.run.head;
         let workers = head.workers.clamp(1, MAX_WORKERS as u64) as usize;
         let busy: Vec<usize> = (0..workers)
-            .filter(|worker| head.seats[*worker].call != 0)
+            .filter(|worker| head.held[*worker] != 0)
             .collect();
         for _ in 0..ATTEMPTS {
             let worker = if !busy.is_empty() && rng.chance(60) {
@@ -261,7 +255,7 @@ impl Writer<'_> {
             } else {
                 rng.below(workers)
             };
-            let chosen = if head.seats[worker].call == 0 {
+            let chosen = if head.held[worker] == 0 {
                 match self.waiting_call(rng) {
                     Some(call) => Move::Begin { worker, call },
                     None => continue,
@@ -314,7 +308,7 @@ impl Writer<'_> {
     fn eager_begin(&self, rng: &mut Rng) -> Option<Move> {
         let head = &self.player.run.head;
         let workers = head.workers.min(MAX_WORKERS as u64) as usize;
-        let worker = (0..workers).find(|worker| head.seats[*worker].call == 0)?;
+        let worker = (0..workers).find(|worker| head.held[*worker] == 0)?;
         let call = self.waiting_call(rng)?;
         Some(Move::Begin { worker, call })
     }

@@ -6,6 +6,7 @@
 use std::iter::once;
 
 use super::damage::{repair, Aim, Target, OF_BEGIN, OF_STEP};
+use super::moves::longer;
 use super::{Case, HeadField, Operation, Player};
 use crate::assemble::assemble;
 use crate::generate::draft::{Draft, CALCULATING, MIXED, PAYING, TOUCHING};
@@ -22,6 +23,8 @@ const WORKERS: usize = 3;
 const MOST_MOVES: usize = 8;
 /// Of so many cases one has no damage.
 const GOOD: usize = 6;
+/// Of so many cases one has longer buffers.
+const LONG: usize = 3;
 
 /// The cases of a seed.
 pub fn cases(seed: u64, count: usize) -> Vec<Case> {
@@ -57,6 +60,7 @@ fn longest() -> Case {
 
 fn case(rng: &mut Rng, index: usize) -> Case {
     let (block, mut player) = opened(rng, index);
+    let sizes = player.sizes;
     let mut operations = Vec::new();
     let mut play = |player: &mut Player, operation| {
         operations.push(operation);
@@ -80,18 +84,22 @@ fn case(rng: &mut Rng, index: usize) -> Case {
     play(&mut player, Operation::Serial);
     Case {
         block,
-        sizes: Sizes::FIXED,
+        sizes,
         workers: MAX_WORKERS,
         operations,
     }
 }
 
-/// A block that is accepted and has a call.
+/// A block that is accepted and has a call; sometimes in longer buffers.
 fn opened(rng: &mut Rng, index: usize) -> (Vec<u8>, Player) {
     let shape = [PAYING, MIXED, TOUCHING, CALCULATING][index % 4];
+    let sizes = match index % LONG {
+        0 => longer(rng),
+        _ => Sizes::FIXED,
+    };
     loop {
         let block = Draft::random(rng, shape).bytes();
-        let (opened, player) = Player::open(&block, MAX_WORKERS, Sizes::FIXED);
+        let (opened, player) = Player::open(&block, MAX_WORKERS, sizes);
         if opened.is_ok() && player.run.head.calls > 0 {
             return (block, player);
         }
@@ -102,7 +110,7 @@ fn opened(rng: &mut Rng, index: usize) -> (Vec<u8>, Player) {
 fn some_move(rng: &mut Rng, player: &Player) -> Move {
     let head = &player.run.head;
     let worker = rng.below(WORKERS);
-    if head.seats[worker].call == 0 {
+    if head.held[worker] == 0 {
         let call = rng.below(head.calls as usize);
         return Move::Begin { worker, call };
     }

@@ -2,10 +2,12 @@
 //! it is, and of the run with one or two damages, each with several outputs.
 
 use super::damage::repair;
-use super::moves::one_short;
+use super::moves::{longer, one_short};
 use super::{Buffer, Case, HeadField, Operation, Player};
 use crate::generate::draft::{Draft, MIXED, PAYING, TOUCHING};
-use crate::lent::{Run, Sizes, FINISHED, KEY_WORDS, RUNNING, STATUS_WORDS, WAITING};
+use crate::lent::{
+    Run, Sizes, FINISHED, FRAME_VALUES, KEY_WORDS, RUNNING, SEAT_WORDS, STATUS_WORDS, WAITING,
+};
 use crate::limits::{
     BALANCE_FIELD, CELL_BYTES, HEAD_BYTES, MAX_CALLS, MAX_INSTRUCTIONS, MAX_KEYS, MAX_WORKERS,
     RECEIPT_BYTES,
@@ -15,8 +17,11 @@ use crate::rng::Rng;
 
 /// Most moves of a case.
 const MOST_MOVES: usize = 60;
+/// Of so many cases one has longer buffers.
+const LONG: usize = 3;
 
-/// What is damaged before a sheet.
+/// What is damaged before a sheet; `Worker` is what a worker holds, its seat or
+/// its frame, which the sheet does not use.
 #[derive(Clone, Copy, Debug, PartialEq, Eq, PartialOrd, Ord)]
 #[allow(missing_docs)]
 pub enum Target {
@@ -29,10 +34,11 @@ pub enum Target {
     Key,
     Outcome,
     Count,
+    Worker,
 }
 
 /// All of them.
-pub const TARGETS: [Target; 9] = [
+pub const TARGETS: [Target; 10] = [
     Target::Size,
     Target::Calls,
     Target::State,
@@ -42,6 +48,7 @@ pub const TARGETS: [Target; 9] = [
     Target::Key,
     Target::Outcome,
     Target::Count,
+    Target::Worker,
 ];
 
 /// The cases of a seed.
@@ -52,6 +59,7 @@ pub fn cases(seed: u64, count: usize) -> Vec<Case> {
 
 fn case(rng: &mut Rng, index: usize) -> Case {
     let (block, mut player, mut operations) = finished(rng, index);
+    let sizes = player.sizes;
     ask(&mut operations, &player);
     for target in TARGETS {
         let other = rng.pick(&TARGETS);
@@ -61,7 +69,7 @@ fn case(rng: &mut Rng, index: usize) -> Case {
     ask(&mut operations, &player);
     Case {
         block,
-        sizes: Sizes::FIXED,
+        sizes,
         workers: MAX_WORKERS,
         operations,
     }
@@ -90,12 +98,16 @@ fn damaged(
 }
 
 /// A block that is accepted and has some calls, its run with all calls finished,
-/// and the moves that led there.
+/// sometimes in longer buffers, and the moves that led there.
 fn finished(rng: &mut Rng, index: usize) -> (Vec<u8>, Player, Vec<Operation>) {
     let shape = [PAYING, MIXED, TOUCHING, PAYING][index % 4];
+    let sizes = match index % LONG {
+        0 => longer(rng),
+        _ => Sizes::FIXED,
+    };
     loop {
         let block = Draft::random(rng, shape).bytes();
-        let (opened, player) = Player::open(&block, MAX_WORKERS, Sizes::FIXED);
+        let (opened, player) = Player::open(&block, MAX_WORKERS, sizes);
         if opened.is_err() || player.run.head.calls < 2 {
             continue;
         }
@@ -150,7 +162,7 @@ fn damage(rng: &mut Rng, run: &Run, target: Target) -> Option<Operation> {
     };
     Some(match target {
         Target::Size => Operation::Lend {
-            sizes: one_short(Sizes::FIXED, rng.below(5)),
+            sizes: one_short(rng),
         },
         Target::Calls => Operation::Head {
             field: HeadField::Calls,
@@ -192,7 +204,32 @@ fn damage(rng: &mut Rng, run: &Run, target: Target) -> Option<Operation> {
             let most = MAX_INSTRUCTIONS as u64;
             status(2, rng.pick(&[most, most + 1, most + 1, 65_536, u64::MAX]))
         }
+        Target::Worker => of_worker(rng),
     })
+}
+
+/// A worker holds a call, or a word of its seat or its frame takes a value.
+fn of_worker(rng: &mut Rng) -> Operation {
+    let worker = rng.below(MAX_WORKERS);
+    let value = rng.pick(&[1, 257, 65_535, u64::MAX]);
+    let (buffer, index) = match rng.below(3) {
+        0 => {
+            return Operation::Head {
+                field: HeadField::Held(worker),
+                value: value.min(u16::MAX.into()),
+            }
+        }
+        1 => (Buffer::Seats, worker * SEAT_WORDS + rng.below(SEAT_WORDS)),
+        _ => (
+            Buffer::Frames,
+            worker * FRAME_VALUES + rng.below(FRAME_VALUES),
+        ),
+    };
+    Operation::Word {
+        buffer,
+        index,
+        value,
+    }
 }
 
 /// A cell of the run that is a balance, or that is none.

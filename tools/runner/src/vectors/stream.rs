@@ -8,20 +8,19 @@
 //! | 0 | offset, 8 bytes, 8 bytes | writes 16 bytes into the block's buffer |
 //! | 1 | length | the block is lent up to this length |
 //! | 2 | plan, keys, cells | these buffers are lent up to these lengths |
-//! | 3 | status, olds | likewise |
+//! | 3 | status, seats, frames | likewise |
 //! | 4 | workers | opens the block; a line `o NUMBER OFFSET HASH` |
 //! | 5 | worker, call | BEGIN; a line `m ANSWER HASH` |
 //! | 6 | worker | STEP; the same |
 //! | 7 | worker | CANCEL; the same |
-//! | 8 | buffer, index, value | sets a word: buffers 0 plan, 1 keys, 2 cells, 3 status, 4 olds |
-//! | 9 | field, value | sets a number of the head: 0 workers, 1 calls, 2 cells, 3 first |
-//! | 10 | worker, field, value | sets a number of a seat: 0 call, 1 place, 2 count, from 3 on a register |
+//! | 8 | buffer, index, value | sets a word: buffers 0 plan, 1 keys, 2 cells, 3 status, 4 seats, 5 frames |
+//! | 9 | field, value | sets a number of the head: 0 workers, 1 calls, 2 cells, 3 first, from 4 on what a worker holds, the value's low 16 bits |
 //! | 11 | length | the closing sheet, with an output of this length whose bytes are 7; a line `c ANSWER LENGTH HASH` |
 //! | 12 | | the serial run, on the run as it stands; a line `s HASH` |
 //!
-//! A signed value is its 64 bits. NUMBER and ANSWER are 0 if nothing is refused,
-//! and LENGTH, the sheet's, is 0 if it is. HASH is the hash of the run as it is
-//! lent then; of a sheet it is that of the output's bytes.
+//! There is no kind 10. A signed value is its 64 bits. NUMBER and ANSWER are 0 if
+//! nothing is refused, and LENGTH, the sheet's, is 0 if it is. HASH is the hash of
+//! the run as it is lent then; of a sheet it is that of the output's bytes.
 
 use std::fmt::Write;
 
@@ -41,7 +40,6 @@ mod kind {
     pub const CANCEL: u64 = 7;
     pub const WORD: u64 = 8;
     pub const HEAD: u64 = 9;
-    pub const SEAT: u64 = 10;
     pub const SHEET: u64 = 11;
     pub const SERIAL: u64 = 12;
 }
@@ -129,10 +127,9 @@ fn push_bytes(out: &mut Vec<u8>, at: usize, bytes: [u8; 16]) {
 }
 
 fn push_sizes(out: &mut Vec<u8>, sizes: Sizes) {
-    let [plan, keys, cells] = [sizes.plan, sizes.keys, sizes.cells].map(|size| size as u64);
-    let [status, olds] = [sizes.status, sizes.olds].map(|size| size as u64);
+    let [plan, keys, cells, status, seats, frames] = sizes.each().map(|size| size as u64);
     push(out, [kind::LENGTHS, plan, keys, cells]);
-    push(out, [kind::MORE_LENGTHS, status, olds, 0]);
+    push(out, [kind::MORE_LENGTHS, status, seats, frames]);
 }
 
 fn push_operation(out: &mut Vec<u8>, operation: Operation) {
@@ -143,12 +140,7 @@ fn push_operation(out: &mut Vec<u8>, operation: Operation) {
             index,
             value,
         } => push(out, [kind::WORD, buffer as u64, index as u64, value]),
-        Operation::Head { field, value } => push(out, [kind::HEAD, field as u64, value, 0]),
-        Operation::Seat {
-            worker,
-            field,
-            value,
-        } => push(out, [kind::SEAT, worker as u64, field.number(), value]),
+        Operation::Head { field, value } => push(out, [kind::HEAD, field.number(), value, 0]),
         Operation::Cut { length } => push(out, [kind::BLOCK, length as u64, 0, 0]),
         Operation::Bytes { at, bytes } => push_bytes(out, at, bytes),
         Operation::Lend { sizes } => push_sizes(out, sizes),

@@ -7,7 +7,6 @@ use std::process::Command;
 use std::sync::OnceLock;
 
 use runner::console::lines;
-use runner::examples::EXAMPLES;
 use runner::limits::MAX_WORKERS;
 use runner::machine::open;
 use runner::vectors::edges::cases;

@@ -101,8 +101,14 @@ fn the_sheet_of_a_lent_run() {
 
 #[test]
 fn what_a_sheet_tests_and_in_which_order() {
-    let damages: [Damage; 18] = [
-        (|run| run.olds.truncate(191), 20, 20),
+    let damages: [Damage; 24] = [
+        (|run| run.seats.truncate(127), 20, 20),
+        (|run| run.frames.truncate(255), 20, 20),
+        (|run| run.seats.push(1), 0, 28),
+        (|run| run.frames.push(1), 0, 28),
+        (|run| run.head.held = [u16::MAX; 8], 0, 28),
+        (|run| run.seats.fill(u64::MAX), 0, 28),
+        (|run| run.frames.fill(i64::MIN), 0, 28),
         (|run| run.head.calls = 257, 20, 20),
         (|run| run.status[0] = 3, 20, 20),
         (|run| run.status[0] = 1, 27, 27),

@@ -10,7 +10,7 @@ use runner::vectors::moves::cases;
 use runner::vectors::serial;
 use runner::vectors::sheets;
 use runner::vectors::stream::{hash, input, output};
-use runner::vectors::{answers, Answer, Left, Operation, Player};
+use runner::vectors::{answers, Answer, HeadField, Left, Operation, Player};
 
 /// As many cases as the stored file has.
 const COUNT: usize = 400;
@@ -44,14 +44,20 @@ const RUNS: [(Outcome, usize); 3] = [
 ];
 /// How often each damage is answered 20, and not, at least.
 const LEAST: usize = 2;
-/// Damages that STEP, or any move, never answers with 20 if they stand alone.
-const HARMLESS: [Target; 5] = [
+/// Damages that a move never answers with 20 if they stand alone.
+const HARMLESS: [Target; 9] = [
     Target::Cells,
-    Target::State,
     Target::Row,
     Target::Old,
+    Target::Behind,
     Target::Register,
+    Target::Room,
+    Target::Length,
+    Target::Beyond,
+    Target::State,
 ];
+/// Those of a move that is no step.
+const HARMLESS_BUT_TO_STEPS: [Target; 2] = [Target::Place, Target::Count];
 
 #[test]
 fn all_answers_are_well_covered() {
@@ -212,7 +218,11 @@ fn every_target_is_met_by_every_move_that_uses_it() {
     for (name, targets) in lists {
         for target in targets {
             let counts = damaged.get(&(name, *target)).copied().unwrap_or(0);
-            let harmless = HARMLESS.contains(target) && (name, *target) != ("begin", Target::State);
+            let harmless = match name {
+                "begin" if *target == Target::State => false,
+                "step" => HARMLESS.contains(target),
+                _ => HARMLESS.contains(target) || HARMLESS_BUT_TO_STEPS.contains(target),
+            };
             assert!(harmless || counts >= LEAST, "{name} {target:?} {counts}");
             let counts = passed.get(&(name, *target)).copied().unwrap_or(0);
             let size = *target == Target::Size;
@@ -252,13 +262,34 @@ fn the_hash_sees_every_word() {
     let sizes = runner::lent::Sizes::FIXED;
     let zero = Run::zero(sizes);
     let mut run = zero.clone();
-    run.head.seats[7].registers[7] = -1;
+    run.head.held[7] = 1;
     assert_ne!(hash(&run), hash(&zero));
     let mut run = zero.clone();
-    run.olds[191] = 1;
+    run.seats[127] = 1;
+    assert_ne!(hash(&run), hash(&zero));
+    let mut run = zero.clone();
+    run.frames[255] = -1;
     assert_ne!(hash(&run), hash(&zero));
     assert_eq!(
         run.words().count(),
-        4 + 8 * 11 + 8192 + 2048 + 1024 + 1024 + 192
+        4 + 8 + 8192 + 2048 + 1024 + 1024 + 128 + 256
     );
+}
+
+#[test]
+fn held_takes_the_low_16_bits() {
+    let (_, mut player) = Player::open(&[], 1, runner::lent::Sizes::FIXED);
+    let field = HeadField::Held(3);
+    for (value, held) in [
+        (256, 256),
+        (65_535, 65_535),
+        (65_536, 0),
+        (u64::MAX, 65_535),
+    ] {
+        player.play(Operation::Head { field, value });
+        assert_eq!(
+            (player.run.head.held[3], player.head(field)),
+            (held, held.into())
+        );
+    }
 }

@@ -1,6 +1,6 @@
 -- `analysis::gather::uses_at` meets its contract: what decodes has the uses of its accesses, and what does not decode has none.
 use borrow.Author.Needs.{needs}
-use Rattle.footprint.specs.Uses.{usesOf}
+use mathlib.Core.Path.{_∙_}
 use Rattle.analysis.proofs.GatherLaws.{uses-valid, uses-invalid}
 use Rattle.analysis.proofs.gather.uses_at.Statement.{statement}
 use Rattle.analysis.proofs.gather.uses_at.Tie as tie
@@ -20,6 +20,9 @@ instr-uses-requires c κs = search needs
 enum-told : tie.Need-enum-told
 enum-told c = search needs
 
+no-uses-requires : tie.Need-no-uses-requires
+no-uses-requires c κs = search needs
+
 returns : tie.Need-returns
 returns c =
     let c6 = c .before .before .before .before .before .before in
@@ -27,10 +30,9 @@ returns c =
     uses-valid (a .c) (c .before .before .before .before .decode .ensures) (c .before .before .i .given .1) (c .instr-uses .ensures)
 
 returns-2 : tie.Need-returns-2
-unfolding usesOf
 returns-2 c =
-    let a = c .before .before .before .before .args in
-    uses-invalid (a .c) (c .before .before .decode .ensures) (c .enum-told .given .1)
+    let a = c .before .before .before .before .before .args in
+    c .no-uses .ensures ∙ uses-invalid (a .c) (c .before .before .before .decode .ensures) (c .before .enum-told .given .1)
 
 pub uses-at-spec : {M : Type 1} → statement M
 uses-at-spec =
@@ -41,5 +43,6 @@ uses-at-spec =
     enum-known-i
     instr-uses-requires
     enum-told
+    no-uses-requires
     returns
     returns-2)

@@ -2,9 +2,9 @@
 use borrow.Author.Needs.{needs}
 use native.Mathlib.Omega.{arith}
 use Prim.Native.Nat.{_-_}
-use mathlib.Core.Path.{_≡_}
+use mathlib.Core.Path.{_≡_, refl}
 use lib.ListN.{length}
-use Rattle.analysis.proofs.PlanLoops.{StoredTo, stored-none, stored-more, stored-all, stored-kept}
+use Rattle.wire.proofs.StoringLaws.{StoredTo, stored-none, stored-more, stored-all, stored-kept}
 use Rattle.analysis.proofs.plan.put_entries.Statement.{statement}
 use Rattle.analysis.proofs.plan.put_entries.Tie as tie
 
@@ -34,7 +34,7 @@ mul-plan-2 : tie.Need-mul-plan-2 Inv-loop μ-loop
 mul-plan-2 c = omega arith
 
 slice-write-plan : tie.Need-slice-write-plan Inv-loop μ-loop
-slice-write-plan c = omega (arith, stored-kept _ _ _ _ _ (c .before .loop .inv))
+slice-write-plan c = omega (arith, stored-kept _ _ _ _ (c .before .loop .inv))
 
 add-k : tie.Need-add-k Inv-loop μ-loop
 add-k c = omega arith
@@ -43,13 +43,13 @@ loop-less : tie.Need-loop-less Inv-loop μ-loop
 loop-less c = omega arith
 
 loop-again : tie.Need-loop-again Inv-loop μ-loop
-loop-again c = stored-more _ _ _ _ _ (c .before .loop .inv) (omega (arith, full (c .before .before)))
+loop-again c = stored-more _ _ _ _ (c .before .loop .inv) (omega (arith, full (c .before .before))) 0 refl refl
 
 same-length : tie.Need-same-length Inv-loop μ-loop
-same-length c = stored-kept _ _ _ _ _ (c .before .loop .inv)
+same-length c = stored-kept _ _ _ _ (c .before .loop .inv)
 
 returns : tie.Need-returns Inv-loop μ-loop
-returns c = stored-all _ _ _ _ _ (c .before .loop .inv) (omega (arith, full (c .before .before)))
+returns c = stored-all _ _ _ _ (c .before .loop .inv) (omega (arith, full (c .before .before)))
 
 pub put-entries-spec : {M : Type 1} → statement M
 put-entries-spec =

@@ -24,12 +24,12 @@ returns c =
     simp (value-test (c8 .args .c .value) (c6 .struct-told .given .1 .1 .1 .0 .1) (c .before .before .before .before .before .if1 .taken))
     (c .two .ensures ∙ (λ i. record { count = 2; first = c .before .before .balance-use .ensures i; second = c .before .balance-use2 .ensures i }))
 
-none-requires : tie.Need-none-requires
-none-requires c κs = search needs
+no-uses-requires : tie.Need-no-uses-requires
+no-uses-requires c κs = search needs
 
 returns-2 : tie.Need-returns-2
 unfolding usesOf entryAccesses
-returns-2 c = simp (value-test (c .before .before .before .before .args .c .value) (c .before .before .struct-told .given .1 .1 .1 .0 .1) (c .before .if1 .left)) (c .none .ensures)
+returns-2 c = simp (value-test (c .before .before .before .before .args .c .value) (c .before .before .struct-told .given .1 .1 .1 .0 .1) (c .before .if1 .left)) (c .no-uses .ensures)
 
 pub entry-uses-spec : {M : Type 1} → statement M
 entry-uses-spec =
@@ -39,5 +39,5 @@ entry-uses-spec =
     balance-use-requires-2
     two-requires
     returns
-    none-requires
+    no-uses-requires
     returns-2)

@@ -48,8 +48,8 @@ payee-of-requires c κs = search needs
 pay-uses-requires : tie.Need-pay-uses-requires
 pay-uses-requires c κs = search needs
 
-none-requires : tie.Need-none-requires
-none-requires c κs = search needs
+no-uses-requires : tie.Need-no-uses-requires
+no-uses-requires c κs = search needs
 
 returns : tie.Need-returns
 unfolding usesOf accesses
@@ -74,7 +74,9 @@ returns-4 c =
 
 returns-5 : tie.Need-returns-5
 unfolding usesOf
-returns-5 c = c .none .ensures ∙ sym (ap usesOf (others-none (c .before .before .before .args .c) (c .before .before .before .args .i) (c .before .match .keys5)))
+returns-5 c =
+    let a = c .before .before .before .args in
+    c .no-uses .ensures ∙ sym (ap usesOf (others-none (a .c) (a .i) (c .before .match .keys5)))
 
 pub instr-uses-spec : {M : Type 1} → statement M
 instr-uses-spec =
@@ -93,7 +95,7 @@ instr-uses-spec =
     source-value-requires
     payee-of-requires
     pay-uses-requires
-    none-requires
+    no-uses-requires
     returns
     returns-2
     returns-3

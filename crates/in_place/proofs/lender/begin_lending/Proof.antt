@@ -21,9 +21,9 @@ use Rattle.in_place.proofs.lender.begin_lending.Statement as stated
 use Rattle.in_place.proofs.lender.begin_lending.Code as code
 
 -- the parameters behind the head
-abbrev passed : (κs : Lfts 5) → AllOn (typesAt (behindHead (begin-lending.signature .params)) κs)
+abbrev passed : (κs : Lfts 6) → AllOn (typesAt (behindHead (begin-lending.signature .params)) κs)
 passed κs =
-    (shared (named 0) (κs .0) u64, (shared (named 1) (κs .1 .0) u64, (shared (named 2) (κs .1 .1 .0) i64, (lentSlice (named 3) (κs .1 .1 .1 .0) u64, (lentSlice (named 4) (κs .1 .1 .1 .1 .0) i64, (word, (word, tt)))))))
+    (shared (named 0) (κs .0) u64, (shared (named 1) (κs .1 .0) u64, (shared (named 2) (κs .1 .1 .0) i64, (lentSlice (named 3) (κs .1 .1 .1 .0) u64, (lentSlice (named 4) (κs .1 .1 .1 .1 .0) u64, (lentSlice (named 5) (κs .1 .1 .1 .1 .1 .0) i64, (word, (word, tt))))))))
 
 pub begin-lending-spec : {M : Type 1} → stated.statement M
 unfolding code.routine

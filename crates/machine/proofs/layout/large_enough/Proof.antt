@@ -1,4 +1,4 @@
--- `machine::layout::large_enough` meets its contract: the five tests are the definition's.
+-- `machine::layout::large_enough` meets its contract: the six tests are the definition's.
 use mathlib.Core.Path.{refl}
 use Rattle.footprint.specs.Plan.{roomEnough}
 use Rattle.machine.specs.Run.{largeEnough}

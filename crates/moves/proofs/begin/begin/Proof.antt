@@ -1,10 +1,9 @@
 -- `moves::begin::begin` meets its contract: the tests of the worker and of the head answer, or the call's tests and the change do.
 use borrow.Author.Needs.{needs}
 use native.Mathlib.Omega.{arith}
-use mathlib.Core.Path.{sym, _∙_}
-use lib.ListN.{length-map}
-use Rattle.moves.proofs.HeldLaws.{large-plan, passed-large, passed-worker, seat-read}
-use Rattle.moves.proofs.BeginLaws.{behind-stop, behind-on, begin-refused, begin-seated, head-passed}
+use mathlib.Core.Path.{refl, sym, _∙_}
+use Rattle.moves.proofs.HeldLaws.{large-plan, large-frames, passed-large, passed-worker}
+use Rattle.moves.proofs.BeginLaws.{behind-stop, behind-on, begin-refused, begin-headed, head-passed}
 use Rattle.moves.proofs.begin.begin.Statement.{statement}
 use Rattle.moves.proofs.begin.begin.Tie as tie
 
@@ -19,18 +18,21 @@ enum-known-answer c = search needs
 
 returns : tie.Need-returns
 returns c =
-    let c8 = c .before .before .before .before .before .before .before .before in
-    let a = c8 .args in
-    begin-refused (a .head) (a .worker) (a .call) (a .plan .now) (a .keys .now) (a .status .now) (a .cells .now) (a .saved .now) (c .before .before .before .before .large-enough .ensures) (c .before .before .before .worker-tested .ensures) (c .before .answer .given .1)
+    let c9 = c .before .before .before .before .before .before .before .before .before in
+    let a = c9 .args in
+    begin-refused (a .head) (a .worker) (a .call) (a .plan .now) (a .keys .now) (a .status .now) (a .cells .now) (a .seats .now) (a .frames .now) (c .before .before .before .before .large-enough .ensures) (c .before .before .before .worker-tested .ensures) (c .before .answer .given .1)
 
 enum-told : tie.Need-enum-told
 enum-told c = search needs
 
-mul-seat : tie.Need-mul-seat
-mul-seat c = omega (arith, passed-worker _ _ _ (sym (c .enum-told .given .1) ∙ c .before .before .worker-tested .ensures))
+mul-held : tie.Need-mul-held
+mul-held c = omega (arith, passed-worker _ _ _ (sym (c .enum-told .given .1) ∙ c .before .before .worker-tested .ensures))
 
-element-copy-out-seat : tie.Need-element-copy-out-seat
-element-copy-out-seat c = passed-worker _ _ _ (sym (c .enum-told .given .1) ∙ c .before .before .worker-tested .ensures)
+element-copy-out-held : tie.Need-element-copy-out-held
+element-copy-out-held c = passed-worker _ _ _ (sym (c .enum-told .given .1) ∙ c .before .before .worker-tested .ensures)
+
+cast-head-tested : tie.Need-cast-head-tested
+cast-head-tested c = search needs
 
 head-tested-requires : tie.Need-head-tested-requires
 head-tested-requires c κs = search needs
@@ -40,38 +42,36 @@ enum-known-answer-2 c = search needs
 
 returns-2 : tie.Need-returns-2
 returns-2 c =
-    let e = c .before .before .before .before .before in
-    let t = e .before .before in
-    let s = t .before .before .before .before .before in
-    let a = s .args in
-    let own = seat-read (a .head) (a .worker) _ (sym (length-map (a .head .seats) _) ∙ s .good .0 .1 .1 .1 .1 .1 .1 .0 .1 .0 .1) (passed-worker _ _ _ (sym (e .enum-told .given .1) ∙ t .worker-tested .ensures)) in
+    let c7 = c .before .before .before .before .before .before .before in
+    let c8 = c7 .before in
+    let c13 = c8 .before .before .before .before .before in
+    let a = c13 .args in
     behind-stop _ _ (c .before .answer2 .given .1)
-    (begin-seated (a .head) (a .worker) (a .call) (a .plan .now) (a .keys .now) (a .status .now) (a .cells .now) (a .saved .now) (t .before .large-enough .ensures) (t .worker-tested .ensures) (e .enum-told .given .1) own (c .before .before .before .head-tested .ensures))
+    (begin-headed (a .head) (a .worker) (a .call) (a .plan .now) (a .keys .now) (a .status .now) (a .cells .now) (a .seats .now) (a .frames .now) (c8 .large-enough .ensures) (c7 .worker-tested .ensures) (c .before .before .before .before .before .enum-told .given .1) refl (c .before .before .before .head-tested .ensures))
 
 enum-told-2 : tie.Need-enum-told-2
 enum-told-2 c = search needs
 
 begin-call-requires : tie.Need-begin-call-requires
 begin-call-requires c κs =
-    let c6 = c .before .before .before .before .before .before in
-    let e = c6 in
-    let t = e .before .before in
-    let passed = sym (e .enum-told .given .1) ∙ t .worker-tested .ensures in
-    (head-passed _ _ _ (c .before .before .before .before .head-tested .ensures) (c .before .before .enum-told2 .given .1), (passed-worker _ _ _ passed, large-plan _ (sym (passed-large _ _ _ passed) ∙ t .before .large-enough .ensures)))
+    let c7 = c .before .before .before .before .before .before .before in
+    let c9 = c7 .before .before in
+    let c10 = c9 .before in
+    let passed = sym (c7 .enum-told .given .1) ∙ c9 .worker-tested .ensures in
+    let large = sym (passed-large _ _ _ passed) ∙ c10 .large-enough .ensures in
+    (head-passed _ _ _ (c .before .before .before .before .before .head-tested .ensures) (c .before .before .before .enum-told2 .given .1), (passed-worker _ _ _ passed, (large-plan _ large, large-frames _ large)))
 
-mul-seat-2 : tie.Need-mul-seat-2
-mul-seat-2 c =
-    let c11 = c .before .before .before .before .before .before .before .before .before .before .before in
-    let e = c11 in
-    let t = e .before .before in
-    omega (arith, passed-worker _ _ _ (sym (e .enum-told .given .1) ∙ t .worker-tested .ensures))
+mul-next : tie.Need-mul-next
+mul-next c =
+    let c13 = c .before .before .before .before .before .before .before .before .before .before .before .before .before in
+    let c15 = c13 .before .before in
+    omega (arith, passed-worker _ _ _ (sym (c13 .enum-told .given .1) ∙ c15 .worker-tested .ensures))
 
-element-set-from-seat : tie.Need-element-set-from-seat
-element-set-from-seat c =
-    let c11 = c .before .before .before .before .before .before .before .before .before .before .before in
-    let e = c11 in
-    let t = e .before .before in
-    passed-worker _ _ _ (sym (e .enum-told .given .1) ∙ t .worker-tested .ensures)
+element-write-next : tie.Need-element-write-next
+element-write-next c =
+    let c13 = c .before .before .before .before .before .before .before .before .before .before .before .before .before in
+    let c15 = c13 .before .before in
+    passed-worker _ _ _ (sym (c13 .enum-told .given .1) ∙ c15 .worker-tested .ensures)
 
 same-length : tie.Need-same-length
 same-length c = search needs
@@ -79,19 +79,21 @@ same-length c = search needs
 same-length-2 : tie.Need-same-length-2
 same-length-2 c = search needs
 
+same-length-3 : tie.Need-same-length-3
+same-length-3 c = search needs
+
 returns-3 : tie.Need-returns-3
 returns-3 c =
-    let c7 = c .before .before .before .before .before .before .before in
-    let c9 = c7 .before .before in
+    let c9 = c .before .before .before .before .before .before .before .before .before in
     let c11 = c9 .before .before in
-    let e = c11 in
-    let t = e .before .before in
-    let s = t .before .before .before .before .before in
-    let a = s .args in
-    let own = seat-read (a .head) (a .worker) _ (sym (length-map (a .head .seats) _) ∙ s .good .0 .1 .1 .1 .1 .1 .1 .0 .1 .0 .1) (passed-worker _ _ _ (sym (e .enum-told .given .1) ∙ t .worker-tested .ensures)) in
-    behind-on _ _ (c7 .enum-told2 .given .1)
-    (begin-seated (a .head) (a .worker) (a .call) (a .plan .now) (a .keys .now) (a .status .now) (a .cells .now) (a .saved .now) (t .before .large-enough .ensures) (t .worker-tested .ensures) (e .enum-told .given .1) own (c9 .head-tested .ensures))
-    (c .before .before .before .before .begin-call .ensures (a .head) (a .keys .now) own)
+    let c13 = c11 .before .before in
+    let c15 = c13 .before .before in
+    let c16 = c15 .before in
+    let c21 = c16 .before .before .before .before .before in
+    let a = c21 .args in
+    behind-on _ _ (c9 .enum-told2 .given .1)
+    (begin-headed (a .head) (a .worker) (a .call) (a .plan .now) (a .keys .now) (a .status .now) (a .cells .now) (a .seats .now) (a .frames .now) (c16 .large-enough .ensures) (c15 .worker-tested .ensures) (c13 .enum-told .given .1) refl (c11 .head-tested .ensures))
+    (c .before .before .before .before .before .begin-call .ensures (a .head) (a .keys .now) refl)
 
 pub begin-spec : {M : Type 1} → statement M
 begin-spec =
@@ -102,15 +104,17 @@ begin-spec =
     enum-known-answer
     returns
     enum-told
-    mul-seat
-    element-copy-out-seat
+    mul-held
+    element-copy-out-held
+    cast-head-tested
     head-tested-requires
     enum-known-answer-2
     returns-2
     enum-told-2
     begin-call-requires
-    mul-seat-2
-    element-set-from-seat
+    mul-next
+    element-write-next
     same-length
     same-length-2
+    same-length-3
     returns-3)

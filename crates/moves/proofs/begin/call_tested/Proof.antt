@@ -12,12 +12,12 @@ state-of-requires c κs = search needs
 returns : tie.Need-returns
 returns c =
     let a = c .before .before .before .before .args in
-    (λ h keys cells saved worker. checked-broken h (a .plan .now) keys (a .status .now) cells saved worker (a .call) (c .before .state-of .ensures) (c .if1 .taken), tt)
+    (λ h keys cells seats frames worker. checked-broken h (a .plan .now) keys (a .status .now) cells seats frames worker (a .call) (c .before .state-of .ensures) (c .if1 .taken), tt)
 
 returns-2 : tie.Need-returns-2
 returns-2 c =
     let a = c .before .before .before .before .before .args in
-    (λ h keys cells saved worker. checked-begun h (a .plan .now) keys (a .status .now) cells saved worker (a .call) (c .before .before .state-of .ensures) (c .before .if1 .left) (c .if2 .taken), tt)
+    (λ h keys cells seats frames worker. checked-begun h (a .plan .now) keys (a .status .now) cells seats frames worker (a .call) (c .before .before .state-of .ensures) (c .before .if1 .left) (c .if2 .taken), tt)
 
 row-of-requires : tie.Need-row-of-requires
 row-of-requires c κs = search needs
@@ -45,14 +45,14 @@ returns-3 c =
     let c6 = c .before .before .before .before .before .before in
     let c9 = c6 .before .before .before in
     let a = c9 .args in
-    (λ h keys cells saved worker. waiting-broken h (a .plan .now) keys (a .status .now) cells saved worker (a .call) (c6 .state-of .ensures) (c .before .before .before .before .before .if1 .left) (c .before .before .before .before .if2 .left) (c .before .before .before .row-of .ensures) (c .before .before .earlier .ensures) (c .enum-told .given .1), tt)
+    (λ h keys cells seats frames worker. waiting-broken h (a .plan .now) keys (a .status .now) cells seats frames worker (a .call) (c6 .state-of .ensures) (c .before .before .before .before .before .if1 .left) (c .before .before .before .before .if2 .left) (c .before .before .before .row-of .ensures) (c .before .before .earlier .ensures) (c .enum-told .given .1), tt)
 
 returns-4 : tie.Need-returns-4
 returns-4 c =
     let c6 = c .before .before .before .before .before .before in
     let c9 = c6 .before .before .before in
     let a = c9 .args in
-    (λ h keys cells saved worker. waiting-unfinished h (a .plan .now) keys (a .status .now) cells saved worker (a .call) (c6 .state-of .ensures) (c .before .before .before .before .before .if1 .left) (c .before .before .before .before .if2 .left) (c .before .before .before .row-of .ensures) (c .before .before .earlier .ensures) (c .enum-told2 .given .1), tt)
+    (λ h keys cells seats frames worker. waiting-unfinished h (a .plan .now) keys (a .status .now) cells seats frames worker (a .call) (c6 .state-of .ensures) (c .before .before .before .before .before .if1 .left) (c .before .before .before .before .if2 .left) (c .before .before .before .row-of .ensures) (c .before .before .earlier .ensures) (c .enum-told2 .given .1), tt)
 
 returns-5 : tie.Need-returns-5
 returns-5 c =
@@ -63,7 +63,7 @@ returns-5 c =
     let c12 = c9 .before .before .before in
     let a = c12 .args in
     let r = sym (c .if3 .taken) ∙ c .before .restorable .ensures in
-    (λ h keys cells saved worker. waiting-good h (a .plan .now) keys (a .status .now) cells saved worker (a .call) (c9 .state-of .ensures) (c8 .if1 .left) (c7 .if2 .left) (c6 .row-of .ensures) (c .before .before .before .before .before .earlier .ensures) (c .before .before .before .enum-told3 .given .1) (c .before .before .key-count .ensures) r, few-counted (c .before .before .key-count .ensures) (restorable-few _ _ r))
+    (λ h keys cells seats frames worker. waiting-good h (a .plan .now) keys (a .status .now) cells seats frames worker (a .call) (c9 .state-of .ensures) (c8 .if1 .left) (c7 .if2 .left) (c6 .row-of .ensures) (c .before .before .before .before .before .earlier .ensures) (c .before .before .before .enum-told3 .given .1) (c .before .before .key-count .ensures) r, few-counted (c .before .before .key-count .ensures) (restorable-few _ _ r))
 
 returns-6 : tie.Need-returns-6
 returns-6 c =
@@ -73,7 +73,7 @@ returns-6 c =
     let c9 = c8 .before in
     let c12 = c9 .before .before .before in
     let a = c12 .args in
-    (λ h keys cells saved worker. waiting-damaged h (a .plan .now) keys (a .status .now) cells saved worker (a .call) (c9 .state-of .ensures) (c8 .if1 .left) (c7 .if2 .left) (c6 .row-of .ensures) (c .before .before .before .before .before .earlier .ensures) (c .before .before .before .enum-told3 .given .1) (c .before .before .key-count .ensures) (sym (c .if3 .left) ∙ c .before .restorable .ensures), tt)
+    (λ h keys cells seats frames worker. waiting-damaged h (a .plan .now) keys (a .status .now) cells seats frames worker (a .call) (c9 .state-of .ensures) (c8 .if1 .left) (c7 .if2 .left) (c6 .row-of .ensures) (c .before .before .before .before .before .earlier .ensures) (c .before .before .before .enum-told3 .given .1) (c .before .before .key-count .ensures) (sym (c .if3 .left) ∙ c .before .restorable .ensures), tt)
 
 pub call-tested-spec : {M : Type 1} → statement M
 call-tested-spec =

@@ -1,7 +1,6 @@
--- `moves::cancel::cancel_held` meets its contract: entries that cannot be restored are the only refusal.
+-- `moves::cancel::cancel_held` meets its contract: entries that cannot be used are damage, and else cells and state are those of the definition.
 use borrow.Author.Needs.{needs}
 use borrow.Author.Tests.{not-true, not-false}
-use native.Mathlib.Omega.{arith}
 use mathlib.Core.Path.{sym, _∙_}
 use Rattle.moves.proofs.EntryLaws.{restorable-few}
 use Rattle.moves.proofs.CancelLaws.{cancel-damaged, cancel-done}
@@ -17,23 +16,18 @@ restorable-requires c κs = search needs
 returns : tie.Need-returns
 returns c =
     let a = c .before .before .before .before .before .args in
-    λ head keys own. cancel-damaged head (a .worker) (a .plan .now) keys (a .status .now) (a .cells .now) (a .saved .now) (a .call) (c .before .before .key-count .ensures) own (sym (not-true _ (c .if1 .taken)) ∙ c .before .restorable .ensures)
+    λ head keys seats own. cancel-damaged head (a .worker) (a .plan .now) keys (a .status .now) (a .cells .now) seats (a .frames .now) (a .call) (c .before .before .key-count .ensures) own (sym (not-true _ (c .if1 .taken)) ∙ c .before .restorable .ensures)
 
 restore-requires : tie.Need-restore-requires
 restore-requires c κs =
     let c6 = c .before .before .before .before .before .before in
-    let s = c6 in
-    let few = restorable-few (c .before .before .before .key-count .result) _ (sym (not-false _ (c .before .if1 .left)) ∙ c .before .before .restorable .ensures) in
-    omega (arith, few, s .pre)
+    (c6 .pre .0, (restorable-few _ _ (sym (not-false _ (c .before .if1 .left)) ∙ c .before .before .restorable .ensures), (c6 .pre .1 .0, (c6 .pre .1 .1 .0, c6 .pre .1 .1 .1))))
 
 mul-put-word : tie.Need-mul-put-word
 mul-put-word c = search needs
 
 put-word-requires : tie.Need-put-word-requires
 put-word-requires c κs = search needs
-
-idle-seat-requires : tie.Need-idle-seat-requires
-idle-seat-requires c κs = search needs
 
 same-length : tie.Need-same-length
 same-length c = search needs
@@ -43,14 +37,12 @@ same-length-2 c = search needs
 
 returns-2 : tie.Need-returns-2
 returns-2 c =
-    let c6 = c .before .before .before .before .before .before in
-    let c8 = c6 .before .before in
+    let c7 = c .before .before .before .before .before .before .before in
+    let c8 = c7 .before in
     let c9 = c8 .before in
-    let c13 = c9 .before .before .before .before in
-    let a = c13 .args in
-    let r = c9 in
-    λ head keys own. cancel-done head (a .worker) (a .plan .now) keys (a .status .now) (a .cells .now) (a .saved .now) (a .call) (r .before .key-count .ensures) (sym (not-false _ (c8 .if1 .left)) ∙ r .restorable .ensures)
-    (c6 .restore .ensures) (c .before .before .before .put-word .ensures) (c .idle-seat .ensures)
+    let c12 = c9 .before .before .before in
+    let a = c12 .args in
+    λ head keys seats own. cancel-done head (a .worker) (a .plan .now) keys (a .status .now) (a .cells .now) seats (a .frames .now) (a .call) (c9 .key-count .ensures) (sym (not-false _ (c7 .if1 .left)) ∙ c8 .restorable .ensures) (c .before .before .before .before .before .restore .ensures) (c .before .before .put-word .ensures)
 
 pub cancel-held-spec : {M : Type 1} → statement M
 cancel-held-spec =
@@ -62,7 +54,6 @@ cancel-held-spec =
     restore-requires
     mul-put-word
     put-word-requires
-    idle-seat-requires
     same-length
     same-length-2
     returns-2)

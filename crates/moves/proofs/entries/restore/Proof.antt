@@ -6,20 +6,19 @@ use mathlib.Core.Path.{_≡_, refl, sym, _∙_}
 use lib.ListN.{length, drop}
 use mir.Syntax.{w64}
 use mir.Facts.{toZ-ofZ}
-use Rattle.machine.specs.Run.{entriesOf}
+use Rattle.machine.specs.Run.{entriesOf, frameValues, registers, savedIn}
 use Rattle.machine.specs.Step.{restored}
-use Rattle.machine.specs.Moves.{savedIn}
 use Rattle.moves.proofs.EntryLaws.{restore-turn, restore-end}
 use Rattle.moves.proofs.entries.restore.Statement.{statement}
 use Rattle.moves.proofs.entries.restore.Tie as tie
 
 abbrev Inv-loop : tie.InvT-loop
-Inv-loop plan call n saved worker cells₀ first base k₀ cells k =
+Inv-loop plan call n frames worker cells₀ first base k₀ cells k =
     (k ≤ n) × (length cells ≡ length cells₀)
-    × (restored (entriesOf plan call n) (savedIn saved worker n) cells₀ ≡ restored (drop k (entriesOf plan call n)) (drop k (savedIn saved worker n)) cells)
+    × (restored (entriesOf plan call n) (savedIn frames worker n) cells₀ ≡ restored (drop k (entriesOf plan call n)) (drop k (savedIn frames worker n)) cells)
 
 abbrev μ-loop : tie.MeasureT-loop
-μ-loop plan call n saved worker cells₀ first base k₀ cells k = n - k
+μ-loop plan call n frames worker cells₀ first base k₀ cells k = n - k
 
 mul-first : tie.Need-mul-first Inv-loop μ-loop
 mul-first c = omega arith
@@ -29,6 +28,9 @@ add-first c = omega arith
 
 mul-base : tie.Need-mul-base Inv-loop μ-loop
 mul-base c = omega arith
+
+add-base : tie.Need-add-base Inv-loop μ-loop
+add-base c = search needs
 
 loop-holds : tie.Need-loop-holds Inv-loop μ-loop
 loop-holds c = (omega arith, refl, refl)
@@ -68,7 +70,7 @@ loop-again c =
       omega arith,
       made .kept .0 ∙ l .inv .1,
       l .inv .2
-          ∙ restore-turn (s .args .plan .now) (32 * s .args .call + 3) (s .args .n) (omega arith) (s .args .saved .now) (24 * s .args .worker) (omega arith) (l .k)
+          ∙ restore-turn (s .args .plan .now) (32 * s .args .call + 3) (s .args .n) (omega arith) (s .args .frames .now) (frameValues * s .args .worker + registers) (omega arith) (l .k)
           (c .before .before .before .before .before .loop-test .taken) _ _ _ (toZ-ofZ {w = w64} {z = old .result} (search needs) ∙ old .ensures) (made .ensures),
     )
 
@@ -79,7 +81,7 @@ returns : tie.Need-returns Inv-loop μ-loop
 returns c =
     let s = c .before .before .before in
     let l = c .before .loop in
-    sym (l .inv .2 ∙ restore-end (s .args .plan .now) (32 * s .args .call + 3) (s .args .n) (omega arith) (s .args .saved .now) (24 * s .args .worker) (omega arith) (l .k) (c .loop-test .left) _)
+    sym (l .inv .2 ∙ restore-end (s .args .plan .now) (32 * s .args .call + 3) (s .args .n) (omega arith) (s .args .frames .now) (frameValues * s .args .worker + registers) (omega arith) (l .k) (c .loop-test .left) _)
 
 pub restore-spec : {M : Type 1} → statement M
 restore-spec =
@@ -90,6 +92,7 @@ restore-spec =
     mul-first
     add-first
     mul-base
+    add-base
     loop-holds
     add-value
     value-requires

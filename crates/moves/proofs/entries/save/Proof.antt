@@ -8,19 +8,19 @@ use lib.ListN.{length, drop}
 use mir.Syntax.{w64}
 use mir.Facts.{toZ-ofZ}
 use Rattle.wire.specs.Bytes.{stored}
-use Rattle.machine.specs.Run.{entriesOf}
+use Rattle.machine.specs.Run.{entriesOf, frameValues, registers}
 use Rattle.machine.specs.Step.{savedOf}
 use Rattle.moves.proofs.EntryLaws.{save-turn, save-end}
 use Rattle.moves.proofs.entries.save.Statement.{statement}
 use Rattle.moves.proofs.entries.save.Tie as tie
 
 abbrev Inv-loop : tie.InvT-loop
-Inv-loop plan call n cells saved₀ worker first base k₀ saved k =
-    (k ≤ n) × (length saved ≡ length saved₀)
-    × (stored saved₀ (24 * worker) (savedOf (entriesOf plan call n) cells) ≡ stored saved (24 * worker + k) (savedOf (drop k (entriesOf plan call n)) cells))
+Inv-loop plan call n cells frames₀ worker first base k₀ frames k =
+    (k ≤ n) × (length frames ≡ length frames₀)
+    × (stored frames₀ (frameValues * worker + registers) (savedOf (entriesOf plan call n) cells) ≡ stored frames (frameValues * worker + registers + k) (savedOf (drop k (entriesOf plan call n)) cells))
 
 abbrev μ-loop : tie.MeasureT-loop
-μ-loop plan call n cells saved₀ worker first base k₀ saved k = n - k
+μ-loop plan call n cells frames₀ worker first base k₀ frames k = n - k
 
 mul-first : tie.Need-mul-first Inv-loop μ-loop
 mul-first c = omega arith
@@ -30,6 +30,9 @@ add-first c = omega arith
 
 mul-base : tie.Need-mul-base Inv-loop μ-loop
 mul-base c = omega arith
+
+add-base : tie.Need-add-base Inv-loop μ-loop
+add-base c = search needs
 
 loop-holds : tie.Need-loop-holds Inv-loop μ-loop
 loop-holds c = (omega arith, refl, simp add-zero)
@@ -69,7 +72,7 @@ loop-again c =
       omega arith,
       made .kept .0 ∙ l .inv .1,
       l .inv .2
-          ∙ save-turn (s .args .plan .now) (32 * s .args .call + 3) (s .args .n) (omega arith) (s .args .cells .now) (24 * s .args .worker) (l .k)
+          ∙ save-turn (s .args .plan .now) (32 * s .args .call + 3) (s .args .n) (omega arith) (s .args .cells .now) (frameValues * s .args .worker + registers) (l .k)
           (c .before .before .before .before .before .loop-test .taken) _ _ _ (toZ-ofZ {w = w64} {z = old .result} (search needs) ∙ old .ensures) (made .ensures),
     )
 
@@ -80,7 +83,7 @@ returns : tie.Need-returns Inv-loop μ-loop
 returns c =
     let s = c .before .before .before in
     let l = c .before .loop in
-    sym (l .inv .2 ∙ save-end (s .args .plan .now) (32 * s .args .call + 3) (s .args .n) (omega arith) (s .args .cells .now) (24 * s .args .worker) (l .k) (c .loop-test .left) _)
+    sym (l .inv .2 ∙ save-end (s .args .plan .now) (32 * s .args .call + 3) (s .args .n) (omega arith) (s .args .cells .now) (frameValues * s .args .worker + registers) (l .k) (c .loop-test .left) _)
 
 pub save-spec : {M : Type 1} → statement M
 save-spec =
@@ -91,6 +94,7 @@ save-spec =
     mul-first
     add-first
     mul-base
+    add-base
     loop-holds
     add-old-value
     mul-old-value

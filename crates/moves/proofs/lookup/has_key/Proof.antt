@@ -1,27 +1,34 @@
 -- `moves::lookup::has_key` meets its contract: a key is the cell's if both its words are.
 use borrow.Author.Needs.{needs}
+use mathlib.Core.Path.{refl}
 use Rattle.moves.proofs.LookupCodeLaws.{use-words}
 use Rattle.moves.proofs.lookup.has_key.Statement.{statement}
 use Rattle.moves.proofs.lookup.has_key.Tie as tie
 
-mul-word : tie.Need-mul-word
-mul-word c = search needs
+mul-at : tie.Need-mul-at
+mul-at c = search needs
 
-word-requires : tie.Need-word-requires
-word-requires c κs = search needs
+mul-high : tie.Need-mul-high
+mul-high c = search needs
 
-mul-word-2 : tie.Need-mul-word-2
-mul-word-2 c = search needs
+shared-slice-read-high : tie.Need-shared-slice-read-high
+shared-slice-read-high c = search needs
 
-add-word : tie.Need-add-word
-add-word c = search needs
+add-low : tie.Need-add-low
+add-low c = search needs
 
-word-requires-2 : tie.Need-word-requires-2
-word-requires-2 c κs = search needs
+mul-low : tie.Need-mul-low
+mul-low c = search needs
+
+shared-slice-read-low : tie.Need-shared-slice-read-low
+shared-slice-read-low c = search needs
 
 returns : tie.Need-returns
-returns c = use-words (c .before .before .before .before .before .args .keys .now) (c .before .before .before .before .before .args .n) (c .before .before .before .before .before .args .u) (c .before .before .before .before .before .pre .1) (c .before .before .before .word .ensures) (c .before .before .word2 .ensures)
+returns c =
+    let a = c .before .before .before .before .args in
+    use-words (a .keys .now) (a .n) (a .u) (c .before .before .before .before .pre .1 .1) refl refl
 
 pub has-key-spec : {M : Type 1} → statement M
 has-key-spec =
-    tie.close (tie.spec mul-word word-requires mul-word-2 add-word word-requires-2 returns)
+    tie.close
+    (tie.spec mul-at mul-high shared-slice-read-high add-low mul-low shared-slice-read-low returns)

@@ -10,37 +10,52 @@ enum-told c = search needs
 enum-known-fate : tie.Need-enum-known-fate
 enum-known-fate c = search needs
 
-add-t12 : tie.Need-add-t12
-add-t12 c = search needs
+put-seat-requires : tie.Need-put-seat-requires
+put-seat-requires c κs = search needs
+
+put-regs-requires : tie.Need-put-regs-requires
+put-regs-requires c κs = search needs
 
 enum-known-fate-2 : tie.Need-enum-known-fate-2
 enum-known-fate-2 c = search needs
 
-put-receipt-requires : tie.Need-put-receipt-requires
-put-receipt-requires c κs = search needs
-
-idle-seat-requires : tie.Need-idle-seat-requires
-idle-seat-requires c κs = search needs
+finish-requires : tie.Need-finish-requires
+finish-requires c κs = search needs
 
 returns : tie.Need-returns
 returns c =
-    let a = c .before .before .before .before .args in
-    settle-broken (a .seat) (a .status .now) (a .call) (a .turn) (c .enum-told .given .1)
-
-returns-2 : tie.Need-returns-2
-returns-2 c =
-    let a = c .before .before .before .before .before .args in
-    settle-going (a .seat) (a .status .now) (a .call) (a .turn) (c .before .fate .given .1)
+    let c6 = c .before .before .before .before .before .before in
+    let a = c6 .args in
+    λ head keys own. settle-broken head (a .plan .now) keys (a .cells .now) (a .status .now) (a .seats .now) (a .frames .now) (a .worker) (a .call) own (a .turn) (c .enum-told .given .1)
 
 same-length : tie.Need-same-length
 same-length c = search needs
 
+same-length-2 : tie.Need-same-length-2
+same-length-2 c = search needs
+
+returns-2 : tie.Need-returns-2
+returns-2 c =
+    let c8 = c .before .before .before .before .before .before .before .before in
+    let c14 = c8 .before .before .before .before .before .before in
+    let a = c14 .args in
+    λ head keys own. settle-going head (a .plan .now) keys (a .cells .now) (a .status .now) (a .seats .now) (a .frames .now) (a .worker) (a .call) own (a .turn) (c8 .fate .given .1) (c .before .before .before .before .before .put-seat .ensures) (c .before .put-regs .ensures)
+
+same-length-3 : tie.Need-same-length-3
+same-length-3 c = search needs
+
+same-length-4 : tie.Need-same-length-4
+same-length-4 c = search needs
+
+same-length-5 : tie.Need-same-length-5
+same-length-5 c = search needs
+
 returns-3 : tie.Need-returns-3
 returns-3 c =
-    let c6 = c .before .before .before .before .before .before in
-    let c10 = c6 .before .before .before .before in
-    let a = c10 .args in
-    settle-over (a .seat) (a .status .now) (a .call) (a .turn) (c6 .fate2 .given .1) (c .idle-seat .ensures) (c .before .before .before .put-receipt .ensures)
+    let c8 = c .before .before .before .before .before .before .before .before in
+    let c14 = c8 .before .before .before .before .before .before in
+    let a = c14 .args in
+    λ head keys own. settle-over head (a .plan .now) keys (a .cells .now) (a .status .now) (a .seats .now) (a .frames .now) (a .worker) (a .call) own (a .turn) (c8 .fate2 .given .1) (c .before .before .before .finish .ensures head keys (a .seats .now) own)
 
 pub settle-spec : {M : Type 1} → statement M
 settle-spec =
@@ -48,11 +63,15 @@ settle-spec =
     (tie.spec
     enum-told
     enum-known-fate
-    add-t12
+    put-seat-requires
+    put-regs-requires
     enum-known-fate-2
-    put-receipt-requires
-    idle-seat-requires
+    finish-requires
     returns
-    returns-2
     same-length
+    same-length-2
+    returns-2
+    same-length-3
+    same-length-4
+    same-length-5
     returns-3)

@@ -9,8 +9,9 @@ enum-told c = search needs
 
 returns : tie.Need-returns
 returns c =
-    let c7 = c .before .before .before .before .before .before .before in
-    let a = c7 .args in end-empty (a .block .now) (a .s .number) (a .s .line) _ _ (c .enum-told .given .1)
+    let c8 = c .before .before .before .before .before .before .before .before in
+    let a = c8 .args in
+    end-empty (a .block .now) (a .s .number) (a .s .line) _ _ (c .enum-told .given .1)
 
 slice-aggregate-play-chunk : tie.Need-slice-aggregate-play-chunk
 slice-aggregate-play-chunk c = search needs
@@ -30,12 +31,16 @@ same-length-3 c = search needs
 same-length-4 : tie.Need-same-length-4
 same-length-4 c = search needs
 
+same-length-5 : tie.Need-same-length-5
+same-length-5 c = search needs
+
 returns-2 : tie.Need-returns-2
 returns-2 c =
-    let c6 = c .before .before .before .before .before .before in
-    let c12 = c6 .before .before .before .before .before .before in
-    let c18 = c12 .before .before .before .before .before .before in
-    let a = c18 .args in end-line (a .block .now) (a .s .number) (a .s .line) _ _ (c12 .match .keys2) (c6 .play-chunk .ensures)
+    let c8 = c .before .before .before .before .before .before .before .before in
+    let c15 = c8 .before .before .before .before .before .before .before in
+    let c22 = c15 .before .before .before .before .before .before .before in
+    let a = c22 .args in
+    end-line (a .block .now) (a .s .number) (a .s .line) _ _ (c15 .match .keys2) (c8 .play-chunk .ensures)
 
 pub play-end-spec : {M : Type 1} → statement M
 play-end-spec =
@@ -49,4 +54,5 @@ play-end-spec =
     same-length-2
     same-length-3
     same-length-4
+    same-length-5
     returns-2)

@@ -35,8 +35,9 @@ same-length c = search needs
 returns : tie.Need-returns
 returns c =
     let c6 = c .before .before .before .before .before .before in
-    let c12 = c6 .before .before .before .before .before .before in
-    let a = c12 .args in line-none (a .block .now) (a .number) (a .line) _ _ _ _ _ (ap asMove (sym (c .before .before .before .before .enum-told .given .1)) ∙ c6 .line-move .ensures) (c .before .before .play-malformed .ensures .0) (ap (λ (h : Head). lent h (a .plan .now) (a .keys .now) (a .cells .now) (a .status .now) (a .saved .now)) (c .before .before .play-malformed .ensures .1 .0)) (c .before .before .play-malformed .ensures .1 .1)
+    let c13 = c6 .before .before .before .before .before .before .before in
+    let a = c13 .args in
+    line-none (a .block .now) (a .number) (a .line) _ _ _ _ _ (ap asMove (sym (c .before .before .before .before .enum-told .given .1)) ∙ c6 .line-move .ensures) (c .before .before .play-malformed .ensures .0) (ap (λ (h : Head). lent h (a .plan .now) (a .keys .now) (a .cells .now) (a .status .now) (a .seats .now) (a .frames .now)) (c .before .before .play-malformed .ensures .1 .0)) (c .before .before .play-malformed .ensures .1 .1)
 
 same-length-2 : tie.Need-same-length-2
 same-length-2 c = search needs
@@ -50,13 +51,17 @@ same-length-4 c = search needs
 same-length-5 : tie.Need-same-length-5
 same-length-5 c = search needs
 
+same-length-6 : tie.Need-same-length-6
+same-length-6 c = search needs
+
 returns-2 : tie.Need-returns-2
 returns-2 c =
-    let c10 = c .before .before .before .before .before .before .before .before .before .before in
-    let c15 = c10 .before .before .before .before .before in
-    let c17 = c15 .before .before in
-    let c23 = c17 .before .before .before .before .before .before in
-    let a = c23 .args in line-some (a .block .now) (a .number) (a .line) _ _ _ _ _ (c15 .m .given .0 .0) (ap asMove (sym (c15 .m .given .1)) ∙ c17 .line-move .ensures) (c .next-number .ensures) (c10 .apply-move .ensures) (c .before .before .before .answer-line .ensures)
+    let c12 = c .before .before .before .before .before .before .before .before .before .before .before .before in
+    let c18 = c12 .before .before .before .before .before .before in
+    let c20 = c18 .before .before in
+    let c27 = c20 .before .before .before .before .before .before .before in
+    let a = c27 .args in
+    line-some (a .block .now) (a .number) (a .line) _ _ _ _ _ (c18 .m .given .0 .0) (ap asMove (sym (c18 .m .given .1)) ∙ c20 .line-move .ensures) (c .next-number .ensures) (c12 .apply-move .ensures) (c .before .before .before .answer-line .ensures)
 
 pub play-line-spec : {M : Type 1} → statement M
 play-line-spec =
@@ -75,4 +80,5 @@ play-line-spec =
     same-length-3
     same-length-4
     same-length-5
+    same-length-6
     returns-2)

@@ -18,7 +18,9 @@ add-body : tie.Need-add-body
 add-body c = search needs
 
 add-t14 : tie.Need-add-t14
-add-t14 c = omega (arith, c .before .before .before .before .before .pre .1 .0, c .before .before .before .before .before .pre .1 .1 .all, c .before .before .before .before .before .pre .1 .1 .place, c .before .before .before .before .before .pre .1 .1 .text, c .before .before .before .before .before .pre .1 .1 .calls, (size-small (c .before .before .before .before .before .args .sheet .now) (c .before .before .before .before .before .args .p .at) (c .before .before .get16 .ensures) (λ i. c .before .before .before .before .shared-slice-known .given i .fits)))
+add-t14 c =
+    let a = c .before .before .before .before .before .args in
+    omega (arith, c .before .before .before .before .before .pre .1 .0, c .before .before .before .before .before .pre .1 .1 .all, c .before .before .before .before .before .pre .1 .1 .place, c .before .before .before .before .before .pre .1 .1 .text, c .before .before .before .before .before .pre .1 .1 .calls, (size-small (a .sheet .now) (a .p .at) (c .before .before .get16 .ensures) (λ i. c .before .before .before .before .shared-slice-known .given i .fits)))
 
 sub-t15 : tie.Need-sub-t15
 sub-t15 c = search needs
@@ -37,12 +39,14 @@ returns c =
     let c6 = c .before .before .before .before .before .before in
     let c8 = c6 .before .before in
     let c9 = c8 .before in
-    next-cell (c9 .args .sheet .now) (c9 .args .p) _ (c9 .pre .1 .1) (c9 .pre .0) (c6 .get16 .ensures) (c .before .before .before .before .before .get162 .ensures) (λ i. c8 .shared-slice-known .given i .fits) (c .before .before .before .before .if1 .taken) (c .before .before .put-cell .ensures)
+    let a = c9 .args in
+    next-cell (a .sheet .now) (a .p) _ (c9 .pre .1 .1) (c9 .pre .0) (c6 .get16 .ensures) (c .before .before .before .before .before .get162 .ensures) (λ i. c8 .shared-slice-known .given i .fits) (c .before .before .before .before .if1 .taken) (c .before .before .put-cell .ensures)
 
 add-t20 : tie.Need-add-t20
 add-t20 c =
     let c6 = c .before .before .before .before .before .before in
-    omega (arith, c6 .pre .1 .0, c6 .pre .1 .1 .all, c6 .pre .1 .1 .place, c6 .pre .1 .1 .text, c6 .pre .1 .1 .calls, (size-small (c6 .args .sheet .now) (c6 .args .p .at) (c .before .before .before .get16 .ensures) (λ i. c .before .before .before .before .before .shared-slice-known .given i .fits)))
+    let a = c6 .args in
+    omega (arith, c6 .pre .1 .0, c6 .pre .1 .1 .all, c6 .pre .1 .1 .place, c6 .pre .1 .1 .text, c6 .pre .1 .1 .calls, (size-small (a .sheet .now) (a .p .at) (c .before .before .before .get16 .ensures) (λ i. c .before .before .before .before .before .shared-slice-known .given i .fits)))
 
 add-t21 : tie.Need-add-t21
 add-t21 c = search needs
@@ -65,12 +69,14 @@ returns-2 c =
     let c7 = c6 .before in
     let c9 = c7 .before .before in
     let c10 = c9 .before in
-    next-receipt (c10 .args .sheet .now) (c10 .args .p) _ (c10 .pre .1 .1) (c10 .pre .0) (c7 .get16 .ensures) (c6 .get162 .ensures) (λ i. c9 .shared-slice-known .given i .fits) (c .before .before .before .before .if2 .taken) (c .before .before .put-receipt .ensures)
+    let a = c10 .args in
+    next-receipt (a .sheet .now) (a .p) _ (c10 .pre .1 .1) (c10 .pre .0) (c7 .get16 .ensures) (c6 .get162 .ensures) (λ i. c9 .shared-slice-known .given i .fits) (c .before .before .before .before .if2 .taken) (c .before .before .put-receipt .ensures)
 
 returns-3 : tie.Need-returns-3
 returns-3 c =
     let c6 = c .before .before .before .before .before .before in
-    next-other (c6 .args .sheet .now) (c6 .args .p) _ (c6 .pre .1 .1) (c6 .pre .0) (c .before .before .before .get16 .ensures) (c .before .before .get162 .ensures) (λ i. c .before .before .before .before .before .shared-slice-known .given i .fits) (c .before .if1 .left) (c .if2 .left)
+    let a = c6 .args in
+    next-other (a .sheet .now) (a .p) _ (c6 .pre .1 .1) (c6 .pre .0) (c .before .before .before .get16 .ensures) (c .before .before .get162 .ensures) (λ i. c .before .before .before .before .before .shared-slice-known .given i .fits) (c .before .if1 .left) (c .if2 .left)
 
 pub next-record-spec : {M : Type 1} → statement M
 next-record-spec =

@@ -18,29 +18,29 @@ returns-3 c = search needs
 returns-4 : tie.Need-returns-4
 returns-4 c = search needs
 
-slice-aggregate-act-on-two : tie.Need-slice-aggregate-act-on-two
-slice-aggregate-act-on-two c = sym (length-take-le _ _ (omega arith))
+slice-aggregate-act-on-three : tie.Need-slice-aggregate-act-on-three
+slice-aggregate-act-on-three c = sym (length-take-le _ _ (omega arith))
 
-slice-relend-prefix-act-on-two : tie.Need-slice-relend-prefix-act-on-two
-slice-relend-prefix-act-on-two c = search needs
+slice-relend-prefix-act-on-three : tie.Need-slice-relend-prefix-act-on-three
+slice-relend-prefix-act-on-three c = search needs
 
-slice-aggregate-act-on-two-2 : tie.Need-slice-aggregate-act-on-two-2
-slice-aggregate-act-on-two-2 c = sym (length-take-le _ _ (omega arith))
+slice-aggregate-act-on-three-2 : tie.Need-slice-aggregate-act-on-three-2
+slice-aggregate-act-on-three-2 c = sym (length-take-le _ _ (omega arith))
 
-slice-relend-prefix-act-on-two-2 : tie.Need-slice-relend-prefix-act-on-two-2
-slice-relend-prefix-act-on-two-2 c = search needs
+slice-relend-prefix-act-on-three-2 : tie.Need-slice-relend-prefix-act-on-three-2
+slice-relend-prefix-act-on-three-2 c = search needs
 
-slice-aggregate-act-on-two-3 : tie.Need-slice-aggregate-act-on-two-3
-slice-aggregate-act-on-two-3 c = sym (length-take-le _ _ (omega arith))
+slice-aggregate-act-on-three-3 : tie.Need-slice-aggregate-act-on-three-3
+slice-aggregate-act-on-three-3 c = sym (length-take-le _ _ (omega arith))
 
-slice-relend-prefix-act-on-two-3 : tie.Need-slice-relend-prefix-act-on-two-3
-slice-relend-prefix-act-on-two-3 c = search needs
+slice-relend-prefix-act-on-three-3 : tie.Need-slice-relend-prefix-act-on-three-3
+slice-relend-prefix-act-on-three-3 c = search needs
 
-slice-aggregate-act-on-two-4 : tie.Need-slice-aggregate-act-on-two-4
-slice-aggregate-act-on-two-4 c = sym (length-take-le _ _ (omega arith))
+slice-aggregate-act-on-three-4 : tie.Need-slice-aggregate-act-on-three-4
+slice-aggregate-act-on-three-4 c = sym (length-take-le _ _ (omega arith))
 
-act-on-two-requires : tie.Need-act-on-two-requires
-act-on-two-requires c κs = search needs
+act-on-three-requires : tie.Need-act-on-three-requires
+act-on-three-requires c κs = search needs
 
 same-length : tie.Need-same-length
 same-length c = search needs
@@ -57,6 +57,9 @@ same-length-4 c = search needs
 same-length-5 : tie.Need-same-length-5
 same-length-5 c = search needs
 
+same-length-6 : tie.Need-same-length-6
+same-length-6 c = search needs
+
 returns-5 : tie.Need-returns-5
 returns-5 c = search needs
 
@@ -68,17 +71,18 @@ play-spec =
     returns-2
     returns-3
     returns-4
-    slice-aggregate-act-on-two
-    slice-relend-prefix-act-on-two
-    slice-aggregate-act-on-two-2
-    slice-relend-prefix-act-on-two-2
-    slice-aggregate-act-on-two-3
-    slice-relend-prefix-act-on-two-3
-    slice-aggregate-act-on-two-4
-    act-on-two-requires
+    slice-aggregate-act-on-three
+    slice-relend-prefix-act-on-three
+    slice-aggregate-act-on-three-2
+    slice-relend-prefix-act-on-three-2
+    slice-aggregate-act-on-three-3
+    slice-relend-prefix-act-on-three-3
+    slice-aggregate-act-on-three-4
+    act-on-three-requires
     same-length
     same-length-2
     same-length-3
     same-length-4
     same-length-5
+    same-length-6
     returns-5)

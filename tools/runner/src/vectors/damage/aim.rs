@@ -3,14 +3,15 @@
 use super::{bytes_at, Target};
 use crate::code::op;
 use crate::lent::{
-    Sizes, CODE_LENGTH, CODE_START, ENTRIES, ENTRY_SCALE, KEY_COUNT, KEY_WORDS, PLAN_WORDS, READS,
-    ROW, ROW_BITS, STATUS_WORDS, WRITES,
+    Sizes, BUFFERS, CODE_LENGTH, CODE_START, COUNT, ENTRIES, ENTRY_SCALE, FRAME_VALUES, KEY_COUNT,
+    KEY_WORDS, OLDS, PLACE, PLAN_WORDS, READS, ROOM, ROW, ROW_BITS, SEAT_WORDS, STATUS_WORDS,
+    WRITES,
 };
 use crate::limits::{
     CALL_BYTES, HEAD_BYTES, INSTRUCTION_BYTES, MAX_CALLS, MAX_CALL_KEYS, MAX_KEYS, REGISTERS,
 };
 use crate::rng::Rng;
-use crate::vectors::{Buffer, HeadField, Operation, Player, SeatField};
+use crate::vectors::{Buffer, HeadField, Operation, Player};
 
 /// Values of cells and registers at the edges.
 const EDGE_VALUES: [i64; 8] = [-1, -1, 0, 1, i64::MAX, i64::MAX, i64::MAX - 1, i64::MIN];
@@ -28,7 +29,7 @@ pub struct Aim<'a> {
 impl Aim<'_> {
     /// A damage of a target, if the run has such a thing.
     pub fn draw(&self, rng: &mut Rng, target: Target) -> Option<Operation> {
-        let (calls, own) = (self.player.run.head.calls, self.call as u64);
+        let own = self.call as u64;
         let worker = self.worker as u64;
         Some(match target {
             Target::Workers => {
@@ -41,15 +42,16 @@ impl Aim<'_> {
             }
             Target::Cells => head(HeadField::Cells, rng.pick(&[0, 1025, u64::MAX])),
             Target::First => self.first(rng),
-            Target::HeldCall => {
-                let values = [0, 1, calls, calls + 1, 257, u64::MAX];
-                self.seat(SeatField::Call, rng.pick(&values))
-            }
+            Target::HeldCall => self.held(rng),
             Target::Place => self.place(rng),
-            Target::Count => self.seat(SeatField::Count, rng.pick(&[63, 64, 65, 66, u64::MAX])),
-            Target::Register => {
-                let register = SeatField::Register(rng.below(REGISTERS));
-                self.seat(register, rng.pick(&EDGE_VALUES) as u64)
+            Target::Count => {
+                let values = [63, 64, 65, 66, 1 << 16, 1 << 32, u64::MAX];
+                self.set_seat(COUNT, rng.pick(&values))
+            }
+            Target::Register => self.set_frame(rng.below(REGISTERS), rng),
+            Target::Room => {
+                let word = rng.between(ROOM, SEAT_WORDS - 1);
+                self.set_seat(word, rng.pick(&[1, 65, u64::MAX]))
             }
             Target::State => state(self.call, rng),
             Target::EarlierState => state(self.earlier(rng)?, rng),
@@ -62,17 +64,23 @@ impl Aim<'_> {
                 self.some_cell(rng)?,
                 rng.pick(&EDGE_VALUES) as u64,
             ),
-            Target::Old => word(
-                Buffer::Olds,
-                self.worker * MAX_CALL_KEYS + rng.below(MAX_CALL_KEYS),
-                rng.pick(&EDGE_VALUES) as u64,
-            ),
+            Target::Old => {
+                let count = Some(self.entry_count()).filter(|count| *count > 0)?;
+                self.set_frame(OLDS + rng.below(count), rng)
+            }
+            Target::Behind => {
+                let place = OLDS + self.entry_count();
+                (place < FRAME_VALUES)
+                    .then(|| self.set_frame(rng.between(place, FRAME_VALUES - 1), rng))?
+            }
             Target::CodeStart => self.code_start(rng),
             Target::CodeLength => self.code_length(rng),
             Target::BlockLength => self.block_length(rng),
             Target::Record => self.record(rng)?,
             Target::Instruction => self.instruction(rng)?,
             Target::Size => self.size(rng),
+            Target::Length => self.length(rng)?,
+            Target::Beyond => self.beyond(rng)?,
         })
     }
 
@@ -84,12 +92,26 @@ impl Aim<'_> {
         word(Buffer::Plan, self.call * PLAN_WORDS + place, value)
     }
 
-    fn seat(&self, field: SeatField, value: u64) -> Operation {
-        Operation::Seat {
-            worker: self.worker,
-            field,
-            value,
-        }
+    pub(super) fn seat_word(&self, place: usize) -> u64 {
+        self.player.run.seat_word(self.worker, place)
+    }
+
+    fn set_seat(&self, place: usize, value: u64) -> Operation {
+        word(Buffer::Seats, self.worker * SEAT_WORDS + place, value)
+    }
+
+    /// A value of the worker's frame.
+    fn set_frame(&self, place: usize, rng: &mut Rng) -> Operation {
+        let value = rng.pick(&EDGE_VALUES) as u64;
+        word(Buffer::Frames, self.worker * FRAME_VALUES + place, value)
+    }
+
+    /// The worker holds none, a call of the run, or one above them.
+    fn held(&self, rng: &mut Rng) -> Operation {
+        let most = u64::from(u16::MAX);
+        let calls = self.player.run.head.calls.min(most - 1);
+        let values = [0, 1, calls, calls + 1, calls + 1, 256, 257, most];
+        head(HeadField::Held(self.worker), rng.pick(&values))
     }
 
     /// Another record stands for the call's own, or the lent block ends with
@@ -121,9 +143,11 @@ impl Aim<'_> {
             code.wrapping_add(1),
             65,
             66,
+            1 << 16,
+            1 << 32,
             u64::MAX,
         ];
-        self.seat(SeatField::Place, rng.pick(&values))
+        self.set_seat(PLACE, rng.pick(&values))
     }
 
     /// An earlier call, one of the row if there is any.
@@ -231,10 +255,7 @@ impl Aim<'_> {
     }
 
     fn code_length(&self, rng: &mut Rng) -> Operation {
-        let (code, place) = (
-            self.plan(CODE_LENGTH),
-            self.player.run.head.seats[self.worker].place,
-        );
+        let (code, place) = (self.plan(CODE_LENGTH), self.seat_word(PLACE));
         let values = [
             0,
             1,
@@ -251,6 +272,13 @@ impl Aim<'_> {
     pub(super) fn code_bytes(&self) -> usize {
         let length = self.plan(CODE_LENGTH).saturating_sub(1).min(64) as usize;
         length * INSTRUCTION_BYTES
+    }
+
+    /// Where the instruction at the call's place starts in the code, if it is one.
+    pub(super) fn code_offset(&self) -> Option<usize> {
+        let index = usize::try_from(self.seat_word(PLACE).checked_sub(1)?).ok()?;
+        let offset = index.checked_mul(INSTRUCTION_BYTES)?;
+        (offset < self.code_bytes()).then_some(offset)
     }
 
     /// Where the call's record starts, if it lies in the block.
@@ -312,12 +340,7 @@ impl Aim<'_> {
     /// The instruction at the call's place breaks a rule, or is another.
     fn instruction(&self, rng: &mut Rng) -> Option<Operation> {
         self.code_end()?;
-        let place = self.player.run.head.seats[self.worker].place;
-        let index = usize::try_from(place.checked_sub(1)?).ok()?;
-        if index * INSTRUCTION_BYTES >= self.code_bytes() {
-            return None;
-        }
-        let at = self.plan(CODE_START) as usize + index * INSTRUCTION_BYTES;
+        let at = self.plan(CODE_START) as usize + self.code_offset()?;
         let mut bytes = bytes_at(self.player, at);
         match rng.below(7) {
             0 => bytes[0] = rng.pick(&[16, 255]),
@@ -335,15 +358,34 @@ impl Aim<'_> {
     /// One buffer is lent too short by one.
     fn size(&self, rng: &mut Rng) -> Operation {
         let mut sizes = self.player.sizes;
-        let fixed = Sizes::FIXED;
-        match rng.below(5) {
-            0 => sizes.plan = sizes.plan.min(fixed.plan - 1),
-            1 => sizes.keys = sizes.keys.min(fixed.keys - 1),
-            2 => sizes.cells = sizes.cells.min(fixed.cells - 1),
-            3 => sizes.status = sizes.status.min(fixed.status - 1),
-            _ => sizes.olds = sizes.olds.min(fixed.olds - 1),
-        }
+        let short = rng.below(BUFFERS);
+        let size = &mut *sizes.each_mut()[short];
+        *size = (*size).min(Sizes::FIXED.each()[short] - 1);
         Operation::Lend { sizes }
+    }
+
+    /// A buffer that is lent longer than its fixed size.
+    fn long(&self, rng: &mut Rng) -> Option<usize> {
+        let (lent, fixed) = (self.player.sizes.each(), Sizes::FIXED.each());
+        let long: Vec<usize> = (0..BUFFERS).filter(|at| lent[*at] > fixed[*at]).collect();
+        (!long.is_empty()).then(|| rng.pick(&long))
+    }
+
+    /// A longer buffer is lent up to a length that still suffices.
+    fn length(&self, rng: &mut Rng) -> Option<Operation> {
+        let long = self.long(rng)?;
+        let mut sizes = self.player.sizes;
+        let size = &mut *sizes.each_mut()[long];
+        *size = rng.between(Sizes::FIXED.each()[long], *size - 1);
+        Some(Operation::Lend { sizes })
+    }
+
+    /// A word of a longer buffer beyond the fixed size.
+    fn beyond(&self, rng: &mut Rng) -> Option<Operation> {
+        let long = self.long(rng)?;
+        let (fixed, lent) = (Sizes::FIXED.each()[long], self.player.sizes.each()[long]);
+        let index = rng.between(fixed, lent - 1);
+        Some(word(Buffer::ALL[long], index, rng.pick(&[1, u64::MAX])))
     }
 }
 

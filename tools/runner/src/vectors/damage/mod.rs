@@ -10,7 +10,9 @@ use super::{Operation, Player, CHANGED_BYTES};
 use crate::machine::Move;
 use crate::rng::Rng;
 
-/// What is damaged.
+/// What is damaged. `Room` is a word of a seat behind place and count, `Behind` a
+/// frame value behind those of the call's entries, `Beyond` a word of a buffer
+/// beyond its fixed size, `Length` a longer buffer's length.
 #[derive(Clone, Copy, Debug, PartialEq, Eq, PartialOrd, Ord)]
 #[allow(missing_docs)]
 pub enum Target {
@@ -22,6 +24,7 @@ pub enum Target {
     Place,
     Count,
     Register,
+    Room,
     State,
     EarlierState,
     Row,
@@ -30,19 +33,27 @@ pub enum Target {
     Key,
     Value,
     Old,
+    Behind,
     CodeStart,
     CodeLength,
     BlockLength,
     Record,
     Instruction,
     Size,
+    Length,
+    Beyond,
 }
 
-/// What BEGIN may use, and the old values, which it does not.
-pub const OF_BEGIN: [Target; 12] = [
+/// What BEGIN may use, and the worker's seat and frame, which it does not.
+pub const OF_BEGIN: [Target; 20] = [
     Target::Workers,
     Target::Calls,
     Target::HeldCall,
+    Target::HeldCall,
+    Target::Place,
+    Target::Count,
+    Target::Register,
+    Target::Room,
     Target::State,
     Target::EarlierState,
     Target::EarlierState,
@@ -51,12 +62,15 @@ pub const OF_BEGIN: [Target; 12] = [
     Target::Entry,
     Target::Entry,
     Target::Old,
+    Target::Behind,
     Target::Size,
+    Target::Length,
+    Target::Beyond,
 ];
 
-/// What STEP may use, and the call's state and the number of cells, which it
-/// does not.
-pub const OF_STEP: [Target; 31] = [
+/// What STEP may use, and the call's state, the number of cells and the rest of
+/// the seat, the frame and longer buffers, which it does not.
+pub const OF_STEP: [Target; 38] = [
     Target::Workers,
     Target::Calls,
     Target::Cells,
@@ -68,6 +82,7 @@ pub const OF_STEP: [Target; 31] = [
     Target::Count,
     Target::Register,
     Target::Register,
+    Target::Room,
     Target::State,
     Target::KeyCount,
     Target::KeyCount,
@@ -79,6 +94,9 @@ pub const OF_STEP: [Target; 31] = [
     Target::Value,
     Target::Value,
     Target::Value,
+    Target::Old,
+    Target::Old,
+    Target::Behind,
     Target::CodeStart,
     Target::CodeStart,
     Target::CodeLength,
@@ -88,18 +106,29 @@ pub const OF_STEP: [Target; 31] = [
     Target::Instruction,
     Target::Instruction,
     Target::Size,
+    Target::Size,
+    Target::Length,
+    Target::Beyond,
 ];
 
-/// What CANCEL may use, and the old values, which it does not test.
-pub const OF_CANCEL: [Target; 8] = [
+/// What CANCEL may use, the old values, which it does not test, and the rest of
+/// the seat, the frame and longer buffers, which it does not use.
+pub const OF_CANCEL: [Target; 15] = [
     Target::Workers,
     Target::Calls,
     Target::HeldCall,
+    Target::Place,
+    Target::Count,
+    Target::Register,
+    Target::Room,
     Target::KeyCount,
     Target::Entry,
     Target::Entry,
     Target::Old,
+    Target::Behind,
     Target::Size,
+    Target::Length,
+    Target::Beyond,
 ];
 
 /// What a step that uses a cell finds it by.
@@ -134,11 +163,6 @@ pub fn repair(player: &Player, damage: Operation) -> Operation {
         Operation::Head { field, .. } => Operation::Head {
             field,
             value: player.head(field),
-        },
-        Operation::Seat { worker, field, .. } => Operation::Seat {
-            worker,
-            field,
-            value: player.seat(worker, field),
         },
         Operation::Cut { .. } => Operation::Cut {
             length: player.lent_block,

@@ -4,7 +4,8 @@ use super::{bytes_at, Aim};
 use crate::block::read_call;
 use crate::code::{decode, Parts};
 use crate::lent::{
-    key_words, CODE_LENGTH, CODE_START, ENTRIES, ENTRY_SCALE, KEY_COUNT, KEY_WORDS, READS, ROW,
+    key_words, CODE_LENGTH, CODE_START, ENTRIES, ENTRY_SCALE, KEY_COUNT, KEY_WORDS, PLACE, READS,
+    ROW,
 };
 use crate::limits::{HEAD_BYTES, INSTRUCTION_BYTES, MAX_CALL_KEYS};
 use crate::rng::Rng;
@@ -33,7 +34,7 @@ impl Aim<'_> {
         let start = self.record_start()?;
         let call = read_call(&self.player.block[start + HEAD_BYTES..], start)?;
         let code = self.plan(CODE_LENGTH).checked_sub(1)?;
-        match self.player.run.head.seats[self.worker].place {
+        match self.seat_word(PLACE) {
             0 => Some(entry_uses(&call)),
             place if place <= code => {
                 let end = self.code_end()?;
@@ -58,14 +59,14 @@ impl Aim<'_> {
             ]
         })
     }
+
     /// The code moved to the block's end, with STOP at the call's place: its last
     /// byte is the block's last, or one behind it. The record before keeps its
     /// ranges, since only arguments and the end are written.
     pub fn code_at_end(&self, rng: &mut Rng) -> Option<[Operation; 2]> {
         let lent = self.player.lent_block;
         let start = (lent + rng.below(2)).checked_sub(self.code_bytes())?;
-        let place = self.player.run.head.seats[self.worker].place as usize;
-        let at = start + place.checked_sub(1)? * INSTRUCTION_BYTES;
+        let at = start.checked_add(self.code_offset()?)?;
         let left = lent.checked_sub(at)?;
         if !(2 * INSTRUCTION_BYTES - 1..=2 * INSTRUCTION_BYTES).contains(&left) {
             return None;

@@ -1,0 +1,153 @@
+// What is due at a place of a call: an action with the keys that it uses, before any cell is looked at.
+use crate::Due;
+use crate::Site;
+use crate::lookup::plan_word;
+use action::act_at;
+use action::enter;
+use block::Call;
+use block::Decoded;
+use block::outcomes::ENDED;
+use block::outcomes::UNKNOWN_FUNCTION;
+use block::record::INSTR_BYTES;
+use block::record::code_at;
+use footprint::access::entry_uses;
+use footprint::access::instr_uses;
+use footprint::access::no_uses;
+use footprint::layout::CODE_LENGTH;
+use footprint::layout::CODE_START;
+use machine::Action;
+use machine::Next;
+ghost use mathlib.Core.Path.{_≡_};
+ghost use mathlib.Core.List.{List};
+ghost use Prim.Native.Nat.{ℕ, _+_, _-_, _*_, _≤_, _<_};
+ghost use lib.IntN.{ℤ};
+ghost use lib.ListN.{drop, length};
+ghost use Rattle.block.specs.Instruction.{decode, instrBytes};
+ghost use Rattle.block.specs.Limits.{maxCalls, maxCode};
+ghost use Rattle.block.specs.Outcomes.{maxCount};
+ghost use Rattle.footprint.specs.Plan.{codeLength, planWords};
+ghost use Rattle.machine.specs.Run.{planWord};
+ghost use Rattle.machine.specs.Step.{stepDecoded, stepEntry, stepInstr, stepPlace};
+ghost use Rattle.moves.specs.Turn.{cellView, dueDone, endDue, nothingDue, viewIn, DueDoable, SiteInRange};
+
+// Nothing is due: the lent block or run is damaged.
+fn nothing_due() -> Due
+    ensures { λ r. ⌜ r ≡ nothingDue ⌝ }
+{
+    let regs = [0; 8];
+    Due {
+        sound: false,
+        count: 0,
+        uses: no_uses(),
+        action: Action {
+            next: Next::Go(0),
+            regs,
+        },
+    }
+}
+
+// The call ends with an outcome.
+fn end_due(outcome: u64, count: u64) -> Due
+    ensures { λ r. ⌜ r ≡ endDue outcome count ⌝ }
+{
+    let regs = [0; 8];
+    Due {
+        sound: true,
+        count,
+        uses: no_uses(),
+        action: Action {
+            next: Next::End(outcome),
+            regs,
+        },
+    }
+}
+
+// "STEP(worker), at entry: unknown function, outcome 1"
+fn due_at_entry(plan: &[u64], site: Site, regs: [i64; 8], body: Call) -> Due
+    requires { ⌜ maxCalls * planWords ≤ length (now plan) ⌝ }
+    requires { ⌜ site .call < maxCalls ⌝ }
+    requires { ⌜ site .place ≤ maxCode ⌝ }
+    ensures { λ r. ⌜ ((block keys : List ℕ) (cells : List ℤ)
+        → dueDone (cellView (now (plan .entry)) keys (site .call)) (site .place) r cells
+        ≡ stepEntry (viewIn block (now (plan .entry)) keys (site .call) body) (site .place) (site .count) regs cells) ⌝ }
+    ensures { λ r. ⌜ DueDoable (site .place) r ⌝ }
+{
+    if plan_word(plan, site.call, CODE_LENGTH) == 0 {
+        return end_due(UNKNOWN_FUNCTION, site.count);
+    }
+    Due {
+        sound: true,
+        count: site.count,
+        uses: entry_uses(body),
+        action: enter(body, regs),
+    }
+}
+
+// "Else one instruction runs and counts 1, also the one that fails." The instruction is the one of the code at the site's place.
+fn due_decoded(code: &[u8], size: u16, site: Site, regs: [i64; 8], body: Call) -> Due
+    requires { ⌜ (0 < site .place) × (site .place ≤ maxCode) ⌝ }
+    requires { ⌜ site .count ≤ maxCount ⌝ }
+    ensures { λ r. ⌜ ((block plan keys : List ℕ) (cells : List ℤ)
+        → dueDone (cellView plan keys (site .call)) (site .place) r cells
+        ≡ stepDecoded (viewIn block plan keys (site .call) body) (site .place) (site .count) regs cells
+        (decode (site .place - 1) size (drop (instrBytes * (site .place - 1)) (now (code .entry))))) ⌝ }
+    ensures { λ r. ⌜ DueDoable (site .place) r ⌝ }
+{
+    let index = site.place - 1;
+    let acted = act_at(code, INSTR_BYTES * index, index as u16, size, body, regs);
+    let decoded = acted.decoded;
+    let Decoded::Valid(i) = decoded else {
+        return nothing_due();
+    };
+    let action = acted.action;
+    Due {
+        sound: true,
+        count: site.count + 1,
+        uses: instr_uses(body, i),
+        action,
+    }
+}
+
+// The code stretch lies in the lent block; the instruction is decoded there.
+fn due_at_instr(block: &[u8], plan: &[u64], site: Site, regs: [i64; 8], body: Call) -> Due
+    requires { ⌜ maxCalls * planWords ≤ length (now plan) ⌝ }
+    requires { ⌜ site .call < maxCalls ⌝ }
+    requires { ⌜ (0 < site .place) × (site .place < planWord (now plan) (site .call) codeLength) ⌝ }
+    requires { ⌜ planWord (now plan) (site .call) codeLength ≤ maxCode + 1 ⌝ }
+    requires { ⌜ site .count ≤ maxCount ⌝ }
+    ensures { λ r. ⌜ ((keys : List ℕ) (cells : List ℤ)
+        → dueDone (cellView (now (plan .entry)) keys (site .call)) (site .place) r cells
+        ≡ stepInstr (viewIn (now (block .entry)) (now (plan .entry)) keys (site .call) body) (site .place) (site .count) regs cells) ⌝ }
+    ensures { λ r. ⌜ DueDoable (site .place) r ⌝ }
+{
+    let start = plan_word(plan, site.call, CODE_START) as usize;
+    let size = plan_word(plan, site.call, CODE_LENGTH) as usize - 1;
+    let len = INSTR_BYTES * size;
+    if block.len() < len {
+        return nothing_due();
+    }
+    if block.len() - len < start {
+        return nothing_due();
+    }
+    let code = code_at(block, start, size);
+    due_decoded(code, size as u16, site, regs, body)
+}
+
+// What is due at a place. "At place = length: outcome 0."
+pub(crate) fn due(block: &[u8], plan: &[u64], site: Site, regs: [i64; 8], body: Call) -> Due
+    requires { ⌜ maxCalls * planWords ≤ length (now plan) ⌝ }
+    requires { ⌜ site .call < maxCalls ⌝ }
+    requires { ⌜ SiteInRange (now plan) site ⌝ }
+    ensures { λ r. ⌜ ((keys : List ℕ) (cells : List ℤ)
+        → dueDone (cellView (now (plan .entry)) keys (site .call)) (site .place) r cells
+        ≡ stepPlace (viewIn (now (block .entry)) (now (plan .entry)) keys (site .call) body) (site .place) (site .count) regs cells) ⌝ }
+    ensures { λ r. ⌜ DueDoable (site .place) r ⌝ }
+{
+    if site.place == 0 {
+        return due_at_entry(plan, site, regs, body);
+    }
+    if site.place as u64 == plan_word(plan, site.call, CODE_LENGTH) {
+        return end_due(ENDED, site.count);
+    }
+    due_at_instr(block, plan, site, regs, body)
+}
