@@ -1,5 +1,6 @@
 -- `moves::cancel::cancel_held` meets its contract: entries that cannot be used are damage, and else cells and state are those of the definition.
 use borrow.Author.Needs.{needs}
+use native.Mathlib.Omega.{arith}
 use borrow.Author.Tests.{not-true, not-false}
 use mathlib.Core.Path.{sym, _∙_}
 use Rattle.moves.proofs.EntryLaws.{restorable-few}
@@ -21,7 +22,8 @@ returns c =
 restore-requires : tie.Need-restore-requires
 restore-requires c κs =
     let c6 = c .before .before .before .before .before .before in
-    (c6 .pre .0, (restorable-few _ _ (sym (not-false _ (c .before .if1 .left)) ∙ c .before .before .restorable .ensures), (c6 .pre .1 .0, (c6 .pre .1 .1 .0, c6 .pre .1 .1 .1))))
+    let few = restorable-few (c .before .before .before .key-count .result) _ (sym (not-false _ (c .before .if1 .left)) ∙ c .before .before .restorable .ensures) in
+    omega (arith, few, c6 .pre)
 
 mul-put-word : tie.Need-mul-put-word
 mul-put-word c = search needs
