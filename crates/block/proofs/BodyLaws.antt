@@ -210,27 +210,32 @@ module _ (c : Call) (more : List ℕ) where
         let value : signed 64 (unsigned 64 (c .value)) ≡ c .value = signed-unsigned 64 (c .value) (lit< tt) (fits .value) in
         rw (call-sender, call-contract, call-function, call-value, call-1, call-2, call-3, call-4, value)
 
+  call-long : callBytes ≤ length call
+  unfolding bytesOf
+  call-long = omega arith
+
   pub call-back : CallKeeps c → callOf call ≡ InRange c
   unfolding callOf
   call-back keeps =
       let is : callInBody call ≡ c = call-same (call-fits c keeps) in
-      subst⁻¹ (λ (d : Call). (if ltb (d .sender .0) firstContract && leb firstContract (d .contract .0) && nonNeg (d .value) then InRange d else OutOfRange) ≡ InRange c) is
-      (rw (lt-ltb (c .sender .0) firstContract (keeps .sender), le-leb firstContract (c .contract .0) (keeps .contract .0), keeps .value .0))
+      subst⁻¹ (λ (d : Call). (if leb callBytes (length call) && ltb (d .sender .0) firstContract && leb firstContract (d .contract .0) && nonNeg (d .value) then InRange d else OutOfRange) ≡ InRange c) is
+      (rw (le-leb callBytes (length call) call-long, lt-ltb (c .sender .0) firstContract (keeps .sender), le-leb firstContract (c .contract .0) (keeps .contract .0), keeps .value .0))
 
 -- What its range asks, and that it is the one.
 call-in : (s : List ℕ) (c : Call) → callOf s ≡ InRange c
     → (number 2 s < firstContract) × (firstContract ≤ readLe 2 s 2) × (nonNeg (signed 64 (readLe 8 s 6)) ≡ true) × (c ≡ callInBody s)
 unfolding callOf
-call-in s c e = go (ltb (number 2 s) firstContract && leb firstContract (readLe 2 s 2) && nonNeg (signed 64 (readLe 8 s 6))) refl e
+call-in s c e = go (leb callBytes (length s) && ltb (number 2 s) firstContract && leb firstContract (readLe 2 s 2) && nonNeg (signed 64 (readLe 8 s 6))) refl e
   where
-    go : (t : Bool) → (ltb (number 2 s) firstContract && leb firstContract (readLe 2 s 2) && nonNeg (signed 64 (readLe 8 s 6))) ≡ t
+    go : (t : Bool) → (leb callBytes (length s) && ltb (number 2 s) firstContract && leb firstContract (readLe 2 s 2) && nonNeg (signed 64 (readLe 8 s 6))) ≡ t
         → (if t then InRange (callInBody s) else OutOfRange) ≡ InRange c
         → (number 2 s < firstContract) × (firstContract ≤ readLe 2 s 2) × (nonNeg (signed 64 (readLe 8 s 6)) ≡ true) × (c ≡ callInBody s)
     go false f h = let z : _≡_ {A = ℕ} 0 1 = cc in absurd (omega arith)
     go true f h =
         let o = both _ (nonNeg (signed 64 (readLe 8 s 6))) f in
-        let p = both (ltb (number 2 s) firstContract) (leb firstContract (readLe 2 s 2)) (o .0) in
-        (ltb-true (number 2 s) firstContract (p .0), leb-true firstContract (readLe 2 s 2) (p .1), o .1, cc)
+        let p = both _ (leb firstContract (readLe 2 s 2)) (o .0) in
+        let q = both (leb callBytes (length s)) (ltb (number 2 s) firstContract) (p .0) in
+        (ltb-true (number 2 s) firstContract (q .1), leb-true firstContract (readLe 2 s 2) (p .1), o .1, cc)
 
 module _ (s : List ℕ) (bytes : AreBytes s) where
   in-split : callBytes ≤ length s → s ≡ callBody (callInBody s) ++ drop callBytes s

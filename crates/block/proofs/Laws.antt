@@ -10,14 +10,14 @@ use lib.Seq.{take-all, drop-length, length-take-le}
 use lib.Signed.{ltZ, nonNeg}
 use borrow.Author.Tests.{ltb-true, lt-ltb, le-ltb, le-leb, lt-leb}
 use Rattle.wire.specs.Bytes.{readLe}
-use Rattle.wire.proofs.BytesLaws.{read-suc, read-one}
+use Rattle.wire.proofs.BytesLaws.{read-suc, read-one, read-taken}
 use Rattle.arith.specs.Exact.{signed}
 use Rattle.block.specs.Key.{firstContract, addressOf, addressNumber, payeeOf}
 use Rattle.block.proofs.KeyLaws.{number-named, account-below, contract-above}
 use Rattle.block.proofs.EncodingLaws.{bytes-drop}
 use Rattle.block.specs.Encoding.{AreBytes}
 use Rattle.block.specs.Instruction.{decodeParts, decode}
-use Rattle.block.specs.Record.{callOf}
+use Rattle.block.specs.Record.{callBytes, callOf}
 use Rattle.block.specs.declared.address.Account.{Account}
 use Rattle.block.specs.declared.address.Contract.{Contract}
 use Rattle.block.specs.declared.address.Address.{Address}
@@ -97,14 +97,26 @@ payee-none n high = simp (le-ltb n firstContract high)
 pub payee-contract : (n : ℕ) (contract : Contract) → addressOf n ≡ OfContract contract → NoAccount ≡ payeeOf n
 payee-contract n contract e = let h = contract-above n contract e in payee-none n (omega (arith, h .0, h .1))
 
--- A call's body, by the addresses that it names.
-module _ (s : List ℕ) where
+-- A call's body, by its length and the addresses that it names.
+pub call-cut : (s : List ℕ) → length s < callBytes → OutOfRange ≡ callOf s
+unfolding callOf
+call-cut s short = simp (lt-leb callBytes (length s) short)
+
+module _ (s : List ℕ) (whole : callBytes ≤ length s) where
+  -- It is in its own bytes.
+  pub call-taken : callOf (take callBytes s) ≡ callOf s
+  unfolding callOf
+  call-taken =
+      let long : length (take callBytes s) ≡ callBytes = length-take-le callBytes s whole in
+      let same : (k at : ℕ) → at + k ≤ callBytes → readLe k (take callBytes s) at ≡ readLe k s at = λ k at fit. read-taken k callBytes s at fit whole in
+      rw (long, le-leb callBytes (length s) whole, same 2 0 (omega arith), same 2 2 (omega arith), same 2 4 (omega arith), same 8 6 (omega arith), same 4 14 (omega arith), same 4 18 (omega arith), same 4 22 (omega arith), same 4 26 (omega arith))
+
   pub call-sender : (contract : Contract) → addressOf (readLe 2 s 0) ≡ OfContract contract → OutOfRange ≡ callOf s
   unfolding callOf
   call-sender contract e =
       let h = contract-above (readLe 2 s 0) contract e in
       let high : firstContract ≤ readLe 2 s 0 = omega (arith, h .0, h .1) in
-      simp (le-ltb (readLe 2 s 0) firstContract high)
+      simp (le-leb callBytes (length s) whole, le-ltb (readLe 2 s 0) firstContract high)
 
   module _ (sender : Account) (e : addressOf (readLe 2 s 0) ≡ OfAccount sender) where
     from : (sender .0 ≡ readLe 2 s 0) × (sender .0 < firstContract)
@@ -118,7 +130,7 @@ module _ (s : List ℕ) where
     call-contract account f =
         let h = account-below (readLe 2 s 2) account f in
         let under : readLe 2 s 2 < firstContract = omega (arith, h .0, h .1) in
-        simp (lt-ltb (readLe 2 s 0) firstContract low, lt-leb firstContract (readLe 2 s 2) under)
+        simp (le-leb callBytes (length s) whole, lt-ltb (readLe 2 s 0) firstContract low, lt-leb firstContract (readLe 2 s 2) under)
 
     module _ (contract : Contract) (f : addressOf (readLe 2 s 2) ≡ OfContract contract) where
       to : (contract .0 ≡ readLe 2 s 2) × (firstContract ≤ contract .0)
@@ -129,12 +141,12 @@ module _ (s : List ℕ) where
 
       pub call-negative : nonNeg (signed 64 (readLe 8 s 6)) ≡ false → OutOfRange ≡ callOf s
       unfolding callOf
-      call-negative g = simp (lt-ltb (readLe 2 s 0) firstContract low, le-leb firstContract (readLe 2 s 2) high, g)
+      call-negative g = simp (le-leb callBytes (length s) whole, lt-ltb (readLe 2 s 0) firstContract low, le-leb firstContract (readLe 2 s 2) high, g)
 
       pub call-good : nonNeg (signed 64 (readLe 8 s 6)) ≡ true
           → InRange (record { sender = sender; contract = contract; function = readLe 2 s 4; value = signed 64 (readLe 8 s 6); arg1 = readLe 4 s 14; arg2 = readLe 4 s 18; arg3 = readLe 4 s 22; arg4 = readLe 4 s 26 })
           ≡ callOf s
       unfolding callOf
       call-good g =
-          simp (lt-ltb (readLe 2 s 0) firstContract low, le-leb firstContract (readLe 2 s 2) high, g)
+          simp (le-leb callBytes (length s) whole, lt-ltb (readLe 2 s 0) firstContract low, le-leb firstContract (readLe 2 s 2) high, g)
           (λ i. InRange (record { sender = record { 0 = from .0 i }; contract = record { 0 = to .0 i }; function = readLe 2 s 4; value = signed 64 (readLe 8 s 6); arg1 = readLe 4 s 14; arg2 = readLe 4 s 18; arg3 = readLe 4 s 22; arg4 = readLe 4 s 26 }))

@@ -119,10 +119,10 @@ cellAllowed s =
     keyAllowed (addressOf (number 2 s)) (readLe 2 s 2) (readLe 4 s 4) (readLe 4 s 8)
     && (if eqb (readLe 2 s 2) 0 then ltZ (pos 0) (signed 64 (readLe 8 s 12)) else not (eqb (readLe 8 s 12) 0))
 
--- A call's body at the front of the bytes, with 5 for it: "sender account", "contract", "value 8 (signed, 0 or more)".
+-- A call's body at the front of the bytes, all of it there, with 5 for it: "sender account", "contract", "value 8 (signed, 0 or more)".
 unfoldable pub callOf : List ℕ → CallBody
 callOf s =
-    if ltb (number 2 s) firstContract && leb firstContract (readLe 2 s 2) && nonNeg (signed 64 (readLe 8 s 6))
+    if leb callBytes (length s) && ltb (number 2 s) firstContract && leb firstContract (readLe 2 s 2) && nonNeg (signed 64 (readLe 8 s 6))
     then
     InRange
     (record {

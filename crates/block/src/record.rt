@@ -10,10 +10,10 @@ use crate::part::from;
 use crate::part::long;
 use crate::part::short;
 ghost use mathlib.Core.Path.{_≡_};
-ghost use lib.ListN.{drop};
-ghost use Prim.Native.Nat.{_+_, _*_, _^_};
+ghost use lib.ListN.{length, drop};
+ghost use Prim.Native.Nat.{_+_, _*_, _^_, _≤_};
 ghost use Rattle.block.specs.Key.{addressNumber, payeeOf, keyAllowed};
-ghost use Rattle.block.specs.Record.{callOf, argument, codeAt, idOf, lengthAllowed};
+ghost use Rattle.block.specs.Record.{callBytes, callOf, argument, codeAt, idOf, lengthAllowed};
 
 // "little-endian records: length (2 bytes, of the body), kind (2), body", and the kinds.
 pub const HEAD_BYTES: usize = 4;
@@ -124,11 +124,11 @@ pub fn code_at(block: &[u8], start: usize, size: usize) -> &[u8]
     &code[..end]
 }
 
-// The call whose body starts at a position of the block; bytes past the end count as 0.
-pub fn call_at(block: &[u8], at: usize) -> CallBody
-    ensures { λ r. ⌜ r ≡ callOf (drop at (now (block .entry))) ⌝ }
+// The call of a body.
+fn call_in(s: &[u8]) -> CallBody
+    requires { ⌜ callBytes ≤ length (now s) ⌝ }
+    ensures { λ r. ⌜ r ≡ callOf (now (s .entry)) ⌝ }
 {
-    let s = from(block, at);
     let value = wire::get_i64(s, 6);
     let Address::OfAccount(sender) = address_of(short(s, 0)) else {
         return CallBody::OutOfRange;
@@ -149,6 +149,18 @@ pub fn call_at(block: &[u8], at: usize) -> CallBody
         arg3: long(s, 22),
         arg4: long(s, 26),
     })
+}
+
+// The call whose body starts at a position of the block; one that is cut is none. The body is lent as a slice of just its length, so that no
+// read of its parts tests again where it ends.
+pub fn call_at(block: &[u8], at: usize) -> CallBody
+    ensures { λ r. ⌜ r ≡ callOf (drop at (now (block .entry))) ⌝ }
+{
+    let rest = from(block, at);
+    if rest.len() < CALL_BYTES {
+        return CallBody::OutOfRange;
+    }
+    call_in(&rest[..CALL_BYTES])
 }
 
 // Argument 1 to 4 of a call.

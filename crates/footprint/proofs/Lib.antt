@@ -1,5 +1,6 @@
 -- To read: SetsExact, SafeSetsProof and TransactionExchange are the theorems of SetsInWords and SafeSets. Below them: SetLaws, SetAccessLaws and
--- ConflictLaws on sets, TransactionLaws, RuleLimit, FitLaws and AlikeLaws on the rule. AccessLaws is for this crate's own code.
+-- ConflictLaws on sets, TransactionLaws, RuleLimit, FitLaws and AlikeLaws on the rule. AccessLaws is for the code that asks for the uses of an
+-- instruction, here and in `moves`.
 pub mod SetLaws
 pub mod SetAccessLaws
 pub mod ConflictLaws
@@ -10,4 +11,4 @@ pub mod FitLaws
 mod AlikeLaws
 pub mod SafeSetsProof
 mod TransactionExchange
-mod AccessLaws
+pub mod AccessLaws

@@ -7,7 +7,7 @@ use Prim.Native.Nat.{ℕ, zero, suc, _+_, _*_, _^_, _<_}
 use native.Mathlib.Omega.{arith}
 use borrow.Author.Tests.{ltb-true, leb-true}
 use lib.Dec.{ltb, leb, lit<}
-use lib.ListN.{drop}
+use lib.ListN.{length, drop}
 use lib.IntN.{ℤ, pos}
 use lib.Signed.{mag, ltZ, nonNeg}
 use Rattle.arith.specs.Choice.{if_then_else_}
@@ -18,7 +18,7 @@ use Rattle.wire.proofs.BytesLaws.{number-lt}
 use Rattle.block.specs.Key.{firstContract, payeeOf, isBalance}
 use Rattle.block.specs.Instruction.{instrBytes, decode}
 use Rattle.block.proofs.DecodeLaws.{Decodes}
-use Rattle.block.specs.Record.{Function, argument, callOf}
+use Rattle.block.specs.Record.{Function, callBytes, argument, callOf}
 use Rattle.block.specs.declared.Call.{Call}
 use Rattle.block.specs.declared.CallBody.the-variants.{InRange, OutOfRange}
 use Rattle.block.specs.declared.Payee.the-variants.{To, NoAccount}
@@ -40,8 +40,11 @@ use Rattle.rule.specs.Rule.{State, update, credit, debit, withInstr, bodyOf, st
 -- A call that the reader lets pass has them.
 pub read-call-bounded : (s : List ℕ) → AreBytes s → (c : Call) → callOf s ≡ InRange c → CallBounded c
 unfolding callOf
-read-call-bounded s h c e = go account contract value refl refl refl e
+read-call-bounded s h c e = go whole account contract value refl refl refl e
   where
+    whole : Bool
+    whole = leb callBytes (length s)
+
     account : Bool
     account = ltb (number 2 s) firstContract
 
@@ -76,8 +79,8 @@ read-call-bounded s h c e = go account contract value refl refl refl e
     other : OutOfRange ≡ InRange c → CallBounded c
     other f = let n : _≡_ {A = ℕ} 0 1 = cc in absurd (omega arith)
 
-    go : (a b v : Bool) → account ≡ a → contract ≡ b → value ≡ v → (if a && b && v then InRange read else OutOfRange) ≡ InRange c → CallBounded c
-    go true true true ea eb ev f =
+    go : (w a b v : Bool) → account ≡ a → contract ≡ b → value ≡ v → (if w && a && b && v then InRange read else OutOfRange) ≡ InRange c → CallBounded c
+    go true true true true ea eb ev f =
         let same : read ≡ c = cc in
         subst CallBounded same
         (record {
@@ -87,9 +90,10 @@ read-call-bounded s h c e = go account contract value refl refl refl e
           value = ev;
           small = signed-range 64 (readLe 8 s 6) (lit< tt) (number-lt 8 (drop 6 s) (drop-bytes 6 s h));
         })
-    go true true false ea eb ev f = other f
-    go true false v ea eb ev f = other f
-    go false b v ea eb ev f = other f
+    go true true true false ea eb ev f = other f
+    go true true false v ea eb ev f = other f
+    go true false b v ea eb ev f = other f
+    go false a b v ea eb ev f = other f
 
 -- ---- the instructions of a code
 

@@ -10,10 +10,10 @@ use block::record::argument;
 use block::record::high_of;
 use block::record::payee_of;
 ghost use mathlib.Core.Path.{_≡_};
-ghost use mathlib.Core.List.{[]};
-ghost use Rattle.block.specs.Key.{addressNumber, keyOf};
-ghost use Rattle.footprint.specs.Access.{accesses, entryAccesses, payAccesses};
-ghost use Rattle.block.specs.Naming.{cellKey, sourceValue};
+ghost use mathlib.Core.List.{[], _∷_};
+ghost use Rattle.block.specs.Key.{addressNumber, contractBalance, keyOf};
+ghost use Rattle.footprint.specs.Access.{reading, writing, accesses, entryAccesses, payAccesses};
+ghost use Rattle.block.specs.Naming.{cellKey, sourceValue, targetOf};
 ghost use Rattle.footprint.specs.Uses.{noUse, useOf, usesOf};
 
 // The number that a source gives in a call: 32 bits hold it.
@@ -127,8 +127,28 @@ pub fn entry_uses(c: Call) -> Uses
     no_uses()
 }
 
+// "GET reads its key, PUT writes its key, BAL reads the contract's balance": the uses of each.
+pub fn get_uses(c: Call, field: u16, a: Source, b: Source) -> Uses
+    ensures { λ r. ⌜ r ≡ usesOf (reading (cellKey c field a b) ∷ []) ⌝ }
+{
+    one(cell_use(c, field, a, b, true, false))
+}
+
+pub fn put_uses(c: Call, field: u16, a: Source, b: Source) -> Uses
+    ensures { λ r. ⌜ r ≡ usesOf (writing (cellKey c field a b) ∷ []) ⌝ }
+{
+    one(cell_use(c, field, a, b, false, true))
+}
+
+pub fn bal_uses(c: Call) -> Uses
+    ensures { λ r. ⌜ r ≡ usesOf (reading (contractBalance (c .contract)) ∷ []) ⌝ }
+{
+    let contract = c.contract;
+    one(balance_use(Address::OfContract(contract), true, false))
+}
+
 // "PAY reads and writes it and writes the target's balance if the target is an account": it is the contract's balance.
-fn pay_uses(c: Call, target: Payee) -> Uses
+fn payee_uses(c: Call, target: Payee) -> Uses
     ensures { λ r. ⌜ r ≡ usesOf (payAccesses c target) ⌝ }
 {
     let contract = c.contract;
@@ -139,16 +159,21 @@ fn pay_uses(c: Call, target: Payee) -> Uses
     }
 }
 
-// "GET reads its key, PUT writes its key, BAL reads the contract's balance"; the others but PAY use no key.
+pub fn pay_uses(c: Call, target: Source) -> Uses
+    ensures { λ r. ⌜ r ≡ usesOf (payAccesses c (targetOf c target)) ⌝ }
+{
+    payee_uses(c, payee_of(source_value(c, target)))
+}
+
+// The uses of an instruction; the others use no key.
 pub fn instr_uses(c: Call, i: Instr) -> Uses
     ensures { λ r. ⌜ r ≡ usesOf (accesses c i) ⌝ }
 {
-    let contract = c.contract;
     match i {
-        Instr::Get { x: _, field, a, b } => one(cell_use(c, field, a, b, true, false)),
-        Instr::Put { x: _, field, a, b } => one(cell_use(c, field, a, b, false, true)),
-        Instr::Bal { x: _ } => one(balance_use(Address::OfContract(contract), true, false)),
-        Instr::Pay { x: _, target } => pay_uses(c, payee_of(source_value(c, target))),
+        Instr::Get { x: _, field, a, b } => get_uses(c, field, a, b),
+        Instr::Put { x: _, field, a, b } => put_uses(c, field, a, b),
+        Instr::Bal { x: _ } => bal_uses(c),
+        Instr::Pay { x: _, target } => pay_uses(c, target),
         _ => no_uses(),
     }
 }

@@ -8,7 +8,7 @@ use mathlib.Core.Bool.{Bool, true, false, _&&_, _||_, not}
 use mathlib.Core.List.{List, [], _∷_}
 use Prim.Native.Nat.{ℕ, zero, suc, _+_, _-_, _*_}
 use lib.Dec.{eqb, leb, ltb}
-use lib.ListN.{length, drop}
+use lib.ListN.{drop}
 use Rattle.footprint.specs.Plan.{codeStart, codeLength, keyCount}
 use Rattle.arith.specs.Choice.{if_then_else_}
 use Rattle.wire.specs.Rows.{inRow}
@@ -148,7 +148,7 @@ stepped r worker call (done outcome count cells) =
           };
     }
 
--- The call's record in the lent block, its fields in their ranges.
+-- The call's record, whole in the lent block, its fields in their ranges.
 unfoldable pub stepRecord : List ℕ → Run → ℕ → ℕ → CallBody → Moved
 stepRecord block r worker call OutOfRange = stay r Damaged
 stepRecord block r worker call (InRange body) = stepped r worker call (stepCall (viewOf block r call body) (localOf r worker call) (r .cells))
@@ -156,14 +156,11 @@ stepRecord block r worker call (InRange body) = stepped r worker call (stepCall 
 -- The place (entry, or 0 to the code's length), the count, and the call's record.
 unfoldable pub stepHeld : List ℕ → Run → ℕ → ℕ → Moved
 stepHeld block r worker call =
-    let at : ℕ = r .head .«first_call» + callRecordBytes * call in
     if ltb (maxCode + 1) (planWord (r .plan) call codeLength) || ltb (planWord (r .plan) call codeLength) (placeIn (r .seats) worker)
     then stay r Damaged
     else if ltb maxCount (countIn (r .seats) worker)
     then stay r Damaged
-    else if ltb (length block) (at + callRecordBytes)
-    then stay r Damaged
-    else stepRecord block r worker call (callOf (drop (at + headBytes) block))
+    else stepRecord block r worker call (callOf (drop (r .head .«first_call» + callRecordBytes * call + headBytes) block))
 
 -- "CANCEL(worker) restores likewise; the call waits again, count 0."
 unfoldable pub cancelHeld : Run → ℕ → ℕ → Moved

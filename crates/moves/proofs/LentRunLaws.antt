@@ -7,11 +7,12 @@ use native.Mathlib.Omega.{arith}
 use borrow.Author.Tests.{lt-ltb, le-ltb, leb-true, leb-false, ltb-false}
 use lib.Dec.{leb, ltb}
 use lib.IntN.{ℤ}
-use lib.ListN.{length, set, drop}
+use lib.ListN.{length, set, drop, length-drop}
 use Rattle.arith.specs.Choice.{if_then_else_}
 use Rattle.block.specs.Limits.{maxCode}
 use Rattle.block.specs.Outcomes.{maxCount, thrown}
-use Rattle.block.specs.Record.{callOf, callRecordBytes}
+use Rattle.block.specs.Record.{headBytes, callBytes, callRecordBytes, callOf}
+use Rattle.block.proofs.Laws.{call-cut}
 use Rattle.block.specs.declared.Call.{Call}
 use Rattle.block.specs.declared.CallBody.{CallBody}
 use Rattle.block.specs.declared.CallBody.the-variants.{InRange, OutOfRange}
@@ -58,29 +59,12 @@ module _ (s : Site) {code : ℕ} {word : ℕ} (own : code ≡ word) where
   pub range-count : code ≤ maxCode + 1 → s .place ≤ code → leb (s .count) maxCount ≡ inRange word s
   range-count g h = rw (← own, le-ltb (maxCode + 1) code g, le-ltb code (s .place) h) (not-above (s .count) maxCount)
 
-pub record-short : (len first c : ℕ) → len < callRecordBytes * c + callRecordBytes → false ≡ not (ltb len (first + callRecordBytes * c + callRecordBytes))
-record-short len first c h = let short : len < first + callRecordBytes * c + callRecordBytes = omega arith in rw (lt-ltb len (first + callRecordBytes * c + callRecordBytes) short)
-
-pub record-there : (len first c : ℕ) → callRecordBytes * c + callRecordBytes ≤ len → leb first (len - (callRecordBytes * c + callRecordBytes)) ≡ not (ltb len (first + callRecordBytes * c + callRecordBytes))
-record-there len first c h = go (leb first (len - (callRecordBytes * c + callRecordBytes))) refl
-  where
-    go : (t : Bool) → leb first (len - (callRecordBytes * c + callRecordBytes)) ≡ t → t ≡ not (ltb len (first + callRecordBytes * c + callRecordBytes))
-    go true e =
-        let below : first ≤ len - (callRecordBytes * c + callRecordBytes) = leb-true first (len - (callRecordBytes * c + callRecordBytes)) e in
-        let fits : first + callRecordBytes * c + callRecordBytes ≤ len = omega arith in
-        rw (le-ltb len (first + callRecordBytes * c + callRecordBytes) fits)
-    go false e =
-        let above : len - (callRecordBytes * c + callRecordBytes) < first = leb-false first (len - (callRecordBytes * c + callRecordBytes)) e in
-        let short : len < first + callRecordBytes * c + callRecordBytes = omega arith in
-        rw (lt-ltb len (first + callRecordBytes * c + callRecordBytes) short)
-
--- What the tests tell.
-pub record-inside : {b : Bool} (len first c : ℕ) → b ≡ not (ltb len (first + callRecordBytes * c + callRecordBytes)) → b ≡ true → first + callRecordBytes * c + callRecordBytes ≤ len
-record-inside len first c e f = ltb-false len (first + callRecordBytes * c + callRecordBytes) (off (ltb len (first + callRecordBytes * c + callRecordBytes)) (sym e ∙ f))
-  where
-    off : (t : Bool) → not t ≡ true → t ≡ false
-    off true h = sym h
-    off false h = refl
+-- A record behind the end of the block.
+pub record-short : (block : List ℕ) (first c : ℕ) → length block < first + callRecordBytes * c + headBytes
+    → OutOfRange ≡ callOf (drop (first + callRecordBytes * c + headBytes) block)
+record-short block first c h =
+    let cut : length (drop (first + callRecordBytes * c + headBytes) block) < callBytes = simp length-drop (omega arith) in
+    call-cut (drop (first + callRecordBytes * c + headBytes) block) cut
 
 -- Two tests in a row, as one.
 two-tests : {A : Type 0} (p q ok : Bool) (x y : A) → ok ≡ (not p && not q) → ok ≡ false → x ≡ (if p then x else if q then x else y)
@@ -146,12 +130,9 @@ module _ (head : Head) (block plan keys : List ℕ) (cells : List ℤ) (status s
       ∙ stands-settled (cellView plan keys c) (workerSaved plan frames w c) here
       ∙ ap (stepped run w c) (concluded-view block plan keys c call (workerSaved plan frames w c) cells here)
 
-  -- A step behind the tests of the seat, with the first call record at a place; and behind those of the record.
+  -- A step behind the tests of the seat, with the first call record at a place.
   abbrev behindSeat : ℕ → Moved
-  behindSeat first =
-      if ltb (length block) (first + callRecordBytes * c + callRecordBytes)
-      then stay run Damaged
-      else stepRecord block run w c (callOf (drop (first + callRecordBytes * c + 4) block))
+  behindSeat first = stepRecord block run w c (callOf (drop (first + callRecordBytes * c + headBytes) block))
 
   abbrev badPlace : Bool
   badPlace = ltb (maxCode + 1) (planWord plan c 1) || ltb (planWord plan c 1) (placeIn seats w)
@@ -169,39 +150,21 @@ module _ (head : Head) (block plan keys : List ℕ) (cells : List ℤ) (status s
     held-unseated = two-tests badPlace badCount ok (stay run Damaged) (behindSeat (head .«first_call»)) same-test
 
     module _ (seated : ok ≡ true) {first : ℕ} (starts : first ≡ head .«first_call»)
-        {there : Bool} (found : there ≡ not (ltb (length block) (first + callRecordBytes * c + callRecordBytes))) where
+        {body : CallBody} (read : body ≡ callOf (drop (first + callRecordBytes * c + headBytes) block)) where
       on-head : behindSeat (head .«first_call») ≡ stepHeld block run w c
       unfolding stepHeld
       on-head = both-passed badPlace badCount ok (stay run Damaged) (behindSeat (head .«first_call»)) same-test seated
 
-      on-seat : behindSeat first ≡ stepHeld block run w c
-      on-seat = ap behindSeat starts ∙ on-head
+      on-record : stepRecord block run w c body ≡ stepHeld block run w c
+      on-record = ap (stepRecord block run w c) read ∙ ap behindSeat starts ∙ on-head
 
-      pub held-cut : there ≡ false → stay run Damaged ≡ stepHeld block run w c
-      held-cut e = cut (ltb (length block) (first + callRecordBytes * c + callRecordBytes)) (sym found ∙ e) ∙ on-seat
-        where
-          cut : (t : Bool) → not t ≡ false
-              → stay run Damaged ≡ (if t then stay run Damaged else stepRecord block run w c (callOf (drop (first + callRecordBytes * c + 4) block)))
-          cut true h = refl
-          cut false h = let z : _≡_ {A = ℕ} 0 1 = cc in absurd (omega arith)
+      pub held-broken : body ≡ OutOfRange → stay run Damaged ≡ stepHeld block run w c
+      unfolding stepRecord
+      held-broken e = ap (stepRecord block run w c) (sym e) ∙ on-record
 
-      on-record : there ≡ true → stepRecord block run w c (callOf (drop (first + callRecordBytes * c + 4) block)) ≡ stepHeld block run w c
-      on-record e = whole (ltb (length block) (first + callRecordBytes * c + callRecordBytes)) (sym found ∙ e) ∙ on-seat
-        where
-          whole : (t : Bool) → not t ≡ true
-              → stepRecord block run w c (callOf (drop (first + callRecordBytes * c + 4) block))
-              ≡ (if t then stay run Damaged else stepRecord block run w c (callOf (drop (first + callRecordBytes * c + 4) block)))
-          whole true h = let z : _≡_ {A = ℕ} 0 1 = cc in absurd (omega arith)
-          whole false h = refl
-
-      module _ (whole : there ≡ true) {body : CallBody} (read : body ≡ callOf (drop (first + callRecordBytes * c + 4) block)) where
-        pub held-broken : body ≡ OutOfRange → stay run Damaged ≡ stepHeld block run w c
-        unfolding stepRecord
-        held-broken e = ap (stepRecord block run w c) (sym e ∙ read) ∙ on-record whole
-
-        pub held-stepped : {call : Call} {m : Moved} → body ≡ InRange call → m ≡ stepped run w c (stepCall (viewOf block run c call) (localOf run w c) cells) → m ≡ stepHeld block run w c
-        unfolding stepRecord
-        held-stepped e p = p ∙ ap (stepRecord block run w c) (sym e ∙ read) ∙ on-record whole
+      pub held-stepped : {call : Call} {m : Moved} → body ≡ InRange call → m ≡ stepped run w c (stepCall (viewOf block run c call) (localOf run w c) cells) → m ≡ stepHeld block run w c
+      unfolding stepRecord
+      held-stepped e p = p ∙ ap (stepRecord block run w c) (sym e) ∙ on-record
 
 -- ---- the held call
 

@@ -29,14 +29,21 @@ pub(crate) fn plan_word(plan: &[u64], call: usize, k: usize) -> u64
     plan[PLAN_WORDS * call + k]
 }
 
-// Whether cell n has the key of a use.
-fn has_key(keys: &[u64], n: usize, u: KeyUse) -> bool
-    requires { ⌜ maxKeys * keyWords ≤ length (now keys) ⌝ }
-    requires { ⌜ n < maxKeys ⌝ }
-    requires { ⌜ KeyWorded u ⌝ }
-    ensures { λ r. ⌜ r ≡ hasKey (now (keys .entry)) n (accessOf u .key) ⌝ }
+// Where the key of an entry's cell starts; the entry less its flags is the cell's number times ENTRY_FLAGS.
+fn key_place(e: u64) -> usize
+    ensures { λ r. ⌜ r ≡ keyWords * entryCell e ⌝ }
 {
-    let at = KEY_WORDS * n;
+    (e - e % ENTRY_FLAGS) as usize / (ENTRY_FLAGS as usize / KEY_WORDS)
+}
+
+// Whether the cell of an entry has the key of a use.
+fn has_key(keys: &[u64], e: u64, u: KeyUse) -> bool
+    requires { ⌜ maxKeys * keyWords ≤ length (now keys) ⌝ }
+    requires { ⌜ entryCell e < maxKeys ⌝ }
+    requires { ⌜ KeyWorded u ⌝ }
+    ensures { λ r. ⌜ r ≡ hasKey (now (keys .entry)) (entryCell e) (accessOf u .key) ⌝ }
+{
+    let at = key_place(e);
     let high = keys[at];
     let low = keys[at + 1];
     (high == u.high) & (low == u.low)
@@ -77,11 +84,10 @@ pub(crate) fn lookup(plan: &[u64], keys: &[u64], call: usize, u: KeyUse) -> Look
     let mut k = 0;
     while k < n {
         let e = plan[first + k];
-        let cell = (e / ENTRY_FLAGS) as usize;
-        if MAX_KEYS <= cell {
+        if MAX_KEYS <= (e / ENTRY_FLAGS) as usize {
             return Lookup::NoCell;
         }
-        if has_key(keys, cell, u) {
+        if has_key(keys, e, u) {
             return kept(e, u);
         }
         k += 1;

@@ -6,13 +6,18 @@ use action::act_at;
 use action::enter;
 use block::Call;
 use block::Decoded;
+use block::Instr;
 use block::outcomes::ENDED;
 use block::outcomes::UNKNOWN_FUNCTION;
 use block::record::INSTR_BYTES;
 use block::record::code_at;
+use footprint::Uses;
+use footprint::access::bal_uses;
 use footprint::access::entry_uses;
-use footprint::access::instr_uses;
+use footprint::access::get_uses;
 use footprint::access::no_uses;
+use footprint::access::pay_uses;
+use footprint::access::put_uses;
 use footprint::layout::CODE_LENGTH;
 use footprint::layout::CODE_START;
 use machine::Action;
@@ -25,7 +30,9 @@ ghost use lib.ListN.{drop, length};
 ghost use Rattle.block.specs.Instruction.{decode, instrBytes};
 ghost use Rattle.block.specs.Limits.{maxCalls, maxCode};
 ghost use Rattle.block.specs.Outcomes.{maxCount};
+ghost use Rattle.footprint.specs.Access.{accesses};
 ghost use Rattle.footprint.specs.Plan.{codeLength, planWords};
+ghost use Rattle.footprint.specs.Uses.{usesOf};
 ghost use Rattle.machine.specs.Run.{planWord};
 ghost use Rattle.machine.specs.Step.{stepDecoded, stepEntry, stepInstr, stepPlace};
 ghost use Rattle.moves.specs.Turn.{cellView, dueDone, endDue, nothingDue, viewIn, DueDoable, SiteInRange};
@@ -83,6 +90,20 @@ fn due_at_entry(plan: &[u64], site: Site, regs: [i64; 8], body: Call) -> Due
     }
 }
 
+// The uses of an instruction, as the set analysis has them by `instr_uses`. Of all callers a step asks most often: a function that it alone
+// calls is compiled into it.
+fn step_uses(c: Call, i: Instr) -> Uses
+    ensures { λ r. ⌜ r ≡ usesOf (accesses c i) ⌝ }
+{
+    match i {
+        Instr::Get { x: _, field, a, b } => get_uses(c, field, a, b),
+        Instr::Put { x: _, field, a, b } => put_uses(c, field, a, b),
+        Instr::Bal { x: _ } => bal_uses(c),
+        Instr::Pay { x: _, target } => pay_uses(c, target),
+        _ => no_uses(),
+    }
+}
+
 // "Else one instruction runs and counts 1, also the one that fails." The instruction is the one of the code at the site's place.
 fn due_decoded(code: &[u8], size: u16, site: Site, regs: [i64; 8], body: Call) -> Due
     requires { ⌜ (0 < site .place) × (site .place ≤ maxCode) ⌝ }
@@ -103,7 +124,7 @@ fn due_decoded(code: &[u8], size: u16, site: Site, regs: [i64; 8], body: Call) -
     Due {
         sound: true,
         count: site.count + 1,
-        uses: instr_uses(body, i),
+        uses: step_uses(body, i),
         action,
     }
 }

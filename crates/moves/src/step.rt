@@ -13,7 +13,6 @@ use crate::held::held_call;
 use crate::held::worker_tested;
 use crate::lookup::plan_word;
 use crate::perform::damaged;
-use crate::perform::done;
 use crate::perform::perform;
 use crate::place::due;
 use crate::seat::count_of;
@@ -40,10 +39,10 @@ ghost use mathlib.Core.Bool.{_&&_, _||_, not};
 ghost use mathlib.Core.List.{List};
 ghost use Prim.Native.Nat.{ℕ, _+_, _-_, _*_, _≤_, _<_};
 ghost use lib.Dec.{ltb};
-ghost use lib.ListN.{length};
+ghost use lib.ListN.{length, drop};
 ghost use Rattle.block.specs.Limits.{maxCalls, maxCode, maxWorkers};
 ghost use Rattle.block.specs.Outcomes.{maxCount};
-ghost use Rattle.block.specs.Record.{callRecordBytes};
+ghost use Rattle.block.specs.Record.{callRecordBytes, headBytes, callOf};
 ghost use Rattle.footprint.specs.Plan.{codeLength, planWords};
 ghost use Rattle.machine.specs.Run.{fixedSizes, heldAt, planWord, withHeld, withReceipt};
 ghost use Rattle.machine.specs.Step.{finish, stepPlace};
@@ -105,16 +104,19 @@ fn in_range(plan: &[u64], site: Site) -> bool
     site.count <= MAX_COUNT
 }
 
-// Whether the record of a call lies in a block of `len` bytes whose first call record starts at `start`.
-fn has_record(len: usize, start: usize, call: usize) -> bool
+// The record of a call in a block whose first call record starts at `start`; one that the block does not hold whole is none.
+fn record_of(block: &[u8], start: usize, call: usize) -> CallBody
     requires { ⌜ call < maxCalls ⌝ }
-    ensures { λ r. ⌜ r ≡ not (ltb len (start + callRecordBytes * call + callRecordBytes)) ⌝ }
+    ensures { λ r. ⌜ r ≡ callOf (drop (start + callRecordBytes * call + headBytes) (now (block .entry))) ⌝ }
 {
-    let end = CALL_RECORD_BYTES * call + CALL_RECORD_BYTES;
-    if len < end {
-        return false;
+    let at = CALL_RECORD_BYTES * call + HEAD_BYTES;
+    if block.len() < at {
+        return CallBody::OutOfRange;
     }
-    start <= len - end
+    if block.len() - at < start {
+        return CallBody::OutOfRange;
+    }
+    call_at(block, start + at)
 }
 
 // The call that a worker holds, in a run whose first call record starts at `start`: what its place comes to.
@@ -145,11 +147,7 @@ fn step_held(
     if !in_range(plan, site) {
         return damaged();
     }
-    if !has_record(block.len(), start, call) {
-        return damaged();
-    }
-    let CallBody::InRange(body) = call_at(block, start + CALL_RECORD_BYTES * call + HEAD_BYTES)
-    else {
+    let CallBody::InRange(body) = record_of(block, start, call) else {
         return damaged();
     };
     let regs = regs_of(frames, worker);

@@ -10,8 +10,8 @@ use borrow.Author.Tests.{lt-ltb, le-ltb}
 use lib.Dec.{lit<}
 use lib.IntN.{ℤ, pos, negsuc}
 use lib.Signed.{mag}
-use lib.ListN.{length, getD, take, drop, set, length-set, length-append, length-replicate, drop-of-length-le, List·getD-append}
-use lib.Seq.{drop-nil, drop-cons, drop-append-add, set-out, getD-set-same, getD-set-other, sets, sets-eq}
+use lib.ListN.{length, getD, take, drop, set, length-set, length-append, length-replicate, drop-of-length-le, take-append-drop, List·getD-append}
+use lib.Seq.{drop-nil, drop-cons, drop-append-add, length-take-le, set-out, getD-set-same, getD-set-other, sets, sets-eq}
 use Rattle.arith.specs.Exact.{signed, unsigned}
 use Rattle.wire.specs.Bytes.{number, readLe, bytesOf, stored, writeLe, repeated, padded}
 
@@ -81,6 +81,12 @@ read-same (suc k) s t at h =
 -- A number in two lists behind each other: in the first where it lies there whole, and in the second from that one's start on.
 pub read-first : (k : ℕ) (s t : List ℕ) (at : ℕ) → at + k ≤ length s → readLe k (s ++ t) at ≡ readLe k s at
 read-first k s t at h = read-same k (s ++ t) s at (λ i lo hi. List·getD-append s t 0 i (omega arith))
+
+-- In a first part that holds it, a number is the same.
+pub read-taken : (k n : ℕ) (s : List ℕ) (at : ℕ) → at + k ≤ n → n ≤ length s → readLe k (take n s) at ≡ readLe k s at
+read-taken k n s at h fit =
+    let long : length (take n s) ≡ n = length-take-le n s fit in
+    sym (read-first k (take n s) (drop n s) at (omega arith)) ∙ ap (λ (t : List ℕ). readLe k t at) (take-append-drop n s)
 
 pub read-second : (k : ℕ) (s t : List ℕ) (at : ℕ) → readLe k (s ++ t) (length s + at) ≡ readLe k t at
 read-second k s t at = ap (number k) (drop-append-add s t at)

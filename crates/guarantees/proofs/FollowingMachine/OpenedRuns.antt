@@ -124,9 +124,6 @@ module _ (s : Sizes) (file : List ℕ) (workers : ℕ) (after : AfterOpening s f
         fewCalls = after .opened .fewCalls;
         tidy = tidy;
         body = λ c l. let o = after .opened .calls c l in (o .0, body c (o .0) (o .1));
-        inside = λ c l.
-            let o = after .opened .calls c l in
-            subst⁻¹ (λ (at : ℕ). at + callRecordBytes * c + callRecordBytes ≤ length file) first (o .1 .within);
         row = λ i c less l. after .opened .waits i c l ∙ ap (λ (t : Bool). t && isBefore file i c) (lt-ltb i c less);
       }
 

@@ -56,7 +56,6 @@ pub record Base (file : List ℕ) (workers n : ℕ) (before : ℕ → ℕ → Bo
   pub fewCalls : n ≤ maxCalls
   pub tidy : (c : ℕ) → c < n → Tidy (runView file r₀ c)
   pub body : (c : ℕ) → c < n → (call : Call) × (callOf (drop (r₀ .head .«first_call» + callRecordBytes * c + headBytes) file) ≡ InRange call)
-  pub inside : (c : ℕ) → c < n → r₀ .head .«first_call» + callRecordBytes * c + callRecordBytes ≤ length file
   pub row : (i c : ℕ) → i < c → c < n → inRow (rowIn (r₀ .plan) c) i ≡ before i c
 
 -- The calls of the run.

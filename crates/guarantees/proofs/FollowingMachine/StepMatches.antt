@@ -192,9 +192,6 @@ module _ (file : List ℕ) (workers n : ℕ) (before : ℕ → ℕ → Bool) (r�
     local-same = λ i. record { place = k .own .place i; count = k .own .count i; regs = k .own .regs i; saved = old i }
 
     -- The tests of a held call.
-    abbrev at : Run → ℕ
-    at s = s .head .«first_call» + callRecordBytes * c
-
     held-steps : stepHeld file r w c ≡ stepped r w c result
     unfolding stepHeld stepRecord
     held-steps =
@@ -205,11 +202,9 @@ module _ (file : List ℕ) (workers n : ℕ) (before : ℕ → ℕ → Bool) (r�
         let count : countIn (r .seats) w ≡ k .local .count = k .own .count in
         let within : k .local .place ≤ planWord (r₀ .plan) c 1 = k .own .range .within in
         let counted : k .local .count ≤ maxCount = ranged-count (k .own .range) in
-        let inside : r₀ .head .«first_call» + callRecordBytes * c + callRecordBytes ≤ length file = base .inside c (k .call) in
         let first : r .head .«first_call» ≡ r₀ .head .«first_call» = m .first in
         if-false _ _ (in-code (planWord (r .plan) c 1) (placeIn (r .seats) w) (omega arith) (omega arith))
         ∙ if-false _ _ (le-ltb maxCount (countIn (r .seats) w) (omega arith))
-        ∙ if-false _ _ (le-ltb (length file) (at r + callRecordBytes) (omega arith))
         ∙ ap (stepRecord file r w c) (ap (λ (s : ℕ). callOf (drop (s + callRecordBytes * c + headBytes) file)) first ∙ body .1)
         ∙ (λ i. stepped r w c (stepCall (view-same (body .0) (body .1) i) (local-same i) (m .cells i)))
 

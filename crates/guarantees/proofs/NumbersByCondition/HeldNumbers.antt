@@ -6,7 +6,7 @@ use Prim.Native.Nat.{ℕ, _+_, _-_, _*_, _≤_, _<_}
 use native.Mathlib.Omega.{arith}
 use borrow.Author.Tests.{ltb-false, le-ltb, leb-true, leb-false, le-leb, lt-leb, eqb-true, eqb-false, eq-eqb, ne-eqb}
 use lib.Dec.{eqb, leb, ltb}
-use lib.ListN.{length, drop}
+use lib.ListN.{drop}
 use Rattle.arith.specs.Choice.{if_then_else_}
 use Rattle.arith.proofs.ChoiceLaws.{if-all, neither}
 use Rattle.schedule.specs.declared.Move.{Move}
@@ -147,11 +147,9 @@ module _ (block : List ℕ) (r : Run) (w : ℕ) where
   step-stays : (c : ℕ) → StaysDamaged r (stepHeld block r w c)
   unfolding stepHeld
   step-stays c =
-      let at : ℕ = r .head .«first_call» + callRecordBytes * c in
       if-all (StaysDamaged r) (ltb (maxCode + 1) (planWord (r .plan) c 1) || ltb (planWord (r .plan) c 1) (placeIn (r .seats) w)) (λ e. here r) λ e.
       if-all (StaysDamaged r) (ltb maxCount (countIn (r .seats) w)) (λ f. here r) λ f.
-      if-all (StaysDamaged r) (ltb (length block) (at + callRecordBytes)) (λ g. here r) λ g.
-      record-stays c (callOf (drop (at + headBytes) block))
+      record-stays c (callOf (drop (r .head .«first_call» + callRecordBytes * c + headBytes) block))
 
   pub steps : (a : Answer) → (a ≡ answer.Accepted → ⊥) → (a ≡ answer.Damaged → ⊥) → Exactly (stepOf block r w .answer ≡ a) (HeldRefuses r w a)
   unfolding stepFor

@@ -1,114 +1,32 @@
--- `block::record::call_at` meets its contract: the addresses and the value that it reads are those that the definition tests.
+-- `block::record::call_at` meets its contract: a cut body is none, and a whole one is read from its own bytes.
 use borrow.Author.Needs.{needs}
 use mathlib.Core.Path.{sym, ap, _∙_}
-use lib.Signed.{nonNeg}
-use Rattle.arith.proofs.Laws.{read-back}
-use Rattle.block.proofs.Laws.{address-read, negative, not-negative, call-sender, call-contract, call-negative, call-good}
+use lib.Seq.{length-take-le}
+use native.Mathlib.Omega.{arith}
+use Rattle.block.specs.Record.{callBytes, callOf}
+use Rattle.block.proofs.Laws.{call-cut, call-taken}
 use Rattle.block.proofs.record.call_at.Statement.{statement}
 use Rattle.block.proofs.record.call_at.Tie as tie
 
 from-requires : tie.Need-from-requires
 from-requires c κs = search needs
 
-get-i64-requires : tie.Need-get-i64-requires
-get-i64-requires c κs = search needs
-
-short-requires : tie.Need-short-requires
-short-requires c κs = search needs
-
-address-of-requires : tie.Need-address-of-requires
-address-of-requires c κs = search needs
-
-enum-known-sender : tie.Need-enum-known-sender
-enum-known-sender c = search needs
-
-enum-told : tie.Need-enum-told
-enum-told c = search needs
-
 returns : tie.Need-returns
-returns c =
-    rw (← c .before .before .before .before .before .from .ensures)
-    (call-sender _ _ (address-read (c .before .before .address-of .ensures) (c .before .before .before .short .ensures) (c .enum-told .given .1)))
+returns c = call-cut (c .before .from .result .now) (c .if1 .taken) ∙ ap callOf (c .before .from .ensures)
 
-short-requires-2 : tie.Need-short-requires-2
-short-requires-2 c κs = search needs
+slice-aggregate-call-in : tie.Need-slice-aggregate-call-in
+slice-aggregate-call-in c = sym (length-take-le callBytes (c .before .before .from .result .now) (c .before .if1 .left))
 
-address-of-requires-2 : tie.Need-address-of-requires-2
-address-of-requires-2 c κs = search needs
-
-enum-known-contract : tie.Need-enum-known-contract
-enum-known-contract c = search needs
-
-enum-told-2 : tie.Need-enum-told-2
-enum-told-2 c = search needs
+call-in-requires : tie.Need-call-in-requires
+call-in-requires c κs =
+    let long = length-take-le callBytes (c .before .before .from .result .now) (c .before .if1 .left) in
+    omega (arith, long)
 
 returns-2 : tie.Need-returns-2
 returns-2 c =
-    let c7 = c .before .before .before .before .before .before .before in
-    let c8 = c7 .before in
-    let c10 = c8 .before .before in
-    rw (← c10 .from .ensures)
-    (call-contract _ _ (address-read (c7 .address-of .ensures) (c8 .short .ensures) (c .before .before .before .before .before .sender .given .1)) _ (address-read (c .before .before .address-of2 .ensures) (c .before .before .before .short2 .ensures) (c .enum-told2 .given .1)))
-
-returns-3 : tie.Need-returns-3
-returns-3 c =
-    let c7 = c .before .before .before .before .before .before .before in
-    let c9 = c7 .before .before in
-    let c10 = c9 .before in
-    let c11 = c10 .before in
-    let c12 = c11 .before in
-    rw (← c12 .from .ensures)
-    (call-negative _ _ (address-read (c9 .address-of .ensures) (c10 .short .ensures) (c7 .sender .given .1)) _ (address-read (c .before .before .before .before .address-of2 .ensures) (c .before .before .before .before .before .short2 .ensures) (c .before .before .contract .given .1)) (sym (ap nonNeg (c11 .get-i64 .ensures)) ∙ negative (c11 .get-i64 .result) (simp (read-back {z = c11 .get-i64 .result} (record { sfits = c11 .get-i64 .ok })) at (c .if1 .taken))))
-
-short-requires-3 : tie.Need-short-requires-3
-short-requires-3 c κs = search needs
-
-long-requires : tie.Need-long-requires
-long-requires c κs = search needs
-
-long-requires-2 : tie.Need-long-requires-2
-long-requires-2 c κs = search needs
-
-long-requires-3 : tie.Need-long-requires-3
-long-requires-3 c κs = search needs
-
-long-requires-4 : tie.Need-long-requires-4
-long-requires-4 c κs = search needs
-
-returns-4 : tie.Need-returns-4
-returns-4 c =
-    let c7 = c .before .before .before .before .before .before .before in
-    let c9 = c7 .before .before in
-    let c10 = c9 .before in
-    let c12 = c10 .before .before in
-    let c14 = c12 .before .before in
-    let c15 = c14 .before in
-    let c16 = c15 .before in
-    let c17 = c16 .before in
-    rw (← c17 .from .ensures)
-    (simp (read-back {z = c16 .get-i64 .result} (record { sfits = c16 .get-i64 .ok }) ∙ c16 .get-i64 .ensures, c .before .before .before .before .short3 .ensures, c .before .before .before .long .ensures, c .before .before .long2 .ensures, c .before .long3 .ensures, c .long4 .ensures)
-    (call-good _ _ (address-read (c14 .address-of .ensures) (c15 .short .ensures) (c12 .sender .given .1)) _ (address-read (c9 .address-of2 .ensures) (c10 .short2 .ensures) (c7 .contract .given .1)) (sym (ap nonNeg (c16 .get-i64 .ensures)) ∙ not-negative (c16 .get-i64 .result) (simp (read-back {z = c16 .get-i64 .result} (record { sfits = c16 .get-i64 .ok })) at (c .before .before .before .before .before .if1 .left)))))
+    let at-from = c .before .before .before in
+    c .call-in .ensures ∙ call-taken (at-from .from .result .now) (c .before .before .if1 .left) ∙ ap callOf (at-from .from .ensures)
 
 pub call-at-spec : {M : Type 1} → statement M
 call-at-spec =
-    tie.close
-    (tie.spec
-    from-requires
-    get-i64-requires
-    short-requires
-    address-of-requires
-    enum-known-sender
-    enum-told
-    returns
-    short-requires-2
-    address-of-requires-2
-    enum-known-contract
-    enum-told-2
-    returns-2
-    returns-3
-    short-requires-3
-    long-requires
-    long-requires-2
-    long-requires-3
-    long-requires-4
-    returns-4)
+    tie.close (tie.spec from-requires returns slice-aggregate-call-in call-in-requires returns-2)

@@ -1,46 +1,28 @@
--- `footprint::access::pay_uses` meets its contract: both arms use the contract's balance, and the first the account's too.
+-- `footprint::access::pay_uses` meets its contract: the payee is the one that the number of the source names.
 use borrow.Author.Needs.{needs}
-use mathlib.Core.Path.{_∙_}
+use mathlib.Core.Path.{ap, _∙_}
+use Rattle.block.specs.Key.{payeeOf}
+use Rattle.block.specs.declared.Payee.{Payee}
 use Rattle.footprint.specs.Access.{payAccesses}
-use Rattle.footprint.specs.Uses.{noUse, usesOf}
+use Rattle.footprint.specs.Uses.{usesOf}
 use Rattle.footprint.proofs.access.pay_uses.Statement.{statement}
 use Rattle.footprint.proofs.access.pay_uses.Tie as tie
 
-balance-use-requires : tie.Need-balance-use-requires
-balance-use-requires c κs = search needs
+source-value-requires : tie.Need-source-value-requires
+source-value-requires c κs = search needs
 
-enum-known-target : tie.Need-enum-known-target
-enum-known-target c = search needs
+payee-of-requires : tie.Need-payee-of-requires
+payee-of-requires c κs = search needs
 
-balance-use-requires-2 : tie.Need-balance-use-requires-2
-balance-use-requires-2 c κs = search needs
-
-two-requires : tie.Need-two-requires
-two-requires c κs = search needs
-
-enum-told : tie.Need-enum-told
-enum-told c = search needs
-
-one-requires : tie.Need-one-requires
-one-requires c κs = search needs
+payee-uses-requires : tie.Need-payee-uses-requires
+payee-uses-requires c κs = search needs
 
 returns : tie.Need-returns
-unfolding usesOf payAccesses
-returns c = simp (c .before .before .before .target .given .1) (c .two .ensures ∙ (λ i. record { count = 2; first = c .before .before .before .before .before .balance-use .ensures i; second = c .before .balance-use2 .ensures i }))
-
-returns-2 : tie.Need-returns-2
-unfolding usesOf payAccesses
-returns-2 c = simp (c .before .enum-told .given .1) (c .one .ensures ∙ (λ i. record { count = 1; first = c .before .before .before .balance-use .ensures i; second = noUse }))
+returns c =
+    let at-start = c .before .before .before in
+    c .payee-uses .ensures
+    ∙ ap (λ (p : Payee). usesOf (payAccesses (at-start .args .c) p))
+    (c .before .payee-of .ensures ∙ ap payeeOf (c .before .before .source-value .ensures))
 
 pub pay-uses-spec : {M : Type 1} → statement M
-pay-uses-spec =
-    tie.close
-    (tie.spec
-    balance-use-requires
-    enum-known-target
-    balance-use-requires-2
-    two-requires
-    enum-told
-    one-requires
-    returns
-    returns-2)
+pay-uses-spec = tie.close (tie.spec source-value-requires payee-of-requires payee-uses-requires returns)

@@ -1,12 +1,15 @@
--- `moves::lookup::has_key` meets its contract: a key is the cell's if both its words are.
+-- `moves::lookup::has_key` meets its contract: a key is that of the entry's cell if both its words are.
 use borrow.Author.Needs.{needs}
-use mathlib.Core.Path.{refl}
+use mathlib.Core.Path.{ap}
+use Prim.Native.Nat.{ℕ, _+_}
+use lib.ListN.{getD}
+use Rattle.footprint.specs.Plan.{entryCell}
 use Rattle.moves.proofs.LookupCodeLaws.{use-words}
 use Rattle.moves.proofs.lookup.has_key.Statement.{statement}
 use Rattle.moves.proofs.lookup.has_key.Tie as tie
 
-mul-at : tie.Need-mul-at
-mul-at c = search needs
+key-place-requires : tie.Need-key-place-requires
+key-place-requires c κs = search needs
 
 mul-high : tie.Need-mul-high
 mul-high c = search needs
@@ -25,10 +28,20 @@ shared-slice-read-low c = search needs
 
 returns : tie.Need-returns
 returns c =
-    let a = c .before .before .before .before .args in
-    use-words (a .keys .now) (a .n) (a .u) (c .before .before .before .before .pre .1 .1) refl refl
+    let at-start = c .before .before .before .before .before .before in
+    let a = at-start .args in
+    let placed = c .before .before .before .before .key-place .ensures in
+    use-words (a .keys .now) (entryCell (a .e)) (a .u) (at-start .pre .1 .1) (ap (λ (n : ℕ). getD (a .keys .now) n 0) placed)
+    (ap (λ (n : ℕ). getD (a .keys .now) (n + 1) 0) placed)
 
 pub has-key-spec : {M : Type 1} → statement M
 has-key-spec =
     tie.close
-    (tie.spec mul-at mul-high shared-slice-read-high add-low mul-low shared-slice-read-low returns)
+    (tie.spec
+    key-place-requires
+    mul-high
+    shared-slice-read-high
+    add-low
+    mul-low
+    shared-slice-read-low
+    returns)

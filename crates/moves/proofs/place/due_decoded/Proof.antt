@@ -39,19 +39,19 @@ returns c =
 add-t13 : tie.Need-add-t13
 add-t13 c = search needs
 
-instr-uses-requires : tie.Need-instr-uses-requires
-instr-uses-requires c κs = search needs
+step-uses-requires : tie.Need-step-uses-requires
+step-uses-requires c κs = search needs
 
 returns-2 : tie.Need-returns-2
 returns-2 c =
     let c6 = c .before .before .before .before .before .before in
     let c9 = c6 .before .before .before in
     let a = c9 .args in (
-      (λ block plan keys cells. decoded-valid block plan keys (a .site .call) (a .body) (a .site .place) (a .site .count) (a .regs) cells (c9 .pre .0 .0) _ (c6 .act-at .ensures) _ (c .before .before .before .before .decoded .given .1) (c .instr-uses .ensures)),
+      (λ block plan keys cells. decoded-valid block plan keys (a .site .call) (a .body) (a .site .place) (a .site .count) (a .regs) cells (c9 .pre .0 .0) _ (c6 .act-at .ensures) _ (c .before .before .before .before .decoded .given .1) (c .step-uses .ensures)),
       record {
         early = omega (arith, c9 .pre);
-        first = worded-first _ (c .instr-uses .ensures);
-        second = worded-second _ (c .instr-uses .ensures);
+        first = worded-first _ (c .step-uses .ensures);
+        second = worded-second _ (c .step-uses .ensures);
         payable = acted-payable (a .body) (a .site .place) (a .regs) _ (c6 .act-at .ensures) _ (c .before .before .before .before .decoded .given .1) (c9 .pre .0 .0);
       },
     )
@@ -69,5 +69,5 @@ due-decoded-spec =
     nothing-due-requires
     returns
     add-t13
-    instr-uses-requires
+    step-uses-requires
     returns-2)
