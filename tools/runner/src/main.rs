@@ -122,7 +122,7 @@ fn print(text: &str) -> Result<(), Failure> {
 }
 
 fn write_assembled(text: &str, block: &str) -> Result<(), Failure> {
-    let bytes = assemble(&fs::read_to_string(text)?).map_err(|error| format!("{text}, {error}"))?;
+    let bytes = assemble(fs::read(text)?).map_err(|error| format!("{text}:{error}"))?;
     fs::write(block, bytes)?;
     Ok(())
 }

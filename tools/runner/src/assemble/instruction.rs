@@ -1,26 +1,27 @@
 //! One instruction line.
 
-use super::words::Words;
+use super::words::{Word, Words};
+use super::Error;
 use crate::code::{op, Parts, MNEMONICS};
 
 /// The name of the line that gives an instruction's five parts as they are.
 const WORD: &str = "word";
 
 /// What the part w of an instruction is.
-pub enum Target {
+pub enum Target<'a> {
     /// The number that already stands there.
     Given,
     /// The place of a label of the function.
-    Label(String),
+    Label(Word<'a>),
 }
 
 /// Reads the instruction of a mnemonic.
-pub fn read(mnemonic: &str, words: &mut Words) -> Result<(Parts, Target), String> {
-    if mnemonic == WORD {
+pub fn read<'a>(mnemonic: Word<'a>, words: &mut Words<'a>) -> Result<(Parts, Target<'a>), Error> {
+    if mnemonic.text == WORD {
         return Ok((parts(words)?, Target::Given));
     }
-    let found = MNEMONICS.iter().position(|name| *name == mnemonic);
-    let number = found.ok_or_else(|| format!("unknown word {mnemonic}"))?;
+    let found = MNEMONICS.iter().position(|name| *name == mnemonic.text);
+    let number = found.ok_or_else(|| mnemonic.error("word", "no item and no instruction"))?;
     let mut parts = Parts {
         op: number as u8,
         ..Parts::default()
@@ -30,7 +31,7 @@ pub fn read(mnemonic: &str, words: &mut Words) -> Result<(Parts, Target), String
 }
 
 /// Reads `OP X Y Z W` as numbers.
-fn parts(words: &mut Words) -> Result<Parts, String> {
+fn parts(words: &mut Words) -> Result<Parts, Error> {
     Ok(Parts {
         op: words.number("op")?,
         x: words.number("x")?,
@@ -40,7 +41,7 @@ fn parts(words: &mut Words) -> Result<Parts, String> {
     })
 }
 
-fn operands(parts: &mut Parts, words: &mut Words) -> Result<Target, String> {
+fn operands<'a>(parts: &mut Parts, words: &mut Words<'a>) -> Result<Target<'a>, Error> {
     match parts.op {
         op::STOP | op::THROW => {}
         op::SET => {
@@ -60,9 +61,9 @@ fn operands(parts: &mut Parts, words: &mut Words) -> Result<Target, String> {
         op::GET | op::PUT => cell_access(parts, words)?,
         op::PAY => {
             parts.x = words.register()?;
-            let (source, constant) = words.source()?;
-            parts.y = source;
-            parts.w = high(constant.unwrap_or(0));
+            let target = words.source()?;
+            parts.y = target.number;
+            parts.w = high(target.constant.unwrap_or(0));
         }
         _ => return jump(parts, words),
     }
@@ -70,32 +71,31 @@ fn operands(parts: &mut Parts, words: &mut Words) -> Result<Target, String> {
 }
 
 /// Reads register, field, and the sources of a and b.
-fn cell_access(parts: &mut Parts, words: &mut Words) -> Result<(), String> {
+fn cell_access(parts: &mut Parts, words: &mut Words) -> Result<(), Error> {
     parts.x = words.register()?;
     let field: u16 = words.number("field")?;
-    let (a, a_constant) = words.source()?;
-    let (b, b_constant) = words.source()?;
-    let constant = match (a_constant, b_constant) {
-        (Some(a), Some(b)) if a != b => {
-            return Err("an instruction has only one constant".to_string());
+    let (a, b) = (words.source()?, words.source()?);
+    let constant = match (a.constant, b.constant) {
+        (Some(first), Some(second)) if first != second => {
+            let message = format!("constant {second}: an instruction has one, here {first}");
+            return Err(b.place.error(message));
         }
-        (a, b) => a.or(b).unwrap_or(0),
+        (first, second) => first.or(second).unwrap_or(0),
     };
-    (parts.y, parts.z) = (a, b);
+    (parts.y, parts.z) = (a.number, b.number);
     parts.w = high(constant) | u32::from(field);
     Ok(())
 }
 
-fn jump(parts: &mut Parts, words: &mut Words) -> Result<Target, String> {
+fn jump<'a>(parts: &mut Parts, words: &mut Words<'a>) -> Result<Target<'a>, Error> {
     parts.x = words.register()?;
     parts.y = words.register()?;
     let target = words.word("target")?;
-    match target.parse() {
-        Ok(index) => {
-            parts.w = index;
-            Ok(Target::Given)
-        }
-        Err(_) => Ok(Target::Label(target.to_string())),
+    if target.looks_like_number() {
+        parts.w = target.number("target")?;
+        Ok(Target::Given)
+    } else {
+        Ok(Target::Label(target))
     }
 }
 
