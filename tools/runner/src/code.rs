@@ -87,12 +87,12 @@ impl Parts {
     }
 
     /// w mod 65536.
-    fn low(self) -> u16 {
+    pub fn low(self) -> u16 {
         (self.w & 0xffff) as u16
     }
 
     /// w div 65536.
-    fn high(self) -> u16 {
+    pub fn high(self) -> u16 {
         (self.w >> 16) as u16
     }
 }

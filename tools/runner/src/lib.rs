@@ -5,7 +5,7 @@
 
 pub mod assemble;
 pub mod block;
-mod bytes;
+pub mod bytes;
 pub mod cells;
 pub mod code;
 pub mod console;
