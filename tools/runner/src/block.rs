@@ -2,6 +2,7 @@
 
 use crate::bytes::{i64_at, u16_at, u32_at};
 use crate::code::{decode, Instruction, Parts, Source};
+use crate::emit::CallFields;
 use crate::key::{Account, Contract, Key};
 use crate::limits::{
     ARGUMENTS, CALL_BYTES, CELL_BYTES, FUNCTION_NAME_BYTES, HEAD_BYTES, INSTRUCTION_BYTES,
@@ -290,16 +291,29 @@ fn opens_with(key: &Key, value: i64) -> bool {
 
 /// The call of a record's body, or `None` if a field is outside its range.
 pub(crate) fn read_call(body: &[u8], offset: usize) -> Option<Call> {
-    let value = i64_at(body, 6);
-    if value < 0 {
+    let fields = CallFields::read(body);
+    if fields.value < 0 {
         return None;
     }
     Some(Call {
-        sender: Account::named(u16_at(body, 0).into())?,
-        contract: Contract::named(u16_at(body, 2))?,
-        function: u16_at(body, 4),
-        value,
-        arguments: std::array::from_fn(|index| u32_at(body, 14 + 4 * index)),
+        sender: Account::named(fields.sender.into())?,
+        contract: Contract::named(fields.contract)?,
+        function: fields.function,
+        value: fields.value,
+        arguments: fields.arguments,
         offset,
     })
+}
+
+impl CallFields {
+    /// The fields in a call's body, in range or not.
+    pub fn read(body: &[u8]) -> CallFields {
+        CallFields {
+            sender: u16_at(body, 0),
+            contract: u16_at(body, 2),
+            function: u16_at(body, 4),
+            value: i64_at(body, 6),
+            arguments: std::array::from_fn(|index| u32_at(body, 14 + 4 * index)),
+        }
+    }
 }
