@@ -11,4 +11,5 @@ pub mod next;
 mod records;
 pub mod refused;
 pub mod sheet;
+pub mod trace;
 pub mod words;
