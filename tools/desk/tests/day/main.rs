@@ -1,0 +1,8 @@
+//! Traces, pictures and pages of days.
+
+mod blocks;
+mod markup;
+mod schedule;
+mod trace;
+mod waits;
+mod xml;
