@@ -9,6 +9,7 @@ pub mod explain;
 pub mod inspect;
 pub mod markup;
 pub mod next;
+pub mod page;
 mod records;
 pub mod refused;
 pub mod schedule;

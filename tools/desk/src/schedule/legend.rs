@@ -122,7 +122,11 @@ fn draw_sample(out: &mut Markup, sample: &Sample, y: i64) {
             sample_bar(out, &bars::class(SpanEnd::Cancelled), y);
             bars::cross(out, middle, y + SAMPLE.1 / 2);
         }
-        Sample::Busy => svg::path(out, "busy", &format!("M{GAP} {}h{}", y + 6, SAMPLE.0)),
+        Sample::Busy => svg::path(
+            out,
+            "busy sample",
+            &format!("M{GAP} {}h{}", y + 6, SAMPLE.0),
+        ),
         Sample::Step => svg::path(out, "steps", &format!("M{middle} {}h0.1", y + 6)),
         Sample::Refused => {
             let corner = (Tenths(middle.0 - 60), Tenths::pixels(y));

@@ -2,6 +2,7 @@
 
 mod blocks;
 mod markup;
+mod page;
 mod schedule;
 mod trace;
 mod waits;
