@@ -4,8 +4,11 @@
 #![warn(missing_docs)]
 
 mod assembly;
+pub mod cli;
+mod commands;
 pub mod disassemble;
 pub mod explain;
+mod files;
 pub mod inspect;
 pub mod markup;
 pub mod next;
@@ -15,6 +18,7 @@ pub mod refused;
 pub mod schedule;
 pub mod sheet;
 pub mod svg;
+mod tasks;
 pub mod trace;
 pub mod waits;
 pub mod words;

@@ -1,4 +1,4 @@
-//! The desk's library.
+//! The desk's library and program.
 
 mod disassembler;
 mod endings;
@@ -6,8 +6,12 @@ mod explaining;
 mod inspecting;
 mod lines;
 mod next_day;
+mod program;
+mod readme;
 mod refusals;
+mod room;
 mod rules;
+mod usage;
 
 use runner::assemble::assemble;
 use runner::examples::example;
