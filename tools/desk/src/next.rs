@@ -5,7 +5,7 @@ use runner::block::{self, Block, Kind};
 use runner::emit;
 use runner::limits::HEAD_BYTES;
 
-use crate::records::records;
+use crate::records::{is_text, records};
 use crate::refused::{open, Refused};
 use crate::sheet;
 use crate::words;
@@ -44,10 +44,9 @@ pub fn block(sheet: &[u8], day: &[u8]) -> Result<Vec<u8>, Fault> {
     }
 }
 
-/// The day's block. Each head of a block's record has a zero byte and no text
-/// has one, which tells the two forms apart.
+/// The day's block, whichever form the day has.
 fn day_block(day: &[u8]) -> Result<Vec<u8>, Fault> {
-    if day.contains(&0) {
+    if !is_text(day) {
         return Ok(day.to_vec());
     }
     let mut bytes = assemble(day).map_err(Fault::Text)?;

@@ -39,6 +39,12 @@ pub fn records(bytes: &[u8]) -> impl Iterator<Item = Record<'_>> {
     })
 }
 
+/// Whether a file cannot be a block and may be a text: each head of a block's
+/// record has a zero byte, and no text has one.
+pub fn is_text(bytes: &[u8]) -> bool {
+    !bytes.contains(&0)
+}
+
 fn record_at(bytes: &[u8], offset: usize) -> Option<Record<'_>> {
     let (head, rest) = bytes[offset..].split_at_checked(HEAD_BYTES)?;
     let length = usize::from(u16_at(head, 0));

@@ -18,7 +18,7 @@ use super::{
     kind,
 };
 use crate::assembly;
-use crate::records::{records, Record};
+use crate::records::{is_text, records, Record};
 
 /// Why 8 workers' block is refused, in one or more lines: the number and its
 /// meaning, then the record and what is wrong in it. `None` if it is accepted.
@@ -27,7 +27,14 @@ pub fn refused_block(bytes: &[u8]) -> Option<String> {
     let BlockRefusal { fault, offset } = refusal;
     let (number, meaning) = (fault.number(), meaning(fault));
     let place = place(bytes, refusal);
-    Some(format!("{number} at offset {offset}: {meaning}\n{place}"))
+    let hint = if is_text(bytes) && !bytes.is_empty() {
+        "\nno byte is zero: this is a text or another file, and no block"
+    } else {
+        ""
+    };
+    Some(format!(
+        "{number} at offset {offset}: {meaning}\n{place}{hint}"
+    ))
 }
 
 /// What a number means.

@@ -34,8 +34,8 @@ pub struct Played<'a> {
     pub lines: usize,
     /// The refused lines, and behind them the refused sheet.
     pub remarks: Vec<Remark>,
-    /// Of each finished call, how it stood before its last step.
-    endings: Vec<Option<LastStep>>,
+    /// Of each call, how it stood before the last step it took.
+    last_steps: Vec<Option<LastStep>>,
 }
 
 /// Plays the lines of an input on a block: its bytes, and as it is opened.
@@ -45,7 +45,7 @@ pub fn play<'a>(bytes: &'a [u8], opened: &'a Opened, moves: &[u8]) -> Played<'a>
         machine: Machine::new(opened),
         lines: 0,
         remarks: Vec::new(),
-        endings: vec![None; opened.block.calls.len()],
+        last_steps: vec![None; opened.block.calls.len()],
     };
     for line in lines(moves) {
         played.line(line);
@@ -80,7 +80,7 @@ impl Played<'_> {
     /// A finished call's receipt, and why it ended so.
     pub fn receipt(&self, call: usize) -> Option<String> {
         let ended = self.machine.states()[call].receipt()?;
-        let last = self.endings[call].as_ref()?;
+        let last = self.last_steps[call].as_ref()?;
         Some(receipt(
             self.bytes,
             self.machine.opened(),
@@ -110,18 +110,14 @@ impl Played<'_> {
                 fault.map(|LineFault { column, reason }| format!("column {column}: {reason}"));
             return Err((0, words.unwrap_or_default()));
         };
-        let last = self.standing(chosen);
+        if let Some((call, step)) = self.standing(chosen) {
+            self.last_steps[call] = Some(step);
+        }
         let made = self.machine.apply(chosen);
         made.map_err(|refusal| {
             let words = refusal_words(&self.machine, chosen, refusal);
             (refusal.number().into(), words)
-        })?;
-        if let Some((call, step)) = last {
-            if self.machine.states()[call].is_finished() {
-                self.endings[call] = Some(step);
-            }
-        }
-        Ok(())
+        })
     }
 
     /// How the call stands that a move steps.

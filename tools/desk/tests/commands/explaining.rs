@@ -73,6 +73,13 @@ fn each_number_has_its_words() {
         25,
         "call 2 waits for call 0, which runs on worker 5, and call 1, which is waiting",
     );
+    let first_done = "b 0 0\ns 0\ns 0\ns 0\ns 0\n";
+    refused(
+        first_done,
+        "b 0 2",
+        25,
+        "call 2 waits for call 1, which is waiting",
+    );
     refused("", "c 7", 26, "worker 7 holds no call");
 }
 

@@ -58,6 +58,24 @@ fn an_unknown_function_and_a_block_of_an_end() {
     );
 }
 
+#[test]
+fn a_cell_that_both_only_read_is_no_reason() {
+    let text = "
+        function 32768 0
+            get r0 1 zero zero
+            put r0 2 arg1 zero
+        call 5 32768 0 0 4
+        call 5 32768 0 0 6
+        call 5 32768 0 0 4
+        end";
+    let text = inspect(&block(text)).expect("the block is good");
+    let waits = "  waits for call 0
+    field 2 [4, 0] of contract 32768: call 0 writes it, call 2 writes it
+";
+    assert!(text.ends_with(waits), "{text}");
+    assert_eq!(text.matches("waits for no call").count(), 2);
+}
+
 /// The waiting rows that a text in words tells, as the runner prints them.
 fn rows(text: &str) -> String {
     let mut rows = String::new();

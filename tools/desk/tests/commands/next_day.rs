@@ -122,6 +122,24 @@ fn a_day_with_cells_or_faults_is_refused() {
     assert_eq!(cut, Err(Fault::Day(why.to_string())));
 }
 
+#[test]
+fn a_sheet_or_a_day_with_any_bit_changed_makes_a_good_block_or_none() {
+    let sheet = block("cell 5 0 0 0 2\ncell 32768 1 3 0 -1\nraw 04000500 0300 0200\nend");
+    let day = block("function 32768 1\nget r0 1 arg1 zero\ncall 5 32768 1 2 3\nend");
+    let mut made = 0;
+    for bit in 0..8 * (sheet.len() + day.len()) {
+        let mut both = [sheet.clone(), day.clone()].concat();
+        both[bit / 8] ^= 1 << (bit % 8);
+        let (sheet, day) = both.split_at(sheet.len());
+        if let Ok(bytes) = next::block(sheet, day) {
+            let opened = open(&bytes, MAX_WORKERS).expect("the block is good");
+            assert_eq!(opened.block.opening.len(), 2);
+            made += 1;
+        }
+    }
+    assert!(made > 100, "{made}");
+}
+
 fn sheet_fails(text: &str, why: &str) {
     assert_eq!(sheet::read(&block(text)), Err(why.to_string()));
 }

@@ -25,6 +25,16 @@ fn a_good_block_is_not_refused() {
 }
 
 #[test]
+fn a_text_in_place_of_a_block_is_told() {
+    refused(
+        b"call 5 32768 0 0\nend\n",
+        "3 at offset 0",
+        "record 0 at offset 0: kind 27756: there are 1, function, 2, opening cell, 3, call, and 4, \
+         end\nno byte is zero: this is a text or another file, and no block",
+    );
+}
+
+#[test]
 fn number_1() {
     let place = "the file has 65537 bytes";
     refused(&[0; 65_537], "1 at offset 0", place);
