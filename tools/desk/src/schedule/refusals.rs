@@ -44,13 +44,19 @@ impl Lanes {
             let (x, y) = (Tenths::pixels(LEFT - 10), Tenths::pixels(top + 13));
             let name = format!("{number} {}", short(*number));
             svg::text(out, "quiet right", x, y, name);
-            if band.column() >= Tenths::pixels(MARK.0) {
+            if apart(band, lines) {
                 numbered(out, band, top, *number, lines);
             } else {
                 svg::path(out, "ticks", &ticks(band, top, lines));
             }
         }
     }
+}
+
+/// Whether marks with numbers fit beside each other.
+fn apart(band: &Band, lines: &[usize]) -> bool {
+    let mut pairs = lines.windows(2);
+    pairs.all(|pair| band.middle(pair[1]).0 - band.middle(pair[0]).0 > 10 * MARK.0)
 }
 
 /// A mark with its number for each line.
