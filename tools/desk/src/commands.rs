@@ -166,8 +166,8 @@ written.",
         does: "write a page about a day",
         details: "\
 BLOCK is a block file, MOVES the lines that REGISTER reads. HTML is written with one
-page that needs no other file: the block, the run and its end. A refused block is told
-and nothing is written.",
+page that needs no other file: the block, the run and its end. The page of a refused
+block says why it is refused.",
         example: "desk day block.bin moves.txt day.html",
         run: tasks::day,
     },

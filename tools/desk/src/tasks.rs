@@ -64,7 +64,7 @@ pub fn day(files: &[File]) -> Result<(), Failure> {
     let (block, moves, html) = (&files[0], &files[1], &files[2]);
     let title = block.input_name();
     let page = page::html(&title, &block.read()?, &moves.read_moves()?);
-    made(block, page, html)
+    html.write(page.as_bytes())
 }
 
 /// Writes what was made of a block, or tells why nothing was.

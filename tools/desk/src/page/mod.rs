@@ -20,7 +20,7 @@ const XHTML: &str = "http://www.w3.org/1999/xhtml";
 
 /// The page of a block and its moves. A refused block has a page too, which
 /// says why it is refused.
-pub fn html(title: &str, bytes: &[u8], moves: &[u8]) -> Result<String, String> {
+pub fn html(title: &str, bytes: &[u8], moves: &[u8]) -> String {
     let main = match open(bytes, MAX_WORKERS) {
         Ok(opened) => Day::of(&opened, bytes, moves).draw(),
         Err(refusal) => {
@@ -29,7 +29,7 @@ pub fn html(title: &str, bytes: &[u8], moves: &[u8]) -> Result<String, String> {
         }
     };
     let page = document(title, &main).into_string();
-    Ok(format!("<!DOCTYPE html>\n{page}"))
+    format!("<!DOCTYPE html>\n{page}")
 }
 
 /// An accepted block with its run.
@@ -48,7 +48,7 @@ impl<'a> Day<'a> {
             opened,
             spans: trace.spans(),
             trace,
-            remarks: words::remarks(&opened.block, bytes, moves),
+            remarks: words::play(bytes, opened, moves).remarks,
         }
     }
 

@@ -13,7 +13,7 @@ pub use code::{broken_rules, instruction};
 use ending::{receipt, LastStep};
 pub use fields::{call_faults, cell_faults, function_faults};
 pub use line::{fault as line_fault, LineFault};
-pub use moves::{play, remarks, unfinished, Played, Remark};
+pub use moves::{play, unfinished, Played, Remark};
 
 use runner::block::Block;
 use runner::key::Key;

@@ -1,9 +1,7 @@
 //! The moves of a run: which lines are refused and why, and what is unfinished.
 
-use runner::block::Block;
 use runner::console::{lines, parse};
-use runner::limits::MAX_WORKERS;
-use runner::machine::{open, Held, Machine, Move, Opened, State};
+use runner::machine::{Held, Machine, Move, Opened, State};
 use runner::refusal::{MoveRefusal, SheetRefusal};
 
 use super::{count, line_fault, outcome, receipt, LastStep, LineFault};
@@ -61,19 +59,6 @@ pub fn play<'a>(bytes: &'a [u8], opened: &'a Opened, moves: &[u8]) -> Played<'a>
         });
     }
     played
-}
-
-/// All refused lines of a run with 8 workers, and at the end the refused sheet
-/// if the run is unfinished. The block is that of the bytes; one that is refused
-/// has no run.
-pub fn remarks(block: &Block, bytes: &[u8], moves: &[u8]) -> Vec<Remark> {
-    match open(bytes, MAX_WORKERS) {
-        Ok(opened) => {
-            debug_assert_eq!(opened.block, *block);
-            play(bytes, &opened, moves).remarks
-        }
-        Err(_) => Vec::new(),
-    }
 }
 
 impl Played<'_> {

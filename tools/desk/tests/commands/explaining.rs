@@ -1,7 +1,7 @@
 //! Runs in words.
 
 use desk::explain;
-use desk::words::{outcome, remarks, Remark};
+use desk::words::{outcome, play, Remark};
 use runner::examples::EXAMPLES;
 use runner::limits::MAX_WORKERS;
 use runner::machine::open;
@@ -23,7 +23,7 @@ const WRITERS: &str = "
 /// The remarks on a run of a block's text.
 fn remarks_on(bytes: &[u8], moves: &[u8]) -> Vec<Remark> {
     let opened = open(bytes, MAX_WORKERS).expect("the block is good");
-    remarks(&opened.block, bytes, moves)
+    play(bytes, &opened, moves).remarks
 }
 
 /// The words for the line behind some lines.
@@ -131,7 +131,7 @@ fn the_remarks_are_the_lines_that_register_prints() {
         let lines = output.lines().filter(|line| line.starts_with('r'));
         let expected: String = lines.map(|line| format!("{line}\n")).collect();
         if let Ok(opened) = open(&case.block, MAX_WORKERS) {
-            let found = remarks(&opened.block, &case.block, &case.input);
+            let found = play(&case.block, &opened, &case.input).remarks;
             assert_eq!(printed(&found), expected);
         }
     }
@@ -201,12 +201,6 @@ fn a_block_alone() {
         refused.0
     );
     assert_eq!(explain::run(&[0, 0, 4], b"s 0"), Err(refused));
-}
-
-#[test]
-fn remarks_on_a_refused_block_are_none() {
-    let opened = open(&block_p(), MAX_WORKERS).expect("P is good");
-    assert_eq!(remarks(&opened.block, &[], b"s 0"), []);
 }
 
 #[test]

@@ -107,16 +107,26 @@ fn nothing_is_drawn_of_a_refused_block() {
     let room = Room::new()
         .with("cut.bin", [0, 0, 4])
         .with("moves", "s 0\n");
-    let commands: [&[&str]; 3] = [
+    let commands: [&[&str]; 2] = [
         &["waits", "cut.bin", "out"],
         &["schedule", "cut.bin", "moves", "out"],
-        &["day", "cut.bin", "moves", "out"],
     ];
     for arguments in commands {
         let told = room.desk(arguments).told(1);
         assert!(told.starts_with("cut.bin: "), "{told}");
         assert_eq!(room.file("out"), None);
     }
+}
+
+#[test]
+fn the_page_of_a_refused_block_says_why() {
+    let room = Room::new()
+        .with("cut.bin", [0, 0, 4])
+        .with("moves", "s 0\n");
+    let printed = room.desk(&["day", "cut.bin", "moves", "out"]).printed();
+    assert_eq!(printed, "");
+    let page = String::from_utf8(room.file("out").expect("a page")).expect("text");
+    assert!(page.contains("e 2 0"), "{page}");
 }
 
 #[test]

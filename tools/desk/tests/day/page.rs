@@ -12,11 +12,11 @@ const P_MOVES: &str =
 
 /// The page of a day, tested for its form.
 fn page(title: &str, block: &[u8], moves: &[u8]) -> String {
-    let page = html(title, block, moves).expect("every day has a page");
+    let page = html(title, block, moves);
     let elements = elements(&page).expect("it is well-formed");
     assert_eq!(elements[..2], ["html", "head"]);
     loads_and_runs_nothing(&page, &elements);
-    assert_eq!(html(title, block, moves).as_ref(), Ok(&page));
+    assert_eq!(html(title, block, moves), page);
     page
 }
 
@@ -88,7 +88,8 @@ fn a_block_of_an_end_alone_has_a_page() {
 fn everything_that_was_read_is_escaped() {
     let hostile = b"<script>alert(\"1\")</script>\n&amp;\n\x00\x1b\xff\xfe\r\n";
     let page = page("</title><script>&", &of_example("p"), hostile);
-    assert!(page.contains("&lt;script&gt;alert(&quot;1&quot;)"));
+    assert!(page.contains("&lt;script&gt;alert("));
+    assert!(!page.contains("<script"));
     assert!(page.contains("&amp;amp;"));
     assert!(page.contains("<h1>&lt;/title&gt;&lt;script&gt;&amp;</h1>"));
 }
