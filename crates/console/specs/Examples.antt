@@ -1,10 +1,13 @@
--- REGISTER on block P, and the forms of a move line, computed.
+-- REGISTER on block P, the forms of a move line, and the bytes of P's sheet, computed.
 use mathlib.Core.Path.{_≡_, refl}
-use mathlib.Core.List.{List, []}
+use mathlib.Core.List.{List, [], _++_}
 use Prim.Native.Nat.{ℕ}
+use lib.ListN.{take}
 use Rattle.block.specs.Assemble.{text, joinedParts}
 use Rattle.block.specs.Worked.{P}
+use Rattle.sheet.specs.Examples.{sheetP}
 use Rattle.console.specs.Register.{registerOf}
+use Rattle.console.specs.SheetBytes.{writtenSheet}
 use Rattle.console.specs.Computing.{computing}
 
 -- "`b 0 0`, four `s 0`, `b 1 1`, four `s 1`, `b 0 2`, four `s 0`", and what REGISTER prints for P with them.
@@ -37,5 +40,25 @@ lines =
       last-line = refl;
       last-malformed = refl;
       empty-input = refl;
+      refused-block = refl;
+    }
+
+-- The bytes of P's sheet: three cells, three receipts and the end. An unfinished run, one that is finished but for a last step, and a refused block
+-- have none.
+pub record Sheets : Type 0 where
+  pub whole : writtenSheet P movesP ≡ sheetP
+  pub refused-lines : writtenSheet P (text "x\nc 0\n" ++ movesP) ≡ sheetP
+  pub none-begun : writtenSheet P [] ≡ []
+  pub one-step-short : writtenSheet P (take 62 movesP) ≡ []
+  pub refused-block : writtenSheet [] movesP ≡ []
+
+pub sheets : Sheets
+unfolding computing text joinedParts P movesP sheetP
+sheets =
+    record {
+      whole = refl;
+      refused-lines = refl;
+      none-begun = refl;
+      one-step-short = refl;
       refused-block = refl;
     }

@@ -4,7 +4,8 @@
 --   Demand3Proof          those of Demand2Proof, ClosingSheet
 --   RegisterByTallyProof  Demand3Proof, ClosingSheet, RegisterOutput
 --   ClosedOpensProof      Demand2Proof, Demand3Proof, TheNextDay
--- Two rooms stand on theorems: ClosingSheet on Demand2Proof, with NumbersByCondition and TheNextDay for what the sheet tests and writes;
+--   SheetByTallyProof     Demand3Proof, ClosedOpensProof, ClosingSheet, RegisterOutput
+-- Three rooms stand on theorems: RegisterOutput on Demand3Proof; ClosingSheet on Demand2Proof, with NumbersByCondition and TheNextDay for what the sheet tests and writes;
 -- TheNextDay on Demand1Proof.
 mod CallsOfRun
 mod AcceptedOpening
@@ -20,3 +21,4 @@ mod Demand2Proof
 mod Demand3Proof
 mod RegisterByTallyProof
 mod ClosedOpensProof
+mod SheetByTallyProof

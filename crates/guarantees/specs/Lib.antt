@@ -1,5 +1,5 @@
 -- To read: Demand1, Demand2 and Demand3 are the demands, a field for each sentence; RegisterByTally is what REGISTER prints, ClosedOpens how the next
--- day opens. BlockTally, Agreement and RuleRun name what they compare. Joint is the joint check of the starred examples, Unstarred the others, OnP
+-- day opens, SheetByTally which bytes of a sheet are written. BlockTally, Agreement and RuleRun name what they compare. Joint is the joint check of the starred examples, Unstarred the others, OnP
 -- block P throughout, on the blocks of Blocks.
 pub mod Demand1
 pub mod BlockTally
@@ -9,6 +9,7 @@ pub mod Demand2
 pub mod Demand3
 pub mod RegisterByTally
 pub mod ClosedOpens
+pub mod SheetByTally
 pub mod Blocks
 pub mod Joint
 pub mod Unstarred

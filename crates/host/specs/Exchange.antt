@@ -1,8 +1,9 @@
 -- What the programs exchange with their host, as far as a contract can say it: what is handed to standard output, and how a file is read.
 use mathlib.Core.Path.{_≡_}
-use mathlib.Core.Bool.{true, false}
+use mathlib.Core.Bool.{Bool, true, false}
 use mathlib.Core.List.{List, [], _++_}
 use Prim.Native.Nat.{ℕ, _-_, _≤_, _<_}
+use lib.Dec.{ltb}
 use lib.ListN.{length, drop}
 use Rattle.wire.specs.Bytes.{repeated}
 use Rattle.block.specs.Limits.{maxBytes}
@@ -23,6 +24,10 @@ pub record Handed (before : List ℕ) (x : Exchange) (text after : List ℕ) (y 
   pub whole : y .ok ≡ true → rest ≡ []
   pub still : y .ok ≡ true → x .ok ≡ true
   pub nothing : x .ok ≡ false → handed ≡ []
+
+-- A program's own name is the first of what it was started with; more is an argument.
+unfoldable pub hasArguments : ℕ → Bool
+hasArguments n = ltb 1 n
 
 -- A buffer whose first n bytes were read, with zeros behind them.
 pub record Filled (before after : List ℕ) (n : ℕ) : Type 0 where

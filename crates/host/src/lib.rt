@@ -1,6 +1,7 @@
-// What the programs exchange with their host: the file block.bin, streams on standard input, and standard output. A read or a write that
-// fails is told in one line on standard error, and after it nothing more is written.
+// What the programs exchange with their host: the file block.bin, streams on standard input, standard output, and what is told on standard
+// error. A read or a write that fails is told there in one line, and after it nothing more is written.
 use block::limits::MAX_BYTES;
+use libc::STDERR_FILENO;
 use libc::STDIN_FILENO;
 use libc::STDOUT_FILENO;
 use listing::MAX_LISTING;
@@ -17,7 +18,7 @@ ghost use lib.ListN.{length, drop};
 ghost use Rattle.wire.specs.Bytes.{stored, repeated};
 ghost use Rattle.machine.specs.Run.{fixedSizes};
 ghost use Rattle.listing.specs.Listing.{listingOf};
-ghost use Rattle.host.specs.Exchange.{Handed, Filled, Reads, FileIn, Inspects};
+ghost use Rattle.host.specs.Exchange.{Handed, hasArguments, Filled, Reads, FileIn, Inspects};
 
 // How the exchange stands: whether no read and no write failed, how many bytes came from standard input, and how many were handed to
 // standard output.
@@ -106,6 +107,27 @@ pub fn print(x: Exchange, text: &[u8], transcript: &mut [u8]) -> Exchange
         received,
         sent: sent + text.len(),
     }
+}
+
+// Tells a text on standard error; after a failure nothing is told. Standard output is handed nothing.
+pub fn tell(x: Exchange, text: &[u8]) -> Exchange
+    ensures { λ r. ⌜ r ≡ x ⌝ }
+{
+    if x.ok {
+        io::write_all(STDERR_FILENO, text);
+    }
+    x
+}
+
+// Whether a program was started with an argument beside its name; then what it reads and writes is told on standard error.
+pub fn explains(arguments: usize, usage: &[u8]) -> bool
+    ensures { λ r. ⌜ r ≡ hasArguments arguments ⌝ }
+{
+    if arguments <= 1 {
+        return false;
+    }
+    io::write_all(STDERR_FILENO, usage);
+    true
 }
 
 // The bytes from a position on become zero.

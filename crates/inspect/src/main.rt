@@ -1,7 +1,11 @@
 // Lists block.bin of the current folder: `e NUMBER OFFSET` for a refused block; else `n FUNCTIONS CELLS CALLS KEYS`, and `w CALL` with the
-// earlier conflicting calls for each call. A missing file is read as empty.
+// earlier conflicting calls for each call. A missing file is read as empty. With an argument it only says on standard error what it reads
+// and writes.
 
 fn main() {
+    if host::explains(os::arg_count(), b"usage: inspect\nReads block.bin of the current folder, and no standard input.\nPrints its counts, and for each call the earlier calls that it waits for.\nThe manual is docs/MANUAL.md.\n") {
+        return;
+    }
     let mut transcript = [0u8; 0];
     host::inspect(&mut transcript);
 }

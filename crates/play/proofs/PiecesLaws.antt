@@ -40,7 +40,7 @@ module _ (block text : List ℕ) (number : ℕ) (line : Line) (run : Run) where
       by-test (λ (t : Bool). (if t then withTextBefore text s₀ else playLine block (withTextBefore text s₀)) ≡ withTextBefore text (if t then s₀ else playLine block s₀))
       (isEmpty line) (λ e. refl) (λ e. move-behind block text s₀ (lineMove line))
 
-  end-said : playEnd block (said text number line run) ≡ withTextBefore text (playEnd block s₀)
+  pub end-said : playEnd block (said text number line run) ≡ withTextBefore text (playEnd block s₀)
   end-said = ap (playEnd block) is-behind ∙ end-behind
 
 -- ---- the whole

@@ -1,5 +1,5 @@
--- The input in pieces, with what is handed over of it, and the whole of a run, over plain variables.
-use mathlib.Core.Path.{_≡_, refl, sym, ap, subst, _∙_}
+-- The input in pieces, with what is handed over of it, and the whole of a run, over plain variables and for both outputs.
+use mathlib.Core.Path.{_≡_, refl, sym, ap, subst, subst⁻¹, _∙_}
 use mathlib.Core.Bool.{Bool, true, false, _||_, not, true≢false, false≢true}
 use mathlib.Core.List.{List, [], _∷_, _++_, append-nil}
 use Prim.Native.Nat.{ℕ, zero, suc, _+_, _*_, _≤_, _<_}
@@ -7,7 +7,7 @@ use native.Mathlib.Nat.{add-zero, zero-add}
 use native.Mathlib.Omega.{arith}
 use lib.Dec.{ltb}
 use lib.ListN.{length, take, length-append}
-use lib.Seq.{length-take-le}
+use lib.Seq.{length-take-le, take-all}
 use borrow.Author.Tests.{ltb-false}
 use Rattle.text.proofs.TextSizes.{line-fits}
 use Rattle.arith.proofs.ChoiceLaws.{if-all}
@@ -20,7 +20,7 @@ use Rattle.block.specs.declared.Verdict.{Verdict}
 use Rattle.block.specs.declared.Verdict.the-variants as verdict
 use Rattle.text.specs.Lines.{refusedText, blockRefusedText}
 use Rattle.text.specs.Written.{Written}
-use Rattle.wire.specs.Decimal.{parts}
+use Rattle.wire.specs.Decimal.{decimal, textLine, parts}
 use Rattle.machine.specs.Run.{Run, sizesOf, largeEnough, fixedSizes}
 use Rattle.machine.specs.Opening.{Opened, openingOf}
 use Rattle.machine.specs.Answer.{answerNumber}
@@ -28,7 +28,8 @@ use Rattle.machine.specs.declared.Answer.{Answer}
 use Rattle.sheet.specs.Sheet.{Closed, sheetBytes, statesAllowed, allFinished, balancesAllowed, receiptsAllowed, writtenIf, sheetOf}
 use Rattle.sheet.specs.declared.Closing.{Closing}
 use Rattle.sheet.specs.declared.Closing.the-variants as closing
-use Rattle.console.specs.Register.{Session, playBytes, playEnd, closingText, closeRun, maxSheet, maxInput, registerOpened, registerOf}
+use Rattle.console.specs.Register.{Session, playBytes, playEnd, closingText, closeRun, maxSheet, maxInput, playInput, registerOpened, registerOf}
+use Rattle.console.specs.SheetBytes.{closingBytes, closeBytes, sheetOpened, writtenSheet}
 use Rattle.console.specs.declared.Line.{Line}
 use Rattle.console.specs.declared.Line.the-variants.{Empty}
 use Rattle.play.specs.Shown.{Shown, freshSession, shown, shownFrom}
@@ -36,19 +37,52 @@ use Rattle.console.specs.Text.{sheetText}
 use Rattle.play.specs.AnswerLength.{maxAnswer}
 use Rattle.play.specs.Printed.{maxCloseText}
 use Rattle.play.proofs.PlayLaws.{withTextBefore, bytes-behind, chunks}
-use Rattle.play.proofs.PiecesLaws.{register-in-pieces}
+use Rattle.play.proofs.PiecesLaws.{end-said, register-in-pieces}
 use Rattle.play.proofs.TextLaws.{bytes-grow, end-grows}
 use Rattle.play.proofs.CloseLaws.{close-short}
 use Rattle.play.specs.declared.Session as play
-use Rattle.play.specs.Pieces.{endText, piecesText}
+use Rattle.play.specs.Pieces.{piecesText}
 use Rattle.host.specs.Exchange.{Handed, FileIn}
 use Rattle.host.proofs.Laws.{file-whole, front, handed-as, handed-empty, handed-more}
 use Rattle.host.specs.declared.Exchange.{Exchange}
 use Rattle.host.specs.declared.FileRead.{FileRead}
-use Rattle.register_run.specs.Runs.{chunkSize, InputRead, PlaysBytes, PiecePlayed, InputPlayed, exchangeStart, openedText, RunsOn, Runs, Registers}
+use Rattle.register_run.specs.Runs.{chunkSize, printedLines, printedSheet, printedClose, printedOf, InputRead, PlaysBytes, PiecePlayed, InputPlayed, exchangeStart, printedEnd, printedOpened, RunsOn, Runs, Registers}
+use Rattle.register_run.specs.declared.Output.{Output}
+use Rattle.register_run.specs.declared.Output.the-variants.{Text, Sheet}
 use Rattle.register_run.specs.declared.Piece.{Piece}
 use Rattle.register_run.specs.declared.Input.{Input}
 use Rattle.register_run.specs.declared.Ran.{Ran}
+
+-- ---- lines that are printed, or told
+
+lines-none : (output : Output) → printedLines output [] ≡ []
+unfolding printedLines
+lines-none Text = refl
+lines-none Sheet = refl
+
+lines-more : (output : Output) (text more : List ℕ) → printedLines output (text ++ more) ≡ printedLines output text ++ printedLines output more
+unfolding printedLines
+lines-more Text text more = refl
+lines-more Sheet text more = refl
+
+pub lines-told : {output : Output} {x y : Exchange} (before text : List ℕ) → output ≡ Sheet → y ≡ x → Handed before x (printedLines output text) before y
+unfolding printedLines
+lines-told {output} {x} before text e same =
+    subst⁻¹ (λ (z : Exchange). Handed before x (printedLines output text) before z) same
+    (handed-as (ap (λ (o : Output). printedLines o text) (sym e)) (handed-empty before x))
+
+module _ {output : Output} {before after : List ℕ} {x y : Exchange} (text : List ℕ) where
+  pub lines-printed : output ≡ Text → Handed before x text after y → Handed before x (printedLines output text) after y
+  unfolding printedLines
+  lines-printed e h = handed-as (ap (λ (o : Output). printedLines o text) (sym e)) h
+
+  pub sheet-lines : output ≡ Text → Handed before x (sheetText text) after y → Handed before x (printedSheet output text) after y
+  unfolding printedSheet
+  sheet-lines e h = handed-as (ap (λ (o : Output). printedSheet o text) (sym e)) h
+
+  pub sheet-bytes : output ≡ Sheet → Handed before x text after y → Handed before x (printedSheet output text) after y
+  unfolding printedSheet
+  sheet-bytes e h = handed-as (ap (λ (o : Output). printedSheet o text) (sym e)) h
 
 -- ---- a read hands nothing over, and what is handed over behind it
 
@@ -83,7 +117,7 @@ some-taken (suc n) f = omega arith
 
 -- ---- pieces, one after another
 
-module _ (block : List ℕ) where
+module _ (output : Output) (block : List ℕ) where
   abbrev after-bytes : ℕ → Line → Run → List ℕ → Session
   after-bytes number line run xs = playBytes block (freshSession number line run) xs
 
@@ -92,13 +126,19 @@ module _ (block : List ℕ) where
   afresh s = λ i. record { number = s .number; line = s .line; run = s .run; output = sym (append-nil (s .output)) i }
 
   plays-none : (s : play.Session) (run : Run) (x : Exchange) (before : List ℕ)
-      → PlaysBytes block (freshSession (s .number) (s .line) run) x before [] s run x before
+      → PlaysBytes output block (freshSession (s .number) (s .line) run) x before [] s run x before
   unfolding playBytes
   plays-none s run x before =
-      record { number = refl; line = refl; left = refl; text = handed-empty before x; received = sym (add-zero (x .received)) }
+      record {
+        number = refl;
+        line = refl;
+        left = refl;
+        text = handed-as (sym (lines-none output)) (handed-empty before x);
+        received = sym (add-zero (x .received));
+      }
 
   module _ {start : Session} {x y z : Exchange} {before mid after xs ys : List ℕ} {s t : play.Session} {run left : Run}
-      (p : PlaysBytes block start x before xs s run y mid) (q : PlaysBytes block (freshSession (s .number) (s .line) run) y mid ys t left z after) where
+      (p : PlaysBytes output block start x before xs s run y mid) (q : PlaysBytes output block (freshSession (s .number) (s .line) run) y mid ys t left z after) where
     first : Session
     first = playBytes block start xs
 
@@ -114,14 +154,17 @@ module _ (block : List ℕ) where
         ∙ (λ i. withTextBefore (playBytes block start xs .output) (freshSession (sym (p .number) i) (sym (p .line) i) (sym (p .left) i))))
         ∙ bytes-behind block (playBytes block start xs .output) (freshSession (s .number) (s .line) run) ys
 
-    pub plays-more : PlaysBytes block start x before (xs ++ ys) t left z after
+    pub plays-more : PlaysBytes output block start x before (xs ++ ys) t left z after
     unfolding first second
     plays-more =
         record {
           number = q .number ∙ sym (ap (λ (u : Session). u .number) both);
           line = q .line ∙ sym (ap (λ (u : Session). u .line) both);
           left = q .left ∙ sym (ap (λ (u : Session). u .run) both);
-          text = handed-as (sym (ap (λ (u : Session). u .output) both)) (handed-more (p .text) (q .text));
+          text =
+              handed-as
+              (sym (lines-more output (first .output) (second .output)) ∙ sym (ap (λ (u : Session). printedLines output (u .output)) both))
+              (handed-more (p .text) (q .text));
           received = q .received ∙ ap (λ (n : ℕ). n + length ys) (p .received) ∙ omega (arith, length-append xs ys);
         }
 
@@ -149,10 +192,10 @@ module _ (block chunk : List ℕ) (number : ℕ) (line : Line) (run : Run) (n : 
     answers-are h =
         front (record { same = ap (λ (w : Shown). w .buffer) e; end = ap (λ (w : Shown). w .end) e }) h
 
-    pub piece-played : (x : Exchange) (limit : ℕ) (before : List ℕ) {y z : Exchange} {after : List ℕ} {t : play.Session} → t .number ≡ next → t .line ≡ on
-        → InputRead x n y → n ≤ limit → n ≤ length chunk → end ≤ length out → Handed before y (take end answers) after z → z .received ≡ y .received
-        → PiecePlayed block (freshSession number line run) x limit before (record { session = t; exchange = z; taken = n }) left after
-    piece-played x limit before a b r l m h text same =
+    pub piece-played : (output : Output) (x : Exchange) (limit : ℕ) (before : List ℕ) {y z : Exchange} {after : List ℕ} {t : play.Session} → t .number ≡ next → t .line ≡ on
+        → InputRead x n y → n ≤ limit → n ≤ length chunk → end ≤ length out → Handed before y (printedLines output (take end answers)) after z → z .received ≡ y .received
+        → PiecePlayed output block (freshSession number line run) x limit before (record { session = t; exchange = z; taken = n }) left after
+    piece-played output x limit before a b r l m h text same =
         record {
           bytes = bytes;
           size = length-take-le n chunk m;
@@ -162,7 +205,7 @@ module _ (block chunk : List ℕ) (number : ℕ) (line : Line) (run : Run) (n : 
                 number = a ∙ ap (λ (w : Shown). w .number) e;
                 line = b ∙ ap (λ (w : Shown). w .line) e;
                 left = ap (λ (w : Shown). w .run) e;
-                text = read-then r (handed-as (answers-are h) text);
+                text = read-then r (handed-as (ap (printedLines output) (answers-are h)) text);
                 received = same ∙ r .received ∙ ap (λ (k : ℕ). x .received + k) (sym (length-take-le n chunk m));
               };
         }
@@ -170,18 +213,18 @@ module _ (block chunk : List ℕ) (number : ℕ) (line : Line) (run : Run) (n : 
 -- ---- the input
 
 -- What is played of the input so far, and how much of it may still come.
-pub record InputPlaying (block : List ℕ) (start : Session) (x : Exchange) (limit : ℕ) (before : List ℕ) (s : play.Session) (run : Run) (y : Exchange) (left : ℕ)
+pub record InputPlaying (output : Output) (block : List ℕ) (start : Session) (x : Exchange) (limit : ℕ) (before : List ℕ) (s : play.Session) (run : Run) (y : Exchange) (left : ℕ)
     (after : List ℕ) : Type 0 where
   pub bytes : List ℕ
   pub all : length bytes + left ≡ limit
-  pub plays : PlaysBytes block start x before bytes s run y after
+  pub plays : PlaysBytes output block start x before bytes s run y after
 
-pub input-start : (block : List ℕ) (s : play.Session) (run : Run) (x : Exchange) (limit : ℕ) (before : List ℕ)
-    → InputPlaying block (freshSession (s .number) (s .line) run) x limit before s run x limit before
-input-start block s run x limit before = record { bytes = []; all = zero-add limit; plays = plays-none block s run x before }
+pub input-start : (output : Output) (block : List ℕ) (s : play.Session) (run : Run) (x : Exchange) (limit : ℕ) (before : List ℕ)
+    → InputPlaying output block (freshSession (s .number) (s .line) run) x limit before s run x limit before
+input-start output block s run x limit before = record { bytes = []; all = zero-add limit; plays = plays-none output block s run x before }
 
-module _ {block : List ℕ} {start : Session} {x : Exchange} {limit : ℕ} {before : List ℕ} {s : play.Session} {run : Run} {y : Exchange} {left : ℕ} {mid : List ℕ}
-    (g : InputPlaying block start x limit before s run y left mid) where
+module _ {output : Output} {block : List ℕ} {start : Session} {x : Exchange} {limit : ℕ} {before : List ℕ} {s : play.Session} {run : Run} {y : Exchange} {left : ℕ} {mid : List ℕ}
+    (g : InputPlaying output block start x limit before s run y left mid) where
   -- As many bytes came as are played.
   pub going-received : x .received ≡ 0 → limit < 4294967296 → y .received < 4294967296
   going-received e l =
@@ -189,8 +232,8 @@ module _ {block : List ℕ} {start : Session} {x : Exchange} {limit : ℕ} {befo
       let all : length (g .bytes) + left ≡ limit = g .all in
       omega arith
 
-  pub input-on : {most : ℕ} {p : Piece} {next : Run} {after : List ℕ} → PiecePlayed block (freshSession (s .number) (s .line) run) y most mid p next after
-      → most ≤ left → {rest : ℕ} → rest + p .taken ≡ left → InputPlaying block start x limit before (p .session) next (p .exchange) rest after
+  pub input-on : {most : ℕ} {p : Piece} {next : Run} {after : List ℕ} → PiecePlayed output block (freshSession (s .number) (s .line) run) y most mid p next after
+      → most ≤ left → {rest : ℕ} → rest + p .taken ≡ left → InputPlaying output block start x limit before (p .session) next (p .exchange) rest after
   input-on {p = p} q l {rest} r =
       record {
         bytes = g .bytes ++ q .bytes;
@@ -198,11 +241,11 @@ module _ {block : List ℕ} {start : Session} {x : Exchange} {limit : ℕ} {befo
             let all : length (g .bytes) + left ≡ limit = g .all in
             let size : length (q .bytes) ≡ p .taken = q .size in
             omega (arith, length-append (g .bytes) (q .bytes));
-        plays = plays-more block (g .plays) (q .plays);
+        plays = plays-more output block (g .plays) (q .plays);
       }
 
   pub input-of : (ended : Bool) → (y .ok ≡ true → ended ≡ false → left ≡ 0)
-      → InputPlayed block start x limit before (record { session = s; exchange = y; ended = ended }) run mid
+      → InputPlayed output block start x limit before (record { session = s; exchange = y; ended = ended }) run mid
   input-of ended f =
       let all : length (g .bytes) + left ≡ limit = g .all in
       record {
@@ -233,41 +276,63 @@ sheet-fits r out =
     if-all (Fitting out) (ltb (length out) (length (sheetBytes r))) (λ e. tt) (λ e.
     if-all (Fitting out) (receiptsAllowed (r .status) (r .head .calls)) (λ f. ltb-false _ _ e) (λ f. tt)))))))
 
-module _ (r : Run) (output out : List ℕ) where
+module _ (r : Run) (bytes out : List ℕ) where
   abbrev Made : Closing → Type 0
-  Made answer = _≡_ {A = Closed} (record { answer = answer; output = output }) (sheetOf r out)
+  Made answer = _≡_ {A = Closed} (record { answer = answer; output = bytes }) (sheetOf r out)
 
   pub written-fits : {answer : Closing} → Made answer → (n : ℕ) → answer ≡ closing.Written n → n ≤ length out
   written-fits is n e = subst (Fits (length out)) (sym (ap (λ (c : Closed). c .answer) is) ∙ e) (sheet-fits r out)
 
-  close-is : {answer : Closing} → Made answer → out ≡ repeated maxSheet 0 → closingText (record { answer = answer; output = output }) answer ≡ closeRun r
-  close-is is e = ap (λ (c : Closed). closingText c (c .answer)) is ∙ ap (λ (o : List ℕ). closingText (sheetOf r o) (sheetOf r o .answer)) e
+  module _ {answer : Closing} (is : Made answer) (room : out ≡ repeated maxSheet 0) where
+    abbrev made : Closed
+    made = record { answer = answer; output = bytes }
 
-  module _ {answer : Closing} (is : Made answer) (room : out ≡ repeated maxSheet 0) {before after : List ℕ} {end : ℕ} where
-    pub closed-written : (n : ℕ) → answer ≡ closing.Written n → Written before after 0 end (sheetText (take n output)) → Written before after 0 end (closeRun r)
-    unfolding closingText
-    closed-written n e w =
-        subst (λ (t : List ℕ). Written before after 0 end t)
-        (ap (closingText (record { answer = answer; output = output })) (sym e) ∙ close-is is room) w
+    close-is : (f : Closed → Closing → List ℕ) → f made answer ≡ f (sheetOf r (repeated maxSheet 0)) (sheetOf r (repeated maxSheet 0) .answer)
+    close-is f = ap (λ (c : Closed). f c (c .answer)) is ∙ ap (λ (o : List ℕ). f (sheetOf r o) (sheetOf r o .answer)) room
 
-    pub closed-refused : (a : Answer) → answer ≡ closing.Refused a → {number : ℕ} → number ≡ answerNumber a → Written before after 0 end (refusedText 0 number)
-        → Written before after 0 end (closeRun r)
-    unfolding closingText
-    closed-refused a e n w =
-        subst (λ (t : List ℕ). Written before after 0 end t)
-        (ap (refusedText 0) n ∙ ap (closingText (record { answer = answer; output = output })) (sym e) ∙ close-is is room) w
+    written-is : (output : Output) (n : ℕ) → answer ≡ closing.Written n → printedSheet output (take n bytes) ≡ printedClose output r
+    unfolding printedSheet printedClose closingText closingBytes
+    written-is Text n e = ap (closingText made) (sym e) ∙ close-is closingText
+    written-is Sheet n e = ap (closingBytes made) (sym e) ∙ close-is closingBytes
 
--- Each text fits its buffer.
-pub close-fits : (r : Run) {before after : List ℕ} {n : ℕ} → Written before after 0 n (closeRun r) → n ≤ maxCloseText
-close-fits r w = omega (arith, w .end, close-short r)
+    refused-is : (output : Output) (a : Answer) → answer ≡ closing.Refused a → printedLines output (refusedText 0 (answerNumber a)) ≡ printedClose output r
+    unfolding printedLines printedClose closingText closingBytes
+    refused-is Text a e = ap (closingText made) (sym e) ∙ close-is closingText
+    refused-is Sheet a e = ap (closingBytes made) (sym e) ∙ close-is closingBytes
 
-pub refusal-fits : (a b : ℕ) {before after : List ℕ} {n : ℕ} → Written before after 0 n (blockRefusedText a b) → n ≤ maxAnswer
-refusal-fits a b {n = n} w =
-    let e : length (blockRefusedText a b) ≤ maxAnswer = line-fits 101 (a ∷ b ∷ []) in omega (arith, w .end)
+    -- The sheet's lines fit their buffer.
+    pub lines-short : (n : ℕ) → answer ≡ closing.Written n → length (sheetText (take n bytes)) ≤ maxCloseText
+    unfolding printedSheet printedClose
+    lines-short n e = subst⁻¹ (λ (t : List ℕ). length t ≤ maxCloseText) (written-is Text n e) (close-short r)
 
-pub refusal-front : (a b : ℕ) {before after : List ℕ} {n : ℕ} → Written before after 0 n (blockRefusedText a b) → n ≤ length before
-    → {c d : ℕ} → a ≡ c → b ≡ d → take n after ≡ blockRefusedText c d
-refusal-front a b w l e f = front w l ∙ (λ i. blockRefusedText (e i) (f i))
+    module _ (output : Output) {before after : List ℕ} {x y : Exchange} where
+      pub closed-written : (n : ℕ) → answer ≡ closing.Written n → Handed before x (printedSheet output (take n bytes)) after y
+          → Handed before x (printedClose output r) after y
+      closed-written n e h = handed-as (written-is output n e) h
+
+      pub closed-refused : (a : Answer) → answer ≡ closing.Refused a → Handed before x (printedLines output (refusedText 0 (answerNumber a))) after y
+          → Handed before x (printedClose output r) after y
+      closed-refused a e h = handed-as (refused-is output a e) h
+
+-- The lines of a whole sheet fit their buffer, and stand at its front.
+module _ (bytes : List ℕ) {before after : List ℕ} {n : ℕ} (w : Written before after 0 n (sheetText (take (length bytes) bytes))) where
+  whole-lines : sheetText (take (length bytes) bytes) ≡ sheetText bytes
+  whole-lines = ap sheetText (take-all (length bytes) bytes (omega arith))
+
+  pub lines-fit : length (sheetText bytes) ≤ maxCloseText → n ≤ maxCloseText
+  lines-fit short = omega (arith, w .end, ap length whole-lines)
+
+  pub lines-front : n ≤ length before → take n after ≡ sheetText bytes
+  lines-front l = front w l ∙ whole-lines
+
+-- A line of a letter and two numbers fits its buffer, and stands at its front.
+module _ (letter a b : ℕ) {before after : List ℕ} {n : ℕ} (w : Written before after 0 n (textLine letter (decimal a ∷ decimal b ∷ []))) where
+  pub line-short : n ≤ maxAnswer
+  line-short =
+      let e : length (textLine letter (decimal a ∷ decimal b ∷ [])) ≤ maxAnswer = line-fits letter (a ∷ b ∷ []) in omega (arith, w .end)
+
+  pub line-front : n ≤ length before → {c d : ℕ} → a ≡ c → b ≡ d → take n after ≡ textLine letter (decimal c ∷ decimal d ∷ [])
+  line-front l e f = front w l ∙ (λ i. textLine letter (decimal (e i) ∷ decimal (f i) ∷ []))
 
 -- The last line and the close, one behind the other.
 module _ (block : List ℕ) (number : ℕ) (line : Line) (run : Run) (out : List ℕ) {next : ℕ} {on : Line} {left : Run} {answers : List ℕ} {end : ℕ}
@@ -277,19 +342,20 @@ module _ (block : List ℕ) (number : ℕ) (line : Line) (run : Run) (out : List
       let grown : end ≡ 0 + length (playEnd block (freshSession number line run) .output) = ap (λ (w : Shown). w .end) e in
       omega (arith, grown, end-grows block (freshSession number line run))
 
-  pub finish-handed : {before mid after : List ℕ} {x y z : Exchange} → end ≤ length out → Handed before x (take end answers) mid y → Handed mid y (closeRun left) after z
-      → Handed before x (endText block number line run) after z
-  finish-handed h a b =
+  pub finish-handed : (output : Output) {before mid after : List ℕ} {x y z : Exchange} → end ≤ length out
+      → Handed before x (printedLines output (take end answers)) mid y → Handed mid y (printedClose output left) after z
+      → Handed before x (printedEnd output block number line run) after z
+  finish-handed output h a b =
       let text : take end answers ≡ playEnd block (freshSession number line run) .output =
       front (record { same = ap (λ (w : Shown). w .buffer) e; end = ap (λ (w : Shown). w .end) e }) h in
-      handed-more (handed-as text a) (handed-as (ap (λ (w : Shown). closeRun (w .run)) e) b)
+      handed-more (handed-as (ap (printedLines output) text) a) (handed-as (ap (λ (w : Shown). printedClose output (w .run)) e) b)
 
 -- ---- the whole
 
-module _ {block : List ℕ} {run left : Run} {x y : Exchange} {limit : ℕ} {before mid after : List ℕ} {i : Input} where
-  pub runs-on : InputPlayed block (freshSession 1 Empty run) x limit before i left mid
-      → Handed mid (i .exchange) (endText block (i .session .number) (i .session .line) left) after y → y .received ≡ i .exchange .received → x .received ≡ 0
-      → RunsOn block run x limit before (record { opened = true; ended = i .ended; exchange = y }) after
+module _ {output : Output} {block : List ℕ} {run left : Run} {x y : Exchange} {limit : ℕ} {before mid after : List ℕ} {i : Input} where
+  pub runs-on : InputPlayed output block (freshSession 1 Empty run) x limit before i left mid
+      → Handed mid (i .exchange) (printedEnd output block (i .session .number) (i .session .line) left) after y → y .received ≡ i .exchange .received → x .received ≡ 0
+      → RunsOn output block run x limit before (record { opened = true; ended = i .ended; exchange = y }) after
   runs-on p h same none =
       let s : Session = playBytes block (freshSession 1 Empty run) (p .bytes) in
       record {
@@ -300,26 +366,33 @@ module _ {block : List ℕ} {run left : Run} {x y : Exchange} {limit : ℕ} {bef
         received = same ∙ p .plays .received ∙ ap (λ (n : ℕ). n + length (p .bytes)) none ∙ zero-add (length (p .bytes));
         text =
             handed-as
-            (λ j. s .output ++ endText block (p .plays .number j) (p .plays .line j) (p .plays .left j))
+            (λ j. printedLines output (s .output) ++ printedEnd output block (p .plays .number j) (p .plays .line j) (p .plays .left j))
             (handed-more (p .plays .text) h);
       }
 
--- REGISTER's text of an accepted block, and of a refused one.
-register-opened : (block input : List ℕ) → length input ≤ maxInput → openingOf fixedSizes block maxWorkers .answer ≡ verdict.Accepted
-    → registerOf block input ≡ openedText block (openingOf fixedSizes block maxWorkers .run) input
-unfolding joinedParts piecesText
-register-opened block input short accepted =
+-- What is printed of an accepted block, and of a refused one.
+opened-is : (output : Output) (block input : List ℕ) → length input ≤ maxInput → openingOf fixedSizes block maxWorkers .answer ≡ verdict.Accepted
+    → printedOf output block input ≡ printedOpened output block (openingOf fixedSizes block maxWorkers .run) input
+unfolding printedOf printedLines printedClose joinedParts piecesText writtenSheet sheetOpened playInput
+opened-is Text block input short accepted =
     ap (registerOf block) (sym (append-nil input))
     ∙ register-in-pieces block (input ∷ []) (subst (λ (l : List ℕ). length l ≤ maxInput) (sym (append-nil input)) short) accepted
+opened-is Sheet block input short accepted =
+    let run : Run = openingOf fixedSizes block maxWorkers .run in
+    let s : Session = playBytes block (freshSession 1 Empty run) input in
+    ap (sheetOpened block input run) accepted
+    ∙ ap (λ (xs : List ℕ). closeBytes (playEnd block (playBytes block (freshSession 1 Empty run) xs) .run)) (take-all maxInput input short)
+    ∙ ap (λ (e : Session). closeBytes (e .run)) (end-said block (s .output) (s .number) (s .line) (s .run))
 
-register-refused : (block input : List ℕ) (why : Refusal) → openingOf fixedSizes block maxWorkers .answer ≡ verdict.Refused why
-    → registerOf block input ≡ blockRefusedText (numberOf why) (offsetOf why)
-unfolding registerOf registerOpened
-register-refused block input why e = ap (registerOpened block input (openingOf fixedSizes block maxWorkers .run)) e
+refused-of : (output : Output) (block input : List ℕ) (why : Refusal) → openingOf fixedSizes block maxWorkers .answer ≡ verdict.Refused why
+    → printedOf output block input ≡ printedLines output (blockRefusedText (numberOf why) (offsetOf why))
+unfolding printedOf printedLines registerOf registerOpened writtenSheet sheetOpened
+refused-of Text block input why e = ap (registerOpened block input (openingOf fixedSizes block maxWorkers .run)) e
+refused-of Sheet block input why e = ap (sheetOpened block input (openingOf fixedSizes block maxWorkers .run)) e
 
-module _ {block : List ℕ} {x : Exchange} {limit : ℕ} {before after : List ℕ} {v : Verdict} {opened : Run} (small : limit < 4294967296)
+module _ {output : Output} {block : List ℕ} {x : Exchange} {limit : ℕ} {before after : List ℕ} {v : Verdict} {opened : Run} (small : limit < 4294967296)
     (is : _≡_ {A = Opened} (record { answer = v; run = opened }) (openingOf fixedSizes block maxWorkers)) where
-  pub runs-accepted : {r : Ran} → v ≡ verdict.Accepted → RunsOn block opened (exchangeStart x) limit before r after → Runs block x limit before r after
+  pub runs-accepted : {r : Ran} → v ≡ verdict.Accepted → RunsOn output block opened (exchangeStart x) limit before r after → Runs output block x limit before r after
   unfolding isAccepted
   runs-accepted {r} e p =
       let accepted : openingOf fixedSizes block maxWorkers .answer ≡ verdict.Accepted = sym (ap (λ (o : Opened). o .answer) is) ∙ e in
@@ -332,13 +405,14 @@ module _ {block : List ℕ} {x : Exchange} {limit : ℕ} {before after : List �
         received = p .received;
         text =
             handed-as
-            (ap (λ (u : Run). openedText block u (p .input)) run-is
-            ∙ sym (register-opened block (p .input) (let w : length (p .input) ≤ limit = p .within in omega arith) accepted))
+            (ap (λ (u : Run). printedOpened output block u (p .input)) run-is
+            ∙ sym (opened-is output block (p .input) (let w : length (p .input) ≤ limit = p .within in omega arith) accepted))
             (p .text);
       }
 
-  pub runs-refused : (why : Refusal) → v ≡ verdict.Refused why → {y : Exchange} → Handed before (exchangeStart x) (blockRefusedText (numberOf why) (offsetOf why)) after y
-      → y .received ≡ 0 → Runs block x limit before (record { opened = false; ended = false; exchange = y }) after
+  pub runs-refused : (why : Refusal) → v ≡ verdict.Refused why → {y : Exchange}
+      → Handed before (exchangeStart x) (printedLines output (blockRefusedText (numberOf why) (offsetOf why))) after y
+      → y .received ≡ 0 → Runs output block x limit before (record { opened = false; ended = false; exchange = y }) after
   unfolding isAccepted
   runs-refused why e {y} h none =
       let refused : openingOf fixedSizes block maxWorkers .answer ≡ verdict.Refused why = sym (ap (λ (o : Opened). o .answer) is) ∙ e in
@@ -348,14 +422,14 @@ module _ {block : List ℕ} {x : Exchange} {limit : ℕ} {before after : List �
         within = omega arith;
         whole = λ ok o more. absurd (false≢true o);
         received = none;
-        text = handed-as (sym (register-refused block [] why refused)) h;
+        text = handed-as (sym (refused-of output block [] why refused)) h;
       }
 
 -- The file that was read, run as REGISTER does.
-module _ (buffer file : List ℕ) {f : FileRead} {before after : List ℕ} {r : Ran} (i : FileIn buffer file f) (same : length file ≡ length buffer)
+module _ {output : Output} (buffer file : List ℕ) {f : FileRead} {before after : List ℕ} {r : Ran} (i : FileIn buffer file f) (same : length file ≡ length buffer)
     (long : length buffer ≡ maxBytes + 1) where
-  pub registers-of : Runs (take (f .length) file) (record { ok = f .ok; received = 0; sent = 0 }) maxInput before r after
-      → Registers before (record { «file_ok» = f .ok; «file_ended» = f .ended; opened = r .opened; «input_ended» = r .ended; exchange = r .exchange }) after
+  pub registers-of : Runs output (take (f .length) file) (record { ok = f .ok; received = 0; sent = 0 }) maxInput before r after
+      → Registers output before (record { «file_ok» = f .ok; «file_ended» = f .ended; opened = r .opened; «input_ended» = r .ended; exchange = r .exchange }) after
   registers-of p =
       record {
         file = take (f .length) file;

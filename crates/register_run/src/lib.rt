@@ -1,6 +1,7 @@
-// A block run with the move lines of standard input, and what is printed of it. A refused move prints `r`, its line, its number; a refused
-// block only `e`, number, offset; then the closing sheet is printed, or `r 0 27` for an unfinished run. What is handed to standard output is
-// kept in a transcript that the caller lends, as far as it fits; its length changes nothing else.
+// A block run with the move lines of standard input, and what is printed of it: REGISTER's text, or the sheet's bytes. As text, a refused move
+// prints `r`, its line, its number; a refused block only `e`, number, offset; then the closing sheet is printed, or `r 0 27` for an unfinished
+// run. As bytes, the sheet alone is printed, and these lines are told on standard error. What is handed to standard output is kept in a
+// transcript that the caller lends, as far as it fits; its length changes nothing else.
 use block::Refusal;
 use block::Verdict;
 use block::limits::MAX_CALLS;
@@ -16,6 +17,7 @@ use console::Line;
 use host::Exchange;
 use host::FILE_BYTES;
 use libc::STDIN_FILENO;
+use machine::Answer;
 use machine::Head;
 use machine::layout::CELLS_SIZE;
 use machine::layout::FRAMES_SIZE;
@@ -35,16 +37,17 @@ ghost use mathlib.Core.Path.{_≡_};
 ghost use Prim.Native.Nat.{_*_, _≤_, _<_};
 ghost use lib.ListN.{length};
 ghost use Rattle.block.specs.Refusal.{numberOf, offsetOf};
-ghost use Rattle.text.specs.Lines.{blockRefusedText};
-ghost use Rattle.text.specs.Written.{Written};
+ghost use Rattle.text.specs.Lines.{refusedText, blockRefusedText};
+ghost use Rattle.machine.specs.Answer.{answerNumber};
 ghost use Rattle.moves.specs.Lent.{lent};
-ghost use Rattle.console.specs.Register.{closeRun};
+ghost use Rattle.console.specs.Text.{sheetText};
 ghost use Rattle.console.specs.declared.Line.the-variants.{Empty};
 ghost use Rattle.play.specs.Shown.{freshSession};
 ghost use Rattle.play.specs.AnswerLength.{maxAnswer};
-ghost use Rattle.play.specs.Pieces.{endText};
+ghost use Rattle.play.specs.Printed.{maxCloseText};
 ghost use Rattle.host.specs.Exchange.{Handed};
-ghost use Rattle.register_run.specs.Runs.{chunkSize, InputRead, PiecePlayed, InputPlayed, RunsOn, Runs, Registers};
+ghost use Rattle.register_run.specs.declared.Output.the-variants.{Text, Sheet};
+ghost use Rattle.register_run.specs.Runs.{chunkSize, printedLines, printedSheet, printedClose, printedEnd, InputRead, PiecePlayed, InputPlayed, RunsOn, Runs, Registers};
 
 // The input is read in pieces of at most so many bytes, and each byte of it makes at most MAX_ANSWER bytes of answers.
 const CHUNK: usize = 512;
@@ -58,6 +61,12 @@ const MAX_SHEET: usize = MAX_KEYS * (HEAD_BYTES + CELL_BYTES)
 
 // "Standard input counts as ended after 2^32 - 1 bytes."
 const MAX_INPUT: u32 = 4294967295;
+
+// What a run prints: text lines, or the bytes of its sheet.
+pub enum Output {
+    Text,
+    Sheet,
+}
 
 // A read of standard input: how the exchange stands behind it, and how many bytes came, 0 at the input's end.
 struct Got {
@@ -135,8 +144,20 @@ fn read_some(x: Exchange, chunk: &mut [u8], limit: usize) -> Got
     }
 }
 
-// Plays the next piece of the input, of at most `limit` bytes, and prints the answers.
+// A text of lines, printed, or, beside the sheet's bytes, told on standard error.
+fn say(output: Output, x: Exchange, text: &[u8], transcript: &mut [u8]) -> Exchange
+    ensures text { λ r. ⌜ Handed (now (transcript .entry)) x (printedLines output (now (text .entry))) (now (transcript .exit)) r ⌝ }
+    ensures received { λ r. ⌜ r .received ≡ x .received ⌝ }
+{
+    match output {
+        Output::Text => host::print(x, text, transcript),
+        Output::Sheet => host::tell(x, text),
+    }
+}
+
+// Plays the next piece of the input, of at most `limit` bytes, and says the answers.
 fn play_some(
+    output: Output,
     s: Session,
     block: &[u8],
     plan: &[u64],
@@ -155,7 +176,7 @@ fn play_some(
     requires { ⌜ chunkSize ≤ length (now chunk) ⌝ }
     requires { ⌜ maxAnswer * chunkSize ≤ length (now answers) ⌝ }
     requires { ⌜ x .received < 4294967296 ⌝ }
-    ensures { λ r. ⌜ PiecePlayed (now (block .entry))
+    ensures { λ r. ⌜ PiecePlayed output (now (block .entry))
         (freshSession (s .number) (s .line)
         (lent (s .head) (now (plan .entry)) (now (keys .entry)) (now (cells .entry)) (now (status .entry)) (now (seats .entry))
         (now (frames .entry)))) x
@@ -181,7 +202,7 @@ fn play_some(
     );
     let n = p.length;
     let before = got.exchange;
-    let exchange = host::print(before, &answers[..n], transcript);
+    let exchange = say(output, before, &answers[..n], transcript);
     let session = p.session;
     Piece {
         session,
@@ -203,6 +224,7 @@ fn piece_limit(left: u32) -> usize
 
 // Plays the input to its end, `limit` bytes at most, or until something fails.
 fn play_input(
+    output: Output,
     head: Head,
     block: &[u8],
     plan: &[u64],
@@ -220,7 +242,7 @@ fn play_input(
     requires { ⌜ chunkSize ≤ length (now chunk) ⌝ }
     requires { ⌜ maxAnswer * chunkSize ≤ length (now answers) ⌝ }
     requires { ⌜ x .received ≡ 0 ⌝ }
-    ensures { λ r. ⌜ InputPlayed (now (block .entry))
+    ensures { λ r. ⌜ InputPlayed output (now (block .entry))
         (freshSession 1 Empty
         (lent head (now (plan .entry)) (now (keys .entry)) (now (cells .entry)) (now (status .entry)) (now (seats .entry))
         (now (frames .entry)))) x limit
@@ -239,6 +261,7 @@ fn play_input(
     while 0 < left {
         let most = piece_limit(left);
         let piece = play_some(
+            output,
             s,
             block,
             plan,
@@ -278,30 +301,44 @@ fn play_input(
     }
 }
 
-// The text of a run's close: the cells and receipts of its sheet, or the sheet's refusal, stored from the buffer's start on; answers its length.
-pub fn close_text(
-    head: Head,
-    plan: &[u64],
-    keys: &[u64],
-    cells: &[i64],
-    status: &[u64],
-    seats: &[u64],
-    frames: &[i64],
-    text: &mut [u8],
-) -> usize
-    ensures { λ r. ⌜ Written (now (text .entry)) (now (text .exit)) 0 r
-        (closeRun (lent head (now (plan .entry)) (now (keys .entry)) (now (cells .entry)) (now (status .entry)) (now (seats .entry))
-        (now (frames .entry)))) ⌝ }
+// Prints the lines of a sheet.
+fn print_lines(x: Exchange, bytes: &[u8], transcript: &mut [u8]) -> Exchange
+    requires { ⌜ length (now bytes) < 65536 ⌝ }
+    requires { ⌜ length (sheetText (now bytes)) ≤ maxCloseText ⌝ }
+    ensures text { λ r. ⌜ Handed (now (transcript .entry)) x (sheetText (now (bytes .entry))) (now (transcript .exit)) r ⌝ }
+    ensures received { λ r. ⌜ r .received ≡ x .received ⌝ }
 {
-    let mut bytes = [0u8; MAX_SHEET];
-    match sheet(head, plan, keys, cells, status, seats, frames, &mut bytes) {
-        Closing::Written(n) => sheet_text(&bytes, n as u16, text),
-        Closing::Refused(answer) => text::refused_line(text, 0, 0, answer_number(answer)),
+    let mut text = [0u8; MAX_CLOSE_TEXT];
+    let n = sheet_text(bytes, bytes.len() as u16, &mut text);
+    host::print(x, &text[..n], transcript)
+}
+
+// Prints a sheet: its lines, or its bytes.
+fn print_sheet(output: Output, x: Exchange, bytes: &[u8], transcript: &mut [u8]) -> Exchange
+    requires { ⌜ length (now bytes) < 65536 ⌝ }
+    requires { ⌜ length (sheetText (now bytes)) ≤ maxCloseText ⌝ }
+    ensures text { λ r. ⌜ Handed (now (transcript .entry)) x (printedSheet output (now (bytes .entry))) (now (transcript .exit)) r ⌝ }
+    ensures received { λ r. ⌜ r .received ≡ x .received ⌝ }
+{
+    match output {
+        Output::Text => print_lines(x, bytes, transcript),
+        Output::Sheet => host::print(x, bytes, transcript),
     }
 }
 
-// Prints the close of a run.
+// Says the line of a refused sheet.
+fn refuse_sheet(output: Output, answer: Answer, x: Exchange, transcript: &mut [u8]) -> Exchange
+    ensures text { λ r. ⌜ Handed (now (transcript .entry)) x (printedLines output (refusedText 0 (answerNumber answer))) (now (transcript .exit)) r ⌝ }
+    ensures received { λ r. ⌜ r .received ≡ x .received ⌝ }
+{
+    let mut text = [0u8; MAX_ANSWER];
+    let n = text::refused_line(&mut text, 0, 0, answer_number(answer));
+    say(output, x, &text[..n], transcript)
+}
+
+// The close of a run: its sheet, or the sheet's refusal.
 fn close(
+    output: Output,
     head: Head,
     plan: &[u64],
     keys: &[u64],
@@ -313,18 +350,22 @@ fn close(
     transcript: &mut [u8],
 ) -> Exchange
     ensures text { λ r. ⌜ Handed (now (transcript .entry)) x
-        (closeRun (lent head (now (plan .entry)) (now (keys .entry)) (now (cells .entry)) (now (status .entry)) (now (seats .entry))
+        (printedClose output
+        (lent head (now (plan .entry)) (now (keys .entry)) (now (cells .entry)) (now (status .entry)) (now (seats .entry))
         (now (frames .entry))))
         (now (transcript .exit)) r ⌝ }
     ensures received { λ r. ⌜ r .received ≡ x .received ⌝ }
 {
-    let mut text = [0u8; MAX_CLOSE_TEXT];
-    let n = close_text(head, plan, keys, cells, status, seats, frames, &mut text);
-    host::print(x, &text[..n], transcript)
+    let mut bytes = [0u8; MAX_SHEET];
+    match sheet(head, plan, keys, cells, status, seats, frames, &mut bytes) {
+        Closing::Written(n) => print_sheet(output, x, &bytes[..n], transcript),
+        Closing::Refused(answer) => refuse_sheet(output, answer, x, transcript),
+    }
 }
 
 // The last line of the input, if it has no line feed, and the close.
 fn finish(
+    output: Output,
     s: Session,
     block: &[u8],
     plan: &[u64],
@@ -337,7 +378,7 @@ fn finish(
     transcript: &mut [u8],
 ) -> Exchange
     ensures text { λ r. ⌜ Handed (now (transcript .entry)) x
-        (endText (now (block .entry)) (s .number) (s .line)
+        (printedEnd output (now (block .entry)) (s .number) (s .line)
         (lent (s .head) (now (plan .entry)) (now (keys .entry)) (now (cells .entry)) (now (status .entry)) (now (seats .entry))
         (now (frames .entry))))
         (now (transcript .exit)) r ⌝ }
@@ -356,10 +397,11 @@ fn finish(
         &mut answers,
     );
     let n = p.length;
-    let after = host::print(x, &answers[..n], transcript);
+    let after = say(output, x, &answers[..n], transcript);
     let session = p.session;
     let head = session.head;
     close(
+        output,
         head,
         plan,
         keys,
@@ -372,18 +414,19 @@ fn finish(
     )
 }
 
-// Prints the line of a refused block.
-fn print_refusal(why: Refusal, x: Exchange, transcript: &mut [u8]) -> Exchange
-    ensures text { λ r. ⌜ Handed (now (transcript .entry)) x (blockRefusedText (numberOf why) (offsetOf why)) (now (transcript .exit)) r ⌝ }
+// Says the line of a refused block.
+fn refuse_block(output: Output, why: Refusal, x: Exchange, transcript: &mut [u8]) -> Exchange
+    ensures text { λ r. ⌜ Handed (now (transcript .entry)) x (printedLines output (blockRefusedText (numberOf why) (offsetOf why))) (now (transcript .exit)) r ⌝ }
     ensures received { λ r. ⌜ r .received ≡ x .received ⌝ }
 {
     let mut text = [0u8; MAX_ANSWER];
     let n = text::block_refused_line(&mut text, 0, number_of(why), offset_of(why));
-    host::print(x, &text[..n], transcript)
+    say(output, x, &text[..n], transcript)
 }
 
 // A block that is opened, run with at most `limit` bytes of input and closed.
 fn run_opened(
+    output: Output,
     head: Head,
     block: &[u8],
     plan: &[u64],
@@ -397,7 +440,7 @@ fn run_opened(
     transcript: &mut [u8],
 ) -> Ran
     requires { ⌜ x .received ≡ 0 ⌝ }
-    ensures { λ r. ⌜ RunsOn (now (block .entry))
+    ensures { λ r. ⌜ RunsOn output (now (block .entry))
         (lent head (now (plan .entry)) (now (keys .entry)) (now (cells .entry)) (now (status .entry)) (now (seats .entry))
         (now (frames .entry))) x limit
         (now (transcript .entry)) r (now (transcript .exit)) ⌝ }
@@ -405,6 +448,7 @@ fn run_opened(
     let mut chunk = [0u8; CHUNK];
     let mut answers = [0u8; ANSWERS];
     let i = play_input(
+        output,
         head,
         block,
         plan,
@@ -422,6 +466,7 @@ fn run_opened(
     let s = i.session;
     let behind = i.exchange;
     let exchange = finish(
+        output,
         s,
         block,
         plan,
@@ -441,8 +486,8 @@ fn run_opened(
 }
 
 // A block: its refusal, or its run with at most `limit` bytes of standard input.
-pub fn run(block: &[u8], x: Exchange, limit: u32, transcript: &mut [u8]) -> Ran
-    ensures { λ r. ⌜ Runs (now (block .entry)) x limit (now (transcript .entry)) r (now (transcript .exit)) ⌝ }
+pub fn run(output: Output, block: &[u8], x: Exchange, limit: u32, transcript: &mut [u8]) -> Ran
+    ensures { λ r. ⌜ Runs output (now (block .entry)) x limit (now (transcript .entry)) r (now (transcript .exit)) ⌝ }
 {
     let mut plan = [0u64; PLAN_SIZE];
     let mut keys = [0u64; KEYS_SIZE];
@@ -469,7 +514,7 @@ pub fn run(block: &[u8], x: Exchange, limit: u32, transcript: &mut [u8]) -> Ran
     let head = o.head;
     match verdict {
         Verdict::Refused(why) => {
-            let exchange = print_refusal(why, start, transcript);
+            let exchange = refuse_block(output, why, start, transcript);
             Ran {
                 opened: false,
                 ended: false,
@@ -477,6 +522,7 @@ pub fn run(block: &[u8], x: Exchange, limit: u32, transcript: &mut [u8]) -> Ran
             }
         }
         Verdict::Accepted => run_opened(
+            output,
             head,
             block,
             &plan,
@@ -492,10 +538,10 @@ pub fn run(block: &[u8], x: Exchange, limit: u32, transcript: &mut [u8]) -> Ran
     }
 }
 
-// REGISTER: opens block.bin of the current folder for 8 workers, plays the move lines of standard input, and prints the closing sheet. A
-// missing file is read as empty; where a file cannot be read nothing is printed.
-pub fn register(transcript: &mut [u8]) -> Registered
-    ensures { λ r. ⌜ Registers (now (transcript .entry)) r (now (transcript .exit)) ⌝ }
+// Opens block.bin of the current folder for 8 workers, plays the move lines of standard input, and prints the closing sheet. A missing file is
+// read as empty; where a file cannot be read nothing is printed.
+fn run_file(output: Output, transcript: &mut [u8]) -> Registered
+    ensures { λ r. ⌜ Registers output (now (transcript .entry)) r (now (transcript .exit)) ⌝ }
 {
     let mut file = [0u8; FILE_BYTES];
     let f = host::read_block_file(&mut file);
@@ -505,7 +551,7 @@ pub fn register(transcript: &mut [u8]) -> Registered
         received: 0,
         sent: 0,
     };
-    let r = run(&file[..length], x, MAX_INPUT, transcript);
+    let r = run(output, &file[..length], x, MAX_INPUT, transcript);
     let exchange = r.exchange;
     Registered {
         file_ok: f.ok,
@@ -514,4 +560,18 @@ pub fn register(transcript: &mut [u8]) -> Registered
         input_ended: r.ended,
         exchange,
     }
+}
+
+// REGISTER: block.bin and standard input, and as text the answers of refused lines and the closing sheet.
+pub fn register(transcript: &mut [u8]) -> Registered
+    ensures { λ r. ⌜ Registers Text (now (transcript .entry)) r (now (transcript .exit)) ⌝ }
+{
+    run_file(Output::Text, transcript)
+}
+
+// The same file and input, and of them the bytes of the closing sheet; a refusal is told on standard error, and no byte is printed.
+pub fn write_sheet(transcript: &mut [u8]) -> Registered
+    ensures { λ r. ⌜ Registers Sheet (now (transcript .entry)) r (now (transcript .exit)) ⌝ }
+{
+    run_file(Output::Sheet, transcript)
 }

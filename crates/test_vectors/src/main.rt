@@ -2,6 +2,7 @@
 // its moves likewise.
 use host::Exchange;
 use host::FILE_BYTES;
+use register_run::Output;
 
 // More blocks than any input here has.
 const MAX_BLOCKS: usize = 1000000;
@@ -28,7 +29,13 @@ fn run_in(x: Exchange, file: &mut [u8], moves: &mut [u8]) -> Exchange {
         received: 0,
         sent: 0,
     };
-    let ran = register_run::run(&file[..length], next, input.length as u32, &mut transcript);
+    let ran = register_run::run(
+        Output::Text,
+        &file[..length],
+        next,
+        input.length as u32,
+        &mut transcript,
+    );
     pass_moves(ran.opened, moves, input.length);
     ran.exchange
 }

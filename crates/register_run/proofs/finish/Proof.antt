@@ -1,4 +1,4 @@
--- `register_run::finish` meets its contract: the answer of the last line is handed over, and the close behind it.
+-- `register_run::finish` meets its contract: the answer of the last line is said, and the close behind it.
 use mathlib.Core.Path.{sym, _∙_}
 use native.Mathlib.Omega.{arith}
 use lib.Seq.{length-take-le}
@@ -21,15 +21,15 @@ array-share-prefix-answers c =
     let a = c19 .args in
     omega (arith, end-fits (a .block .now) (a .s .number) (a .s .line) (lent (a .s .head) (a .plan .now) (a .keys .now) (a .cells .now) (a .status .now) (a .seats .now) (a .frames .now)) _ (c7 .play-end .ensures))
 
-slice-aggregate-print : tie.Need-slice-aggregate-print
-slice-aggregate-print c =
+slice-aggregate-say : tie.Need-slice-aggregate-say
+slice-aggregate-say c =
     let c8 = c .before .before .before .before .before .before .before .before in
     let c20 = c8 .before .before .before .before .before .before .before .before .before .before .before .before in
     let a = c20 .args in
     sym (length-take-le _ _ (omega (arith, end-fits (a .block .now) (a .s .number) (a .s .line) (lent (a .s .head) (a .plan .now) (a .keys .now) (a .cells .now) (a .status .now) (a .seats .now) (a .frames .now)) _ (c8 .play-end .ensures))))
 
-print-requires : tie.Need-print-requires
-print-requires c κs = search needs
+say-requires : tie.Need-say-requires
+say-requires c κs = search needs
 
 close-requires : tie.Need-close-requires
 close-requires c κs = search needs
@@ -55,7 +55,7 @@ returns c =
     let c22 = c12 .before .before .before .before .before .before .before .before .before .before in
     let c34 = c22 .before .before .before .before .before .before .before .before .before .before .before .before in
     let a = c34 .args in
-    (finish-handed (a .block .now) (a .s .number) (a .s .line) (lent (a .s .head) (a .plan .now) (a .keys .now) (a .cells .now) (a .status .now) (a .seats .now) (a .frames .now)) _ (c22 .play-end .ensures) (omega (arith, end-fits (a .block .now) (a .s .number) (a .s .line) (lent (a .s .head) (a .plan .now) (a .keys .now) (a .cells .now) (a .status .now) (a .seats .now) (a .frames .now)) _ (c22 .play-end .ensures))) (c12 .print .ensures .0) (c .before .before .close .ensures .0), c .before .before .close .ensures .1 ∙ c12 .print .ensures .1)
+    (finish-handed (a .block .now) (a .s .number) (a .s .line) (lent (a .s .head) (a .plan .now) (a .keys .now) (a .cells .now) (a .status .now) (a .seats .now) (a .frames .now)) _ (c22 .play-end .ensures) (a .output) (omega (arith, end-fits (a .block .now) (a .s .number) (a .s .line) (lent (a .s .head) (a .plan .now) (a .keys .now) (a .cells .now) (a .status .now) (a .seats .now) (a .frames .now)) _ (c22 .play-end .ensures))) (c12 .say .ensures .0) (c .before .before .close .ensures .0), c .before .before .close .ensures .1 ∙ c12 .say .ensures .1)
 
 pub finish-spec : {M : Type 1} → statement M
 finish-spec =
@@ -64,8 +64,8 @@ finish-spec =
     slice-aggregate-play-end
     play-end-requires
     array-share-prefix-answers
-    slice-aggregate-print
-    print-requires
+    slice-aggregate-say
+    say-requires
     close-requires
     same-length
     same-length-2

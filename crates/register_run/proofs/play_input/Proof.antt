@@ -13,17 +13,17 @@ use Rattle.register_run.proofs.play_input.Statement.{statement}
 use Rattle.register_run.proofs.play_input.Tie as tie
 
 abbrev Inv-loop : tie.InvT-loop
-Inv-loop block plan keys cells₀ status₀ seats₀ frames₀ limit chunk₀ answers₀ transcript₀ s₀ exchange₀ left₀ cells status seats frames chunk answers transcript s exchange left =
+Inv-loop output block plan keys cells₀ status₀ seats₀ frames₀ limit chunk₀ answers₀ transcript₀ s₀ exchange₀ left₀ cells status seats frames chunk answers transcript s exchange left =
     (length cells ≡ length cells₀) × (length status ≡ length status₀) × (length seats ≡ length seats₀) × (length frames ≡ length frames₀) × (length chunk ≡ length chunk₀)
     × (length answers ≡ length answers₀) × (length transcript ≡ length transcript₀)
-    × InputPlaying block (freshSession (s₀ .number) (s₀ .line) (lent (s₀ .head) plan keys cells₀ status₀ seats₀ frames₀)) exchange₀ limit transcript₀ s (lent (s .head) plan keys cells status seats frames) exchange left transcript
+    × InputPlaying output block (freshSession (s₀ .number) (s₀ .line) (lent (s₀ .head) plan keys cells₀ status₀ seats₀ frames₀)) exchange₀ limit transcript₀ s (lent (s .head) plan keys cells status seats frames) exchange left transcript
 
 abbrev μ-loop : tie.MeasureT-loop
-μ-loop block plan keys cells₀ status₀ seats₀ frames₀ limit chunk₀ answers₀ transcript₀ s₀ exchange₀ left₀ cells status seats frames chunk answers transcript s exchange left =
+μ-loop output block plan keys cells₀ status₀ seats₀ frames₀ limit chunk₀ answers₀ transcript₀ s₀ exchange₀ left₀ cells status seats frames chunk answers transcript s exchange left =
     left
 
 loop-holds : tie.Need-loop-holds Inv-loop μ-loop
-loop-holds c = (refl, refl, refl, refl, refl, refl, refl, input-start _ _ _ _ _ _)
+loop-holds c = (refl, refl, refl, refl, refl, refl, refl, input-start _ _ _ _ _ _ _)
 
 piece-limit-requires : tie.Need-piece-limit-requires Inv-loop μ-loop
 piece-limit-requires c κs = search needs
@@ -39,43 +39,43 @@ same-length : tie.Need-same-length Inv-loop μ-loop
 same-length c =
     let c16 = c .before .before .before .before .before .before .before .before .before .before .before .before .before .before .before .before in
     let c26 = c16 .before .before .before .before .before .before .before .before .before .before in
-    omega (arith, c16 .play-some .kept .1 .1 .1 .1 .0, c26 .loop .inv .0)
+    omega (arith, c16 .play-some .kept .1 .1 .1 .1 .1 .0, c26 .loop .inv .0)
 
 same-length-2 : tie.Need-same-length-2 Inv-loop μ-loop
 same-length-2 c =
     let c16 = c .before .before .before .before .before .before .before .before .before .before .before .before .before .before .before .before in
     let c26 = c16 .before .before .before .before .before .before .before .before .before .before in
-    omega (arith, c16 .play-some .kept .1 .1 .1 .1 .1 .0, c26 .loop .inv .1)
+    omega (arith, c16 .play-some .kept .1 .1 .1 .1 .1 .1 .0, c26 .loop .inv .1)
 
 same-length-3 : tie.Need-same-length-3 Inv-loop μ-loop
 same-length-3 c =
     let c16 = c .before .before .before .before .before .before .before .before .before .before .before .before .before .before .before .before in
     let c26 = c16 .before .before .before .before .before .before .before .before .before .before in
-    omega (arith, c16 .play-some .kept .1 .1 .1 .1 .1 .1 .0, c26 .loop .inv .2)
+    omega (arith, c16 .play-some .kept .1 .1 .1 .1 .1 .1 .1 .0, c26 .loop .inv .2)
 
 same-length-4 : tie.Need-same-length-4 Inv-loop μ-loop
 same-length-4 c =
     let c16 = c .before .before .before .before .before .before .before .before .before .before .before .before .before .before .before .before in
     let c26 = c16 .before .before .before .before .before .before .before .before .before .before in
-    omega (arith, c16 .play-some .kept .1 .1 .1 .1 .1 .1 .1 .0, c26 .loop .inv .3)
+    omega (arith, c16 .play-some .kept .1 .1 .1 .1 .1 .1 .1 .1 .0, c26 .loop .inv .3)
 
 same-length-5 : tie.Need-same-length-5 Inv-loop μ-loop
 same-length-5 c =
     let c16 = c .before .before .before .before .before .before .before .before .before .before .before .before .before .before .before .before in
     let c26 = c16 .before .before .before .before .before .before .before .before .before .before in
-    omega (arith, c16 .play-some .kept .1 .1 .1 .1 .1 .1 .1 .1 .1 .1 .0, c26 .loop .inv .4)
+    omega (arith, c16 .play-some .kept .1 .1 .1 .1 .1 .1 .1 .1 .1 .1 .1 .0, c26 .loop .inv .4)
 
 same-length-6 : tie.Need-same-length-6 Inv-loop μ-loop
 same-length-6 c =
     let c16 = c .before .before .before .before .before .before .before .before .before .before .before .before .before .before .before .before in
     let c26 = c16 .before .before .before .before .before .before .before .before .before .before in
-    omega (arith, c16 .play-some .kept .1 .1 .1 .1 .1 .1 .1 .1 .1 .1 .1 .0, c26 .loop .inv .5)
+    omega (arith, c16 .play-some .kept .1 .1 .1 .1 .1 .1 .1 .1 .1 .1 .1 .1 .0, c26 .loop .inv .5)
 
 same-length-7 : tie.Need-same-length-7 Inv-loop μ-loop
 same-length-7 c =
     let c16 = c .before .before .before .before .before .before .before .before .before .before .before .before .before .before .before .before in
     let c26 = c16 .before .before .before .before .before .before .before .before .before .before in
-    omega (arith, c16 .play-some .kept .1 .1 .1 .1 .1 .1 .1 .1 .1 .1 .1 .1 .0, c26 .loop .inv .6)
+    omega (arith, c16 .play-some .kept .1 .1 .1 .1 .1 .1 .1 .1 .1 .1 .1 .1 .1 .0, c26 .loop .inv .6)
 
 returns : tie.Need-returns Inv-loop μ-loop
 returns c =
@@ -88,43 +88,43 @@ same-length-8 : tie.Need-same-length-8 Inv-loop μ-loop
 same-length-8 c =
     let c18 = c .before .before .before .before .before .before .before .before .before .before .before .before .before .before .before .before .before .before in
     let c28 = c18 .before .before .before .before .before .before .before .before .before .before in
-    omega (arith, c18 .play-some .kept .1 .1 .1 .1 .0, c28 .loop .inv .0)
+    omega (arith, c18 .play-some .kept .1 .1 .1 .1 .1 .0, c28 .loop .inv .0)
 
 same-length-9 : tie.Need-same-length-9 Inv-loop μ-loop
 same-length-9 c =
     let c18 = c .before .before .before .before .before .before .before .before .before .before .before .before .before .before .before .before .before .before in
     let c28 = c18 .before .before .before .before .before .before .before .before .before .before in
-    omega (arith, c18 .play-some .kept .1 .1 .1 .1 .1 .0, c28 .loop .inv .1)
+    omega (arith, c18 .play-some .kept .1 .1 .1 .1 .1 .1 .0, c28 .loop .inv .1)
 
 same-length-10 : tie.Need-same-length-10 Inv-loop μ-loop
 same-length-10 c =
     let c18 = c .before .before .before .before .before .before .before .before .before .before .before .before .before .before .before .before .before .before in
     let c28 = c18 .before .before .before .before .before .before .before .before .before .before in
-    omega (arith, c18 .play-some .kept .1 .1 .1 .1 .1 .1 .0, c28 .loop .inv .2)
+    omega (arith, c18 .play-some .kept .1 .1 .1 .1 .1 .1 .1 .0, c28 .loop .inv .2)
 
 same-length-11 : tie.Need-same-length-11 Inv-loop μ-loop
 same-length-11 c =
     let c18 = c .before .before .before .before .before .before .before .before .before .before .before .before .before .before .before .before .before .before in
     let c28 = c18 .before .before .before .before .before .before .before .before .before .before in
-    omega (arith, c18 .play-some .kept .1 .1 .1 .1 .1 .1 .1 .0, c28 .loop .inv .3)
+    omega (arith, c18 .play-some .kept .1 .1 .1 .1 .1 .1 .1 .1 .0, c28 .loop .inv .3)
 
 same-length-12 : tie.Need-same-length-12 Inv-loop μ-loop
 same-length-12 c =
     let c18 = c .before .before .before .before .before .before .before .before .before .before .before .before .before .before .before .before .before .before in
     let c28 = c18 .before .before .before .before .before .before .before .before .before .before in
-    omega (arith, c18 .play-some .kept .1 .1 .1 .1 .1 .1 .1 .1 .1 .1 .0, c28 .loop .inv .4)
+    omega (arith, c18 .play-some .kept .1 .1 .1 .1 .1 .1 .1 .1 .1 .1 .1 .0, c28 .loop .inv .4)
 
 same-length-13 : tie.Need-same-length-13 Inv-loop μ-loop
 same-length-13 c =
     let c18 = c .before .before .before .before .before .before .before .before .before .before .before .before .before .before .before .before .before .before in
     let c28 = c18 .before .before .before .before .before .before .before .before .before .before in
-    omega (arith, c18 .play-some .kept .1 .1 .1 .1 .1 .1 .1 .1 .1 .1 .1 .0, c28 .loop .inv .5)
+    omega (arith, c18 .play-some .kept .1 .1 .1 .1 .1 .1 .1 .1 .1 .1 .1 .1 .0, c28 .loop .inv .5)
 
 same-length-14 : tie.Need-same-length-14 Inv-loop μ-loop
 same-length-14 c =
     let c18 = c .before .before .before .before .before .before .before .before .before .before .before .before .before .before .before .before .before .before in
     let c28 = c18 .before .before .before .before .before .before .before .before .before .before in
-    omega (arith, c18 .play-some .kept .1 .1 .1 .1 .1 .1 .1 .1 .1 .1 .1 .1 .0, c28 .loop .inv .6)
+    omega (arith, c18 .play-some .kept .1 .1 .1 .1 .1 .1 .1 .1 .1 .1 .1 .1 .1 .0, c28 .loop .inv .6)
 
 returns-2 : tie.Need-returns-2 Inv-loop μ-loop
 returns-2 c =
@@ -153,13 +153,13 @@ loop-again c =
     let c19 = c .before .before .before .before .before .before .before .before .before .before .before .before .before .before .before .before .before .before .before in
     let c27 = c19 .before .before .before .before .before .before .before .before in
     let c29 = c27 .before .before in (
-      omega (arith, c19 .play-some .kept .1 .1 .1 .1 .0, c29 .loop .inv .0),
-      omega (arith, c19 .play-some .kept .1 .1 .1 .1 .1 .0, c29 .loop .inv .1),
-      omega (arith, c19 .play-some .kept .1 .1 .1 .1 .1 .1 .0, c29 .loop .inv .2),
-      omega (arith, c19 .play-some .kept .1 .1 .1 .1 .1 .1 .1 .0, c29 .loop .inv .3),
-      omega (arith, c19 .play-some .kept .1 .1 .1 .1 .1 .1 .1 .1 .1 .1 .0, c29 .loop .inv .4),
-      omega (arith, c19 .play-some .kept .1 .1 .1 .1 .1 .1 .1 .1 .1 .1 .1 .0, c29 .loop .inv .5),
-      omega (arith, c19 .play-some .kept .1 .1 .1 .1 .1 .1 .1 .1 .1 .1 .1 .1 .0, c29 .loop .inv .6),
+      omega (arith, c19 .play-some .kept .1 .1 .1 .1 .1 .0, c29 .loop .inv .0),
+      omega (arith, c19 .play-some .kept .1 .1 .1 .1 .1 .1 .0, c29 .loop .inv .1),
+      omega (arith, c19 .play-some .kept .1 .1 .1 .1 .1 .1 .1 .0, c29 .loop .inv .2),
+      omega (arith, c19 .play-some .kept .1 .1 .1 .1 .1 .1 .1 .1 .0, c29 .loop .inv .3),
+      omega (arith, c19 .play-some .kept .1 .1 .1 .1 .1 .1 .1 .1 .1 .1 .1 .0, c29 .loop .inv .4),
+      omega (arith, c19 .play-some .kept .1 .1 .1 .1 .1 .1 .1 .1 .1 .1 .1 .1 .0, c29 .loop .inv .5),
+      omega (arith, c19 .play-some .kept .1 .1 .1 .1 .1 .1 .1 .1 .1 .1 .1 .1 .1 .0, c29 .loop .inv .6),
       input-on (c29 .loop .inv .7) (c19 .play-some .ensures) (c27 .piece-limit .ensures .1) {rest = c29 .loop .left - c19 .play-some .result .taken} (omega (arith, c19 .play-some .ensures .within, c27 .piece-limit .ensures .1)),
     )
 

@@ -1,4 +1,4 @@
--- `register_run::play_some` meets its contract: the bytes are those that were read, and the answers that they make are handed over.
+-- `register_run::play_some` meets its contract: the bytes are those that were read, and the answers that they make are said.
 use mathlib.Core.Path.{refl, sym}
 use native.Mathlib.Omega.{arith}
 use lib.Seq.{length-take-le}
@@ -14,24 +14,24 @@ read-some-requires c κs = search needs
 play-chunk-requires : tie.Need-play-chunk-requires
 play-chunk-requires c κs = search needs
 
-slice-reshare-prefix-print : tie.Need-slice-reshare-prefix-print
-slice-reshare-prefix-print c =
+slice-reshare-prefix-say : tie.Need-slice-reshare-prefix-say
+slice-reshare-prefix-say c =
     let c9 = c .before .before .before .before .before .before .before .before .before in
     let c18 = c9 .before .before .before .before .before .before .before .before .before in
     let c28 = c18 .before .before .before .before .before .before .before .before .before .before in
     let a = c28 .args in
     (omega (arith, c28 .pre .1 .1 .0, c9 .play-chunk .kept .1 .1 .1 .1 .1 .1 .1 .1 .1 .1 .0, answers-fit (a .block .now) (c18 .read-some .last .1 .0) (a .s .number) (a .s .line) (lent (a .s .head) (a .plan .now) (a .keys .now) (a .cells .now) (a .status .now) (a .seats .now) (a .frames .now)) (c18 .read-some .result .count) (a .answers .now) (c9 .play-chunk .ensures) (omega (arith, c18 .read-some .ensures .0, c28 .pre .0)) (omega (arith, c18 .read-some .ensures .0, c28 .pre .0, c28 .pre .1 .0, c18 .read-some .kept .1 .0))))
 
-slice-aggregate-print : tie.Need-slice-aggregate-print
-slice-aggregate-print c =
+slice-aggregate-say : tie.Need-slice-aggregate-say
+slice-aggregate-say c =
     let c10 = c .before .before .before .before .before .before .before .before .before .before in
     let c19 = c10 .before .before .before .before .before .before .before .before .before in
     let c29 = c19 .before .before .before .before .before .before .before .before .before .before in
     let a = c29 .args in
     sym (length-take-le _ _ (omega (arith, c29 .pre .1 .1 .0, c10 .play-chunk .kept .1 .1 .1 .1 .1 .1 .1 .1 .1 .1 .0, answers-fit (a .block .now) (c19 .read-some .last .1 .0) (a .s .number) (a .s .line) (lent (a .s .head) (a .plan .now) (a .keys .now) (a .cells .now) (a .status .now) (a .seats .now) (a .frames .now)) (c19 .read-some .result .count) (a .answers .now) (c10 .play-chunk .ensures) (omega (arith, c19 .read-some .ensures .0, c29 .pre .0)) (omega (arith, c19 .read-some .ensures .0, c29 .pre .0, c29 .pre .1 .0, c19 .read-some .kept .1 .0)))))
 
-print-requires : tie.Need-print-requires
-print-requires c κs = search needs
+say-requires : tie.Need-say-requires
+say-requires c κs = search needs
 
 same-length : tie.Need-same-length
 same-length c = search needs
@@ -61,8 +61,8 @@ returns c =
     let c34 = c24 .before .before .before .before .before .before .before .before .before .before in
     let a = c34 .args in
     piece-played (a .block .now) (c24 .read-some .last .1 .0) (a .s .number) (a .s .line) (lent (a .s .head) (a .plan .now) (a .keys .now) (a .cells .now) (a .status .now) (a .seats .now) (a .frames .now)) (c24 .read-some .result .count) (a .answers .now)
-    (c15 .play-chunk .ensures) (a .x) (a .limit) (a .transcript .now) refl refl (c24 .read-some .ensures .1) (c24 .read-some .ensures .0)
-    (omega (arith, c24 .read-some .ensures .0, c34 .pre .0, c34 .pre .1 .0, c24 .read-some .kept .1 .0)) (omega (arith, c34 .pre .1 .1 .0, c15 .play-chunk .kept .1 .1 .1 .1 .1 .1 .1 .1 .1 .1 .0, answers-fit (a .block .now) (c24 .read-some .last .1 .0) (a .s .number) (a .s .line) (lent (a .s .head) (a .plan .now) (a .keys .now) (a .cells .now) (a .status .now) (a .seats .now) (a .frames .now)) (c24 .read-some .result .count) (a .answers .now) (c15 .play-chunk .ensures) (omega (arith, c24 .read-some .ensures .0, c34 .pre .0)) (omega (arith, c24 .read-some .ensures .0, c34 .pre .0, c34 .pre .1 .0, c24 .read-some .kept .1 .0)))) (c .before .before .before .print .ensures .0) (c .before .before .before .print .ensures .1)
+    (c15 .play-chunk .ensures) (a .output) (a .x) (a .limit) (a .transcript .now) refl refl (c24 .read-some .ensures .1) (c24 .read-some .ensures .0)
+    (omega (arith, c24 .read-some .ensures .0, c34 .pre .0, c34 .pre .1 .0, c24 .read-some .kept .1 .0)) (omega (arith, c34 .pre .1 .1 .0, c15 .play-chunk .kept .1 .1 .1 .1 .1 .1 .1 .1 .1 .1 .0, answers-fit (a .block .now) (c24 .read-some .last .1 .0) (a .s .number) (a .s .line) (lent (a .s .head) (a .plan .now) (a .keys .now) (a .cells .now) (a .status .now) (a .seats .now) (a .frames .now)) (c24 .read-some .result .count) (a .answers .now) (c15 .play-chunk .ensures) (omega (arith, c24 .read-some .ensures .0, c34 .pre .0)) (omega (arith, c24 .read-some .ensures .0, c34 .pre .0, c34 .pre .1 .0, c24 .read-some .kept .1 .0)))) (c .before .before .before .say .ensures .0) (c .before .before .before .say .ensures .1)
 
 pub play-some-spec : {M : Type 1} → statement M
 play-some-spec =
@@ -70,9 +70,9 @@ play-some-spec =
     (tie.spec
     read-some-requires
     play-chunk-requires
-    slice-reshare-prefix-print
-    slice-aggregate-print
-    print-requires
+    slice-reshare-prefix-say
+    slice-aggregate-say
+    say-requires
     same-length
     same-length-2
     same-length-3

@@ -1,4 +1,4 @@
--- `register_run::run` meets its contract: a refused block prints its line, an accepted one is run.
+-- `register_run::run` meets its contract: the line of a refused block is said, an accepted one is run.
 use native.Mathlib.Omega.{arith}
 use Rattle.register_run.proofs.Laws.{runs-accepted, runs-refused}
 use borrow.Author.Needs.{needs}
@@ -29,8 +29,8 @@ open-requires c κs = search needs
 enum-known-verdict : tie.Need-enum-known-verdict
 enum-known-verdict c = search needs
 
-print-refusal-requires : tie.Need-print-refusal-requires
-print-refusal-requires c κs = search needs
+refuse-block-requires : tie.Need-refuse-block-requires
+refuse-block-requires c κs = search needs
 
 enum-told : tie.Need-enum-told
 enum-told c = search needs
@@ -62,7 +62,7 @@ same-length c = search needs
 returns : tie.Need-returns
 returns c =
     let c14 = c .before .before .before .before .before .before .before .before .before .before .before .before .before .before in
-    runs-refused (omega arith) (c14 .«open» .ensures .same) (c .before .before .before .before .before .verdict .given .0 .0) (c .before .before .before .before .before .verdict .given .1) (c .before .before .print-refusal .ensures .0) (c .before .before .print-refusal .ensures .1)
+    runs-refused (omega arith) (c14 .«open» .ensures .same) (c .before .before .before .before .before .verdict .given .0 .0) (c .before .before .before .before .before .verdict .given .1) (c .before .before .refuse-block .ensures .0) (c .before .before .refuse-block .ensures .1)
 
 same-length-2 : tie.Need-same-length-2
 same-length-2 c = search needs
@@ -87,7 +87,7 @@ run-spec =
     slice-aggregate-open-6
     open-requires
     enum-known-verdict
-    print-refusal-requires
+    refuse-block-requires
     enum-told
     slice-aggregate-run-opened
     slice-aggregate-run-opened-2

@@ -1,11 +1,11 @@
--- `register_run::register` meets its contract: the file that was read is run, with the input that counts.
+-- `register_run::run_file` meets its contract: the file that was read is run, with the input that counts.
 use mathlib.Core.Path.{refl, sym}
 use lib.Seq.{length-take-le}
 use Rattle.host.proofs.Laws.{file-fits}
 use Rattle.register_run.proofs.Laws.{registers-of}
 use borrow.Author.Needs.{needs}
-use Rattle.register_run.proofs.register.Statement.{statement}
-use Rattle.register_run.proofs.register.Tie as tie
+use Rattle.register_run.proofs.run_file.Statement.{statement}
+use Rattle.register_run.proofs.run_file.Tie as tie
 
 slice-aggregate-read-block-file : tie.Need-slice-aggregate-read-block-file
 slice-aggregate-read-block-file c = search needs
@@ -30,8 +30,8 @@ returns c =
     let c7 = c .before .before .before .before .before .before .before in
     registers-of _ _ (c7 .read-block-file .ensures) (c7 .read-block-file .kept .0) refl (c .before .before .before .run .ensures)
 
-pub register-spec : {M : Type 1} → statement M
-register-spec =
+pub run-file-spec : {M : Type 1} → statement M
+run-file-spec =
     tie.close
     (tie.spec
     slice-aggregate-read-block-file
