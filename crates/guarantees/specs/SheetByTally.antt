@@ -38,7 +38,8 @@ pub record SheetByTally : Type 0 where
   pub accepted : (file input : List ℕ) → AreBytes file → openingOf fixedSizes file maxWorkers .answer ≡ verdict.Accepted
       → writtenSheet file input ≡ sheetByTally file (linesOf input)
   -- Of a refused block nothing is written.
-  pub refused : (file input : List ℕ) (why : Refusal) → openingOf fixedSizes file maxWorkers .answer ≡ verdict.Refused why → writtenSheet file input ≡ []
+  pub refused : (file input : List ℕ) (why : Refusal) → openingOf fixedSizes file maxWorkers .answer ≡ verdict.Refused why
+      → writtenSheet file input ≡ []
   -- From what is written the next day opens, with the state that the published rule leaves.
   pub opens : (file input : List ℕ) → AreBytes file → openingOf fixedSizes file maxWorkers .answer ≡ verdict.Accepted
       → (writtenSheet file input ≡ [] → ⊥) → OpensFrom (writtenSheet file input) (closingState file)

@@ -3,7 +3,13 @@
 // and writes.
 
 fn main() {
-    if host::explains(os::arg_count(), b"usage: inspect\nReads block.bin of the current folder, and no standard input.\nPrints its counts, and for each call the earlier calls that it waits for.\nThe manual is docs/MANUAL.md.\n") {
+    let usage: &[u8] = b"\
+usage: inspect
+Reads block.bin of the current folder, and no standard input.
+Prints its counts, and for each call the earlier calls that it waits for.
+The manual is docs/MANUAL.md.
+";
+    if host::explains(os::arg_count(), usage) {
         return;
     }
     let mut transcript = [0u8; 0];

@@ -1,59 +1,45 @@
 -- The input in pieces, with what is handed over of it, and the whole of a run, over plain variables and for both outputs.
-use mathlib.Core.Path.{_≡_, refl, sym, ap, subst, subst⁻¹, _∙_}
-use mathlib.Core.Bool.{Bool, true, false, _||_, not, true≢false, false≢true}
+use mathlib.Core.Path.{_≡_, refl, sym, ap, subst, _∙_}
+use mathlib.Core.Bool.{Bool, true, false, true≢false, false≢true}
 use mathlib.Core.List.{List, [], _∷_, _++_, append-nil}
 use Prim.Native.Nat.{ℕ, zero, suc, _+_, _*_, _≤_, _<_}
 use native.Mathlib.Nat.{add-zero, zero-add}
 use native.Mathlib.Omega.{arith}
-use lib.Dec.{ltb}
 use lib.ListN.{length, take, length-append}
 use lib.Seq.{length-take-le, take-all}
-use borrow.Author.Tests.{ltb-false}
-use Rattle.text.proofs.TextSizes.{line-fits}
-use Rattle.arith.proofs.ChoiceLaws.{if-all}
-use Rattle.wire.specs.Bytes.{stored, repeated}
+use Rattle.wire.specs.Bytes.{stored}
 use Rattle.block.specs.Assemble.{joinedParts}
-use Rattle.block.specs.Limits.{maxBytes, maxCalls, maxKeys, maxWorkers}
+use Rattle.block.specs.Limits.{maxBytes, maxWorkers}
 use Rattle.block.specs.Refusal.{numberOf, offsetOf, isAccepted}
 use Rattle.block.specs.declared.Refusal.{Refusal}
 use Rattle.block.specs.declared.Verdict.{Verdict}
 use Rattle.block.specs.declared.Verdict.the-variants as verdict
-use Rattle.text.specs.Lines.{refusedText, blockRefusedText}
-use Rattle.text.specs.Written.{Written}
-use Rattle.wire.specs.Decimal.{decimal, textLine, parts}
-use Rattle.machine.specs.Run.{Run, sizesOf, largeEnough, fixedSizes}
+use Rattle.text.specs.Lines.{blockRefusedText}
+use Rattle.machine.specs.Run.{Run, fixedSizes}
 use Rattle.machine.specs.Opening.{Opened, openingOf}
-use Rattle.machine.specs.Answer.{answerNumber}
-use Rattle.machine.specs.declared.Answer.{Answer}
-use Rattle.sheet.specs.Sheet.{Closed, sheetBytes, statesAllowed, allFinished, balancesAllowed, receiptsAllowed, writtenIf, sheetOf}
-use Rattle.sheet.specs.declared.Closing.{Closing}
-use Rattle.sheet.specs.declared.Closing.the-variants as closing
-use Rattle.console.specs.Register.{Session, playBytes, playEnd, closingText, closeRun, maxSheet, maxInput, playInput, registerOpened, registerOf}
-use Rattle.console.specs.SheetBytes.{closingBytes, closeBytes, sheetOpened, writtenSheet}
+use Rattle.console.specs.Register.{Session, playBytes, playEnd, maxInput, playInput, registerOpened, registerOf}
+use Rattle.console.specs.SheetBytes.{closeBytes, sheetOpened, writtenSheet}
 use Rattle.console.specs.declared.Line.{Line}
 use Rattle.console.specs.declared.Line.the-variants.{Empty}
 use Rattle.play.specs.Shown.{Shown, freshSession, shown, shownFrom}
-use Rattle.console.specs.Text.{sheetText}
 use Rattle.play.specs.AnswerLength.{maxAnswer}
-use Rattle.play.specs.Printed.{maxCloseText}
 use Rattle.play.proofs.PlayLaws.{withTextBefore, bytes-behind, chunks}
 use Rattle.play.proofs.PiecesLaws.{end-said, register-in-pieces}
 use Rattle.play.proofs.TextLaws.{bytes-grow, end-grows}
-use Rattle.play.proofs.CloseLaws.{close-short}
 use Rattle.play.specs.declared.Session as play
 use Rattle.play.specs.Pieces.{piecesText}
 use Rattle.host.specs.Exchange.{Handed, FileIn}
 use Rattle.host.proofs.Laws.{file-whole, front, handed-as, handed-empty, handed-more}
 use Rattle.host.specs.declared.Exchange.{Exchange}
 use Rattle.host.specs.declared.FileRead.{FileRead}
-use Rattle.register_run.specs.Runs.{chunkSize, printedLines, printedSheet, printedClose, printedOf, InputRead, PlaysBytes, PiecePlayed, InputPlayed, exchangeStart, printedEnd, printedOpened, RunsOn, Runs, Registers}
+use Rattle.register_run.specs.Runs.{chunkSize, printedLines, printedClose, printedOf, InputRead, PlaysBytes, PiecePlayed, InputPlayed, exchangeStart, printedEnd, printedOpened, RunsOn, Runs, Registers}
 use Rattle.register_run.specs.declared.Output.{Output}
 use Rattle.register_run.specs.declared.Output.the-variants.{Text, Sheet}
 use Rattle.register_run.specs.declared.Piece.{Piece}
 use Rattle.register_run.specs.declared.Input.{Input}
 use Rattle.register_run.specs.declared.Ran.{Ran}
 
--- ---- lines that are printed, or told
+-- ---- what is printed of lines, one behind another
 
 lines-none : (output : Output) → printedLines output [] ≡ []
 unfolding printedLines
@@ -64,25 +50,6 @@ lines-more : (output : Output) (text more : List ℕ) → printedLines output (t
 unfolding printedLines
 lines-more Text text more = refl
 lines-more Sheet text more = refl
-
-pub lines-told : {output : Output} {x y : Exchange} (before text : List ℕ) → output ≡ Sheet → y ≡ x → Handed before x (printedLines output text) before y
-unfolding printedLines
-lines-told {output} {x} before text e same =
-    subst⁻¹ (λ (z : Exchange). Handed before x (printedLines output text) before z) same
-    (handed-as (ap (λ (o : Output). printedLines o text) (sym e)) (handed-empty before x))
-
-module _ {output : Output} {before after : List ℕ} {x y : Exchange} (text : List ℕ) where
-  pub lines-printed : output ≡ Text → Handed before x text after y → Handed before x (printedLines output text) after y
-  unfolding printedLines
-  lines-printed e h = handed-as (ap (λ (o : Output). printedLines o text) (sym e)) h
-
-  pub sheet-lines : output ≡ Text → Handed before x (sheetText text) after y → Handed before x (printedSheet output text) after y
-  unfolding printedSheet
-  sheet-lines e h = handed-as (ap (λ (o : Output). printedSheet o text) (sym e)) h
-
-  pub sheet-bytes : output ≡ Sheet → Handed before x text after y → Handed before x (printedSheet output text) after y
-  unfolding printedSheet
-  sheet-bytes e h = handed-as (ap (λ (o : Output). printedSheet o text) (sym e)) h
 
 -- ---- a read hands nothing over, and what is handed over behind it
 
@@ -255,84 +222,7 @@ module _ {output : Output} {block : List ℕ} {start : Session} {x : Exchange} {
         plays = g .plays;
       }
 
--- ---- the close
-
-abbrev Fits : ℕ → Closing → Type 0
-Fits n (closing.Written k) = k ≤ n
-Fits n (closing.Refused a) = Unit {0}
-
--- A written sheet is no longer than the output.
-abbrev Fitting : List ℕ → Closed → Type 0
-Fitting out c = Fits (length out) (c .answer)
-
-sheet-fits : (r : Run) (out : List ℕ) → Fitting out (sheetOf r out)
-unfolding sheetOf writtenIf
-sheet-fits r out =
-    if-all (Fitting out) (not (largeEnough (sizesOf r)) || ltb maxCalls (r .head .calls)) (λ e. tt) (λ e.
-    if-all (Fitting out) (not (statesAllowed (r .status) (r .head .calls))) (λ e. tt) (λ e.
-    if-all (Fitting out) (not (allFinished (r .status) (r .head .calls))) (λ e. tt) (λ e.
-    if-all (Fitting out) (ltb maxKeys (r .head .cells)) (λ e. tt) (λ e.
-    if-all (Fitting out) (not (balancesAllowed (r .keys) (r .cells) (r .head .cells))) (λ e. tt) (λ e.
-    if-all (Fitting out) (ltb (length out) (length (sheetBytes r))) (λ e. tt) (λ e.
-    if-all (Fitting out) (receiptsAllowed (r .status) (r .head .calls)) (λ f. ltb-false _ _ e) (λ f. tt)))))))
-
-module _ (r : Run) (bytes out : List ℕ) where
-  abbrev Made : Closing → Type 0
-  Made answer = _≡_ {A = Closed} (record { answer = answer; output = bytes }) (sheetOf r out)
-
-  pub written-fits : {answer : Closing} → Made answer → (n : ℕ) → answer ≡ closing.Written n → n ≤ length out
-  written-fits is n e = subst (Fits (length out)) (sym (ap (λ (c : Closed). c .answer) is) ∙ e) (sheet-fits r out)
-
-  module _ {answer : Closing} (is : Made answer) (room : out ≡ repeated maxSheet 0) where
-    abbrev made : Closed
-    made = record { answer = answer; output = bytes }
-
-    close-is : (f : Closed → Closing → List ℕ) → f made answer ≡ f (sheetOf r (repeated maxSheet 0)) (sheetOf r (repeated maxSheet 0) .answer)
-    close-is f = ap (λ (c : Closed). f c (c .answer)) is ∙ ap (λ (o : List ℕ). f (sheetOf r o) (sheetOf r o .answer)) room
-
-    written-is : (output : Output) (n : ℕ) → answer ≡ closing.Written n → printedSheet output (take n bytes) ≡ printedClose output r
-    unfolding printedSheet printedClose closingText closingBytes
-    written-is Text n e = ap (closingText made) (sym e) ∙ close-is closingText
-    written-is Sheet n e = ap (closingBytes made) (sym e) ∙ close-is closingBytes
-
-    refused-is : (output : Output) (a : Answer) → answer ≡ closing.Refused a → printedLines output (refusedText 0 (answerNumber a)) ≡ printedClose output r
-    unfolding printedLines printedClose closingText closingBytes
-    refused-is Text a e = ap (closingText made) (sym e) ∙ close-is closingText
-    refused-is Sheet a e = ap (closingBytes made) (sym e) ∙ close-is closingBytes
-
-    -- The sheet's lines fit their buffer.
-    pub lines-short : (n : ℕ) → answer ≡ closing.Written n → length (sheetText (take n bytes)) ≤ maxCloseText
-    unfolding printedSheet printedClose
-    lines-short n e = subst⁻¹ (λ (t : List ℕ). length t ≤ maxCloseText) (written-is Text n e) (close-short r)
-
-    module _ (output : Output) {before after : List ℕ} {x y : Exchange} where
-      pub closed-written : (n : ℕ) → answer ≡ closing.Written n → Handed before x (printedSheet output (take n bytes)) after y
-          → Handed before x (printedClose output r) after y
-      closed-written n e h = handed-as (written-is output n e) h
-
-      pub closed-refused : (a : Answer) → answer ≡ closing.Refused a → Handed before x (printedLines output (refusedText 0 (answerNumber a))) after y
-          → Handed before x (printedClose output r) after y
-      closed-refused a e h = handed-as (refused-is output a e) h
-
--- The lines of a whole sheet fit their buffer, and stand at its front.
-module _ (bytes : List ℕ) {before after : List ℕ} {n : ℕ} (w : Written before after 0 n (sheetText (take (length bytes) bytes))) where
-  whole-lines : sheetText (take (length bytes) bytes) ≡ sheetText bytes
-  whole-lines = ap sheetText (take-all (length bytes) bytes (omega arith))
-
-  pub lines-fit : length (sheetText bytes) ≤ maxCloseText → n ≤ maxCloseText
-  lines-fit short = omega (arith, w .end, ap length whole-lines)
-
-  pub lines-front : n ≤ length before → take n after ≡ sheetText bytes
-  lines-front l = front w l ∙ whole-lines
-
--- A line of a letter and two numbers fits its buffer, and stands at its front.
-module _ (letter a b : ℕ) {before after : List ℕ} {n : ℕ} (w : Written before after 0 n (textLine letter (decimal a ∷ decimal b ∷ []))) where
-  pub line-short : n ≤ maxAnswer
-  line-short =
-      let e : length (textLine letter (decimal a ∷ decimal b ∷ [])) ≤ maxAnswer = line-fits letter (a ∷ b ∷ []) in omega (arith, w .end)
-
-  pub line-front : n ≤ length before → {c d : ℕ} → a ≡ c → b ≡ d → take n after ≡ textLine letter (decimal c ∷ decimal d ∷ [])
-  line-front l e f = front w l ∙ (λ i. textLine letter (decimal (e i) ∷ decimal (f i) ∷ []))
+-- ---- the input's end
 
 -- The last line and the close, one behind the other.
 module _ (block : List ℕ) (number : ℕ) (line : Line) (run : Run) (out : List ℕ) {next : ℕ} {on : Line} {left : Run} {answers : List ℕ} {end : ℕ}

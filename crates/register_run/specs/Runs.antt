@@ -58,8 +58,8 @@ pub record InputRead (x : Exchange) (n : ℕ) (y : Exchange) : Type 0 where
   pub still : y .ok ≡ true → x .ok ≡ true
 
 -- The session and the run are those of the definition behind some bytes, and what is printed of its text is handed over.
-pub record PlaysBytes (output : Output) (block : List ℕ) (s : Session) (x : Exchange) (before : List ℕ) (bytes : List ℕ) (t : play.Session) (run : Run) (y : Exchange)
-    (after : List ℕ) : Type 0 where
+pub record PlaysBytes (output : Output) (block : List ℕ) (s : Session) (x : Exchange) (before : List ℕ) (bytes : List ℕ) (t : play.Session)
+    (run : Run) (y : Exchange) (after : List ℕ) : Type 0 where
   pub number : t .number ≡ playBytes block s bytes .number
   pub line : t .line ≡ playBytes block s bytes .line
   pub left : run ≡ playBytes block s bytes .run
@@ -67,14 +67,16 @@ pub record PlaysBytes (output : Output) (block : List ℕ) (s : Session) (x : Ex
   pub received : y .received ≡ x .received + length bytes
 
 -- A piece of the input, of at most `limit` bytes: of some bytes, as many as came.
-pub record PiecePlayed (output : Output) (block : List ℕ) (s : Session) (x : Exchange) (limit : ℕ) (before : List ℕ) (p : Piece) (run : Run) (after : List ℕ) : Type 0 where
+pub record PiecePlayed (output : Output) (block : List ℕ) (s : Session) (x : Exchange) (limit : ℕ) (before : List ℕ) (p : Piece) (run : Run)
+    (after : List ℕ) : Type 0 where
   pub bytes : List ℕ
   pub size : length bytes ≡ p .taken
   pub within : p .taken ≤ limit
   pub plays : PlaysBytes output block s x before bytes (p .session) run (p .exchange) after
 
 -- The input to its end: at most `limit` bytes, and fewer only where a read answered none or something failed.
-pub record InputPlayed (output : Output) (block : List ℕ) (s : Session) (x : Exchange) (limit : ℕ) (before : List ℕ) (i : Input) (run : Run) (after : List ℕ) : Type 0 where
+pub record InputPlayed (output : Output) (block : List ℕ) (s : Session) (x : Exchange) (limit : ℕ) (before : List ℕ) (i : Input) (run : Run)
+    (after : List ℕ) : Type 0 where
   pub bytes : List ℕ
   pub within : length bytes ≤ limit
   pub whole : i .exchange .ok ≡ true → i .ended ≡ false → length bytes ≡ limit
@@ -100,7 +102,8 @@ printedOpened output block run bytes =
 
 -- An opened run with at most `limit` bytes of input: for some input, as many bytes as came, all that is printed of it is handed over. The input is
 -- read to its end or its limit, unless something failed.
-pub record RunsOn (output : Output) (block : List ℕ) (run : Run) (x : Exchange) (limit : ℕ) (before : List ℕ) (r : Ran) (after : List ℕ) : Type 0 where
+pub record RunsOn (output : Output) (block : List ℕ) (run : Run) (x : Exchange) (limit : ℕ) (before : List ℕ) (r : Ran)
+    (after : List ℕ) : Type 0 where
   pub opened : r .opened ≡ true
   pub input : List ℕ
   pub within : length input ≤ limit
@@ -119,7 +122,8 @@ pub record Runs (output : Output) (block : List ℕ) (x : Exchange) (limit : ℕ
   pub text : Handed before (exchangeStart x) (printedOf output block input) after (r .exchange)
 
 -- REGISTER as a whole, and the program that writes the sheet's bytes: for some bytes of the file and of the input, what is handed over, one text
--- after another, is all that the definition prints. The file is read to its end, or more of it than a block may have; the input to its end, or as much of it as counts.
+-- after another, is all that the definition prints. The file is read to its end, or more of it than a block may have; the input to its end, or
+-- as much of it as counts.
 -- It rests on this of C. `read` puts the bytes of the file, and those of standard input, one after another into the buffer that it is handed, as
 -- many as it answers; it answers 0 at their end alone, and below 0 where it fails. `write` writes the bytes that it is handed, as many as it
 -- answers. `open` fails with ENOENT where the file is missing alone. Then `file` and `input` are the bytes that were read, and standard output has what

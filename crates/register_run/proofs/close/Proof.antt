@@ -4,7 +4,7 @@ use native.Mathlib.Omega.{arith}
 use lib.Seq.{length-take-le}
 use Rattle.wire.specs.Bytes.{repeated}
 use Rattle.moves.specs.Lent.{lent}
-use Rattle.register_run.proofs.Laws.{written-fits, lines-short, closed-written, closed-refused}
+use Rattle.register_run.proofs.CloseLaws.{written-fits, lines-short, closed-written, closed-refused}
 use borrow.Author.Needs.{needs}
 use Rattle.register_run.proofs.close.Statement.{statement}
 use Rattle.register_run.proofs.close.Tie as tie
@@ -36,9 +36,10 @@ print-sheet-requires c κs =
     let c3 = c .before .before .before in
     let c6 = c .before .before .before .before .before .before in
     let a = c6 .before .before .before .before .before .before .before .args in
-    let fits = written-fits (lent (a .head) (a .plan .now) (a .keys .now) (a .cells .now) (a .status .now) (a .seats .now) (a .frames .now)) (c6 .sheet .last .1 .1 .1 .1 .1 .1 .1 .0) _ (c6 .sheet .ensures .same) (c3 .n .given .0 .0) (c3 .n .given .1) in
-    (omega (arith, fits, length-take-le (c3 .n .given .0 .0) (c6 .sheet .last .1 .1 .1 .1 .1 .1 .1 .0) (omega (arith, fits))),
-    lines-short (lent (a .head) (a .plan .now) (a .keys .now) (a .cells .now) (a .status .now) (a .seats .now) (a .frames .now)) (c6 .sheet .last .1 .1 .1 .1 .1 .1 .1 .0) _ (c6 .sheet .ensures .same) refl (c3 .n .given .0 .0) (c3 .n .given .1))
+    let fits = written-fits (lent (a .head) (a .plan .now) (a .keys .now) (a .cells .now) (a .status .now) (a .seats .now) (a .frames .now)) (c6 .sheet .last .1 .1 .1 .1 .1 .1 .1 .0) _ (c6 .sheet .ensures .same) (c3 .n .given .0 .0) (c3 .n .given .1) in (
+      omega (arith, fits, length-take-le (c3 .n .given .0 .0) (c6 .sheet .last .1 .1 .1 .1 .1 .1 .1 .0) (omega (arith, fits))),
+      lines-short (lent (a .head) (a .plan .now) (a .keys .now) (a .cells .now) (a .status .now) (a .seats .now) (a .frames .now)) (c6 .sheet .last .1 .1 .1 .1 .1 .1 .1 .0) _ (c6 .sheet .ensures .same) refl (c3 .n .given .0 .0) (c3 .n .given .1),
+    )
 
 enum-known-answer : tie.Need-enum-known-answer
 enum-known-answer c = search needs

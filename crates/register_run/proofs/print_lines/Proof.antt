@@ -3,7 +3,7 @@ use mathlib.Core.Path.{sym}
 use native.Mathlib.Omega.{arith}
 use lib.Seq.{length-take-le}
 use Rattle.host.proofs.Laws.{handed-as}
-use Rattle.register_run.proofs.Laws.{lines-fit, lines-front}
+use Rattle.register_run.proofs.CloseLaws.{lines-fit, lines-front}
 use borrow.Author.Needs.{needs}
 use Rattle.register_run.proofs.print_lines.Statement.{statement}
 use Rattle.register_run.proofs.print_lines.Tie as tie

@@ -1,5 +1,5 @@
 -- `register_run::print_sheet` meets its contract: it goes by the output.
-use Rattle.register_run.proofs.Laws.{sheet-lines, sheet-bytes}
+use Rattle.register_run.proofs.CloseLaws.{sheet-lines, sheet-bytes}
 use borrow.Author.Needs.{needs}
 use Rattle.register_run.proofs.print_sheet.Statement.{statement}
 use Rattle.register_run.proofs.print_sheet.Tie as tie

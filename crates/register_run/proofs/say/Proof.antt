@@ -1,7 +1,7 @@
 -- `register_run::say` meets its contract: the text is printed, or it is told and nothing is handed over.
 use mathlib.Core.Path.{ap}
 use Rattle.host.specs.declared.Exchange.{Exchange}
-use Rattle.register_run.proofs.Laws.{lines-printed, lines-told}
+use Rattle.register_run.proofs.CloseLaws.{lines-printed, lines-told}
 use borrow.Author.Needs.{needs}
 use Rattle.register_run.proofs.say.Statement.{statement}
 use Rattle.register_run.proofs.say.Tie as tie
