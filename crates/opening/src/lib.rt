@@ -32,7 +32,7 @@ fn idle_head(workers: usize, calls: usize, cells: usize, start: usize) -> Head
 }
 
 // What is answered of a refused block.
-fn refused(why: Refusal) -> Opened
+pub fn refused(why: Refusal) -> Opened
     ensures { λ r. ⌜ r ≡ openedNone why ⌝ }
 {
     Opened {
@@ -72,7 +72,7 @@ fn tested(large: bool, workers: usize) -> Verdict
 }
 
 // The status of the calls, the seats and the frames become zero.
-fn clear_states(status: &mut [u64], seats: &mut [u64], frames: &mut [i64])
+pub fn clear_states(status: &mut [u64], seats: &mut [u64], frames: &mut [i64])
     ensures { λ r. ⌜ now (status .exit) ≡ repeated (length (now (status .entry))) 0 ⌝ }
     ensures { λ r. ⌜ now (seats .exit) ≡ repeated (length (now (seats .entry))) 0 ⌝ }
     ensures { λ r. ⌜ now (frames .exit) ≡ repeated (length (now (frames .entry))) (pos 0) ⌝ }
@@ -83,7 +83,7 @@ fn clear_states(status: &mut [u64], seats: &mut [u64], frames: &mut [i64])
 }
 
 // The plan, the keys and the cells of a block that is not read become zero.
-fn clear_prepared(plan: &mut [u64], keys: &mut [u64], cells: &mut [i64])
+pub fn clear_prepared(plan: &mut [u64], keys: &mut [u64], cells: &mut [i64])
     ensures { λ r. ⌜ now (plan .exit) ≡ repeated (length (now (plan .entry))) 0 ⌝ }
     ensures { λ r. ⌜ now (keys .exit) ≡ repeated (length (now (keys .entry))) 0 ⌝ }
     ensures { λ r. ⌜ now (cells .exit) ≡ repeated (length (now (cells .entry))) (pos 0) ⌝ }

@@ -4,14 +4,9 @@
 // transcript that the caller lends, as far as it fits; its length changes nothing else.
 use block::Refusal;
 use block::Verdict;
-use block::limits::MAX_CALLS;
-use block::limits::MAX_KEYS;
 use block::limits::MAX_WORKERS;
 use block::numbers::number_of;
 use block::numbers::offset_of;
-use block::record::CELL_BYTES;
-use block::record::HEAD_BYTES;
-use block::record::RECEIPT_BYTES;
 use closing::sheet;
 use console::Line;
 use host::Exchange;
@@ -33,6 +28,7 @@ use play::input::play_end;
 use play::records::MAX_CLOSE_TEXT;
 use play::records::sheet_text;
 use sheet::Closing;
+use sheet::MAX_SHEET;
 ghost use mathlib.Core.Path.{_≡_};
 ghost use Prim.Native.Nat.{_*_, _≤_, _<_};
 ghost use lib.ListN.{length};
@@ -53,11 +49,6 @@ ghost use Rattle.register_run.specs.Runs.{chunkSize, printedLines, print
 const CHUNK: usize = 512;
 
 const ANSWERS: usize = MAX_ANSWER * CHUNK;
-
-// The longest sheet: its cells, its receipts and its end.
-const MAX_SHEET: usize = MAX_KEYS * (HEAD_BYTES + CELL_BYTES)
-    + MAX_CALLS * (HEAD_BYTES + RECEIPT_BYTES)
-    + HEAD_BYTES;
 
 // "Standard input counts as ended after 2^32 - 1 bytes."
 const MAX_INPUT: u32 = 4294967295;

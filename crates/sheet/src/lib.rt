@@ -1,5 +1,15 @@
 // The closing sheet of a run.
+use block::limits::MAX_CALLS;
+use block::limits::MAX_KEYS;
+use block::record::CELL_BYTES;
+use block::record::HEAD_BYTES;
+use block::record::RECEIPT_BYTES;
 use machine::Answer;
+
+// The longest sheet: its cells, its receipts and its end.
+pub const MAX_SHEET: usize = MAX_KEYS * (HEAD_BYTES + CELL_BYTES)
+    + MAX_CALLS * (HEAD_BYTES + RECEIPT_BYTES)
+    + HEAD_BYTES;
 
 // What the closing sheet answers: its length, or why it is refused.
 pub enum Closing {

@@ -1,0 +1,2 @@
+mod HeadLaws
+mod ExportLaws

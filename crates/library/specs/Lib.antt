@@ -1,0 +1,5 @@
+-- To read: Words is a lent run whose head is words too; Exports is what each exported function answers and leaves. Examples are computed.
+pub mod Words
+pub mod Exports
+pub mod Computing
+pub mod Examples
