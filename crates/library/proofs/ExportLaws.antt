@@ -1,5 +1,5 @@
 -- What the exported functions answer and leave, over plain values: a head that is too short, and one that is long enough.
-use mathlib.Core.Path.{_≡_, refl, sym, ap, _∙_}
+use mathlib.Core.Path.{_≡_, sym, ap, _∙_}
 use mathlib.Core.Bool.{true, false}
 use mathlib.Core.List.{List, [], _∷_}
 use Prim.Native.Nat.{ℕ, _<_, _≤_}
@@ -17,14 +17,14 @@ use Rattle.machine.specs.Serial.{serialRun}
 use Rattle.machine.specs.declared.Head.{Head}
 use Rattle.machine.specs.declared.Answer.the-variants.{Accepted, Damaged}
 use Rattle.moves.specs.Lent.{lent, moved}
-use Rattle.opening.specs.Opened.{sizesFor, openingWith, openedNone, OpenedAs}
+use Rattle.opening.specs.Opened.{sizesFor, openedNone, OpenedAs}
 use Rattle.opening.specs.declared.Opened.{Opened}
 use Rattle.opening.proofs.Laws.{opened-as}
-use Rattle.sheet.specs.Sheet.{Closed, closingNumber, closingLength, sheetOf}
+use Rattle.sheet.specs.Sheet.{closingNumber, closingLength, sheetOf}
 use Rattle.sheet.specs.declared.Closing.{Closing}
 use Rattle.closing.specs.Answered.{ClosedAs}
-use Rattle.library.specs.Words.{Words, words, headWords, headIn, runIn, heldStored, wordsAfter}
-use Rattle.library.specs.Exports.{OpenedWords, openingFor, openedWords, openWords, MovedWords, moveFor, movedWords, moveWords, serialMove, ClosedWords, sheetFor, closedWords, sheetWords}
+use Rattle.library.specs.Words.{Words, words, headWords, headIn, runIn, heldStored}
+use Rattle.library.specs.Exports.{openingFor, openedWords, openWords, MovedWords, moveFor, movedWords, moveWords, serialMove, sheetFor, closedWords, sheetWords}
 use Rattle.library.proofs.HeadLaws.{unmoved}
 
 -- ---- openings
@@ -64,7 +64,7 @@ module _ (move : Run → Moved) (l : Words) (worker : ℕ) where
   unfolding moveFor
   move-short short = rw (lt-ltb (length (l .head)) headWords short)
 
-  move-long : headWords ≤ length (l .head) → move (runIn l) ≡ moveFor move l
+  pub move-long : headWords ≤ length (l .head) → move (runIn l) ≡ moveFor move l
   unfolding moveFor
   move-long long = rw (le-ltb (length (l .head)) headWords long)
 

@@ -7,9 +7,9 @@ use Rattle.wire.specs.Bytes.{repeated, below}
 use Rattle.block.specs.Assemble.{text, joinedParts}
 use Rattle.block.specs.Worked.{P}
 use Rattle.machine.specs.Run.{fixedSizes}
-use Rattle.machine.specs.Moves.{Moved, beginOf, stepOf, cancelOf}
+use Rattle.machine.specs.Moves.{beginOf, stepOf, cancelOf}
 use Rattle.library.specs.Words.{Words, words}
-use Rattle.library.specs.Exports.{OpenedWords, openWords, MovedWords, moveWords, serialMove, ClosedWords, sheetWords, sizeOf}
+use Rattle.library.specs.Exports.{OpenedWords, openWords, MovedWords, moveWords, serialMove, sheetWords, sizeOf}
 use Rattle.library.specs.Computing.{computing}
 
 -- The moves on words.

@@ -35,7 +35,11 @@ same-length-4 : tie.Need-same-length-4
 same-length-4 c = search needs
 
 returns-2 : tie.Need-returns-2
-returns-2 c = move-made _ _ _ (c .before .before .before .before .before .before .before .before .before .before .before .before .before .before .before .before .before .if1 .left) (c .before .before .before .before .before .before .before .before .before .before .before .before .before .before .before .head-in .ensures) (c .before .before .before .before .before .before .before .before .before .before .before .begin-lending .ensures) (c .before .before .before .store-held .ensures) (c .answer-number2 .ensures)
+returns-2 c =
+    let c11 = c .before .before .before .before .before .before .before .before .before .before .before in
+    let c15 = c11 .before .before .before .before in
+    let c17 = c15 .before .before in
+    move-made _ _ _ (c17 .if1 .left) (c15 .head-in .ensures) (c11 .begin-lending .ensures) (c .before .before .before .store-held .ensures) (c .answer-number2 .ensures)
 
 pub zumbiqa-begin-spec : {M : Type 1} → statement M
 zumbiqa-begin-spec =

@@ -32,7 +32,11 @@ same-length-3 : tie.Need-same-length-3
 same-length-3 c = search needs
 
 returns-2 : tie.Need-returns-2
-returns-2 c = move-made _ _ _ (c .before .before .before .before .before .before .before .before .before .before .before .before .before .before .if1 .left) (c .before .before .before .before .before .before .before .before .before .before .before .before .head-in .ensures) (c .before .before .before .before .before .before .before .before .before .cancel-lending .ensures) (c .before .before .before .store-held .ensures) (c .answer-number2 .ensures)
+returns-2 c =
+    let c9 = c .before .before .before .before .before .before .before .before .before in
+    let c12 = c9 .before .before .before in
+    let c14 = c12 .before .before in
+    move-made _ _ _ (c14 .if1 .left) (c12 .head-in .ensures) (c9 .cancel-lending .ensures) (c .before .before .before .store-held .ensures) (c .answer-number2 .ensures)
 
 pub zumbiqa-cancel-spec : {M : Type 1} → statement M
 zumbiqa-cancel-spec =

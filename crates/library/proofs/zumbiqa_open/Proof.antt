@@ -38,7 +38,9 @@ same-length-7 : tie.Need-same-length-7
 same-length-7 c = search needs
 
 returns : tie.Need-returns
-returns c = open-told _ _ _ _ (c .before .before .before .before .before .before .before .before .before .before .before .before .before .before .before .before .before .open-for .ensures) (c .verdict-number .ensures) (c .before .verdict-offset .ensures) (c .before .before .before .before .store-opened .ensures)
+returns c =
+    let c17 = c .before .before .before .before .before .before .before .before .before .before .before .before .before .before .before .before .before in
+    open-told _ _ _ _ (c17 .open-for .ensures) (c .verdict-number .ensures) (c .before .verdict-offset .ensures) (c .before .before .before .before .store-opened .ensures)
 
 pub zumbiqa-open-spec : {M : Type 1} → statement M
 zumbiqa-open-spec =

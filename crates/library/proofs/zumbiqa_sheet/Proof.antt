@@ -26,7 +26,10 @@ same-length : tie.Need-same-length
 same-length c = search needs
 
 returns-2 : tie.Need-returns-2
-returns-2 c = sheet-made _ _ (c .before .before .before .before .before .before .before .if1 .left) (c .before .before .before .before .before .before .head-in .ensures) (c .before .before .before .before .sheet .ensures) (c .closing-number .ensures) (c .before .closing-length .ensures)
+returns-2 c =
+    let c6 = c .before .before .before .before .before .before in
+    let c7 = c6 .before in
+    sheet-made _ _ (c7 .if1 .left) (c6 .head-in .ensures) (c .before .before .before .before .sheet .ensures) (c .closing-number .ensures) (c .before .closing-length .ensures)
 
 pub zumbiqa-sheet-spec : {M : Type 1} → statement M
 zumbiqa-sheet-spec =

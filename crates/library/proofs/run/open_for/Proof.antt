@@ -32,7 +32,11 @@ same-length-6 : tie.Need-same-length-6
 same-length-6 c = search needs
 
 returns : tie.Need-returns
-returns c = open-cleared _ _ _ _ _ _ _ _ _ (c .before .before .before .before .before .before .before .before .before .before .before .before .before .before .before .before .before .before .before .if1 .taken) (c .refused .ensures) (c .before .before .before .before .before .before .before .before .before .before .before .before .before .before .before .clear-prepared .ensures .0) (c .before .before .before .before .before .before .before .before .before .before .before .before .before .before .before .clear-prepared .ensures .1 .0) (c .before .before .before .before .before .before .before .before .before .before .before .before .before .before .before .clear-prepared .ensures .1 .1) (c .before .before .before .before .before .before .clear-states .ensures .0) (c .before .before .before .before .before .before .clear-states .ensures .1 .0) (c .before .before .before .before .before .before .clear-states .ensures .1 .1)
+returns c =
+    let c6 = c .before .before .before .before .before .before in
+    let c15 = c6 .before .before .before .before .before .before .before .before .before in
+    let c19 = c15 .before .before .before .before in
+    open-cleared _ _ _ _ _ _ _ _ _ (c19 .if1 .taken) (c .refused .ensures) (c15 .clear-prepared .ensures .0) (c15 .clear-prepared .ensures .1 .0) (c15 .clear-prepared .ensures .1 .1) (c6 .clear-states .ensures .0) (c6 .clear-states .ensures .1 .0) (c6 .clear-states .ensures .1 .1)
 
 open-requires : tie.Need-open-requires
 open-requires c κs = search needs
@@ -56,7 +60,10 @@ same-length-12 : tie.Need-same-length-12
 same-length-12 c = search needs
 
 returns-2 : tie.Need-returns-2
-returns-2 c = rw (← open-long _ _ _ _ (c .before .before .before .before .before .before .before .before .before .before .before .before .before .before .before .before .before .if1 .left)) (c .before .before .before .before .before .before .before .before .before .before .«open» .ensures)
+returns-2 c =
+    let c10 = c .before .before .before .before .before .before .before .before .before .before in
+    let c17 = c10 .before .before .before .before .before .before .before in
+    rw (← open-long _ _ _ _ (c17 .if1 .left)) (c10 .«open» .ensures)
 
 pub open-for-spec : {M : Type 1} → statement M
 open-for-spec =

@@ -28,7 +28,11 @@ same-length-4 : tie.Need-same-length-4
 same-length-4 c = search needs
 
 returns-2 : tie.Need-returns-2
-returns-2 c = serial-made _ _ (sym (c .before .before .before .before .before .before .before .before .before .before .before .before .large-enough .ensures) ∙ not-false _ (c .before .before .before .before .before .before .before .before .before .before .before .if1 .left)) (c .before .before .before .before .before .before .serial-run .ensures)
+returns-2 c =
+    let c6 = c .before .before .before .before .before .before in
+    let c11 = c6 .before .before .before .before .before in
+    let c12 = c11 .before in
+    serial-made _ _ (sym (c12 .large-enough .ensures) ∙ not-false _ (c11 .if1 .left)) (c6 .serial-run .ensures)
 
 pub serial-move-spec : {M : Type 1} → statement M
 serial-move-spec =

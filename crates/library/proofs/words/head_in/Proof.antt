@@ -64,7 +64,14 @@ word-requires-4 c κs = search needs
 
 returns : tie.Need-returns
 unfolding heldIn below
-returns c = simp (c .word4 .ensures, c .before .word3 .ensures, c .before .before .word2 .ensures, c .before .before .before .word .ensures, c .before .before .before .before .held-word8 .ensures, c .before .before .before .before .before .held-word7 .ensures, c .before .before .before .before .before .before .held-word6 .ensures, c .before .before .before .before .before .before .before .held-word5 .ensures, c .before .before .before .before .before .before .before .before .held-word4 .ensures, c .before .before .before .before .before .before .before .before .before .held-word3 .ensures, c .before .before .before .before .before .before .before .before .before .before .held-word2 .ensures, c .before .before .before .before .before .before .before .before .before .before .before .held-word .ensures)
+returns c =
+    let c6 = c .before .before .before .before .before .before in
+    let c7 = c6 .before in
+    let c8 = c7 .before in
+    let c9 = c8 .before in
+    let c10 = c9 .before in
+    let c11 = c10 .before in
+    simp (c .word4 .ensures, c .before .word3 .ensures, c .before .before .word2 .ensures, c .before .before .before .word .ensures, c .before .before .before .before .held-word8 .ensures, c .before .before .before .before .before .held-word7 .ensures, c6 .held-word6 .ensures, c7 .held-word5 .ensures, c8 .held-word4 .ensures, c9 .held-word3 .ensures, c10 .held-word2 .ensures, c11 .held-word .ensures)
 
 pub head-in-spec : {M : Type 1} → statement M
 head-in-spec =

@@ -33,7 +33,9 @@ same-length : tie.Need-same-length
 same-length c = search needs
 
 returns-2 : tie.Need-returns-2
-returns-2 c = c .before .before .put-word .ensures ∙ stored-other _ _ _ (c .before .before .before .before .before .before .before .before .if1 .left) (c .before .before .before .before .before .held-word .ensures) (c .before .before .before .before .if2 .taken)
+returns-2 c =
+    let c8 = c .before .before .before .before .before .before .before .before in
+    c .before .before .put-word .ensures ∙ stored-other _ _ _ (c8 .if1 .left) (c .before .before .before .before .before .held-word .ensures) (c .before .before .before .before .if2 .taken)
 
 same-length-2 : tie.Need-same-length-2
 same-length-2 c = search needs
