@@ -49,7 +49,7 @@ ranP = moveWords (serialMove P) startP 0
 pub record Exported : Type 0 where
   -- Three workers, three calls, four cells, and the first call record at byte 120.
   pub opened : openedP .number ∷ openedP .offset ∷ openedP .words .head ≡ 0 ∷ 0 ∷ 3 ∷ 3 ∷ 4 ∷ 120 ∷ repeated 9 0
-  -- A head of 11 words is refused by 20, and so is a block of no bytes by 2; every word is zero.
+  -- A head of 11 words is refused by 20, and a block that is cut in its first call by 2, there; every word is zero.
   pub short-opened : openWords 11 fixedSizes P 3 .number ∷ openWords 11 fixedSizes P 3 .offset ∷ openWords 11 fixedSizes P 3 .words .head ≡ 20 ∷ 0 ∷ repeated 11 0
   pub refused : openWords 12 fixedSizes (take 123 P) 3 .number ∷ openWords 12 fixedSizes (take 123 P) 3 .offset ∷ openWords 12 fixedSizes (take 123 P) 3 .words .head ≡ 2 ∷ 120 ∷ repeated 12 0
   -- BEGIN stores the call's number plus 1 in the worker's word; CANCEL, and the step that ends the call, store 0.

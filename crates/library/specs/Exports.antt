@@ -23,11 +23,12 @@ use Rattle.library.specs.Words.{Words, words, headWords, runIn, wordsAft
 abbrev pub tooShort : ℕ → Bool
 tooShort n = ltb n headWords
 
--- The fixed sizes, by number, of the head and of the buffers that a run takes, and the lengths of the largest sheet and of the largest
--- block; 0 for any other number.
+-- The longest sheet: its cells, its receipts and its end.
 abbrev pub maxSheet : ℕ
 maxSheet = maxKeys * (headBytes + cellBytes) + maxCalls * (headBytes + receiptBytes) + headBytes
 
+-- The fixed sizes, by number, of the head and of the buffers that a run takes, and the lengths of the longest sheet and of the longest
+-- block; 0 for any other number.
 unfoldable pub sizeOf : ℕ → ℕ
 sizeOf which =
     getD

@@ -28,8 +28,8 @@ ghost use Rattle.opening.specs.Opened.{sizesFor};
 ghost use Rattle.library.specs.Words.{words};
 ghost use Rattle.library.specs.Exports.{sizeOf, openWords, moveWords, serialMove, sheetWords};
 
-// The fixed size, by number, of the head (0), the plan, the keys, the cells, the status, the seats and the frames (6), of the largest sheet (7)
-// and of the largest block (8); 0 for any other number.
+// The fixed size, by number, of the head (0), the plan, the keys, the cells, the status, the seats and the frames (6), of the longest sheet (7)
+// and of the longest block (8); 0 for any other number.
 #[no_mangle]
 pub extern "C" fn zumbiqa_size(which: usize) -> u64
     ensures { λ r. ⌜ r ≡ sizeOf which ⌝ }
