@@ -2,13 +2,12 @@
 use mathlib.Core.Bool.{true, false}
 use mathlib.Core.List.{List, [], _∷_, _++_}
 use mathlib.Core.Option.{Option, none, some}
-use Prim.Native.Nat.{ℕ, zero, suc, _+_, _-_, _*_, _^_}
+use Prim.Native.Nat.{ℕ, zero, suc, _+_, _-_, _^_}
 use lib.Dec.{eqb, ltb}
 use lib.ListN.{take}
-use Rattle.block.specs.Record.{headBytes, cellBytes, receiptBytes}
 use Rattle.arith.specs.Choice.{if_then_else_}
 use Rattle.wire.specs.Bytes.{repeated}
-use Rattle.block.specs.Limits.{maxCalls, maxKeys, maxWorkers}
+use Rattle.block.specs.Limits.{maxWorkers}
 use Rattle.block.specs.Refusal.{numberOf, offsetOf}
 use Rattle.schedule.specs.declared.Move.{Move}
 use Rattle.machine.specs.Answer.{answerNumber}
@@ -17,7 +16,7 @@ use Rattle.machine.specs.Opening.{Opened, openingOf}
 use Rattle.machine.specs.Moves.{Moved, moveOf}
 use Rattle.block.specs.declared.Verdict.{Verdict}
 use Rattle.block.specs.declared.Verdict.the-variants as verdict
-use Rattle.sheet.specs.Sheet.{Closed, sheetOf}
+use Rattle.sheet.specs.Sheet.{Closed, maxSheet, sheetOf}
 use Rattle.sheet.specs.declared.Closing.{Closing}
 use Rattle.sheet.specs.declared.Closing.the-variants.{Written, Refused}
 use Rattle.wire.specs.Decimal.{lineFeed}
@@ -78,10 +77,6 @@ playEnd block s = if isEmpty (s .line) then s else playLine block s
 unfoldable pub closingText : Closed → Closing → List ℕ
 closingText c (Written n) = sheetText (take n (c .output))
 closingText c (Refused a) = refusedText 0 (answerNumber a)
-
--- The longest sheet: 1,024 cells of 24 bytes, 256 receipts of 8, and the end.
-abbrev pub maxSheet : ℕ
-maxSheet = maxKeys * (headBytes + cellBytes) + maxCalls * (headBytes + receiptBytes) + headBytes
 
 abbrev pub closeRun : Run → List ℕ
 closeRun r = let c : Closed = sheetOf r (repeated maxSheet 0) in closingText c (c .answer)

@@ -8,10 +8,10 @@ use Rattle.block.specs.declared.Verdict.{Verdict}
 use Rattle.block.specs.declared.Verdict.the-variants as verdict
 use Rattle.machine.specs.Run.{Run, fixedSizes}
 use Rattle.machine.specs.Opening.{Opened, openingOf}
-use Rattle.sheet.specs.Sheet.{Closed, sheetOf}
+use Rattle.sheet.specs.Sheet.{Closed, maxSheet, sheetOf}
 use Rattle.sheet.specs.declared.Closing.{Closing}
 use Rattle.sheet.specs.declared.Closing.the-variants.{Written, Refused}
-use Rattle.console.specs.Register.{maxSheet, playInput}
+use Rattle.console.specs.Register.{playInput}
 
 -- The bytes of a run's sheet; a refused sheet has none.
 unfoldable pub closingBytes : Closed → Closing → List ℕ

@@ -1,13 +1,12 @@
 -- What each exported function answers, and what it leaves in all that it was lent.
 use mathlib.Core.Bool.{Bool}
 use mathlib.Core.List.{List, [], _∷_}
-use Prim.Native.Nat.{ℕ, _+_, _*_}
+use Prim.Native.Nat.{ℕ}
 use lib.Dec.{ltb}
 use lib.ListN.{length, getD}
 use Rattle.arith.specs.Choice.{if_then_else_}
 use Rattle.wire.specs.Bytes.{stored, repeated}
-use Rattle.block.specs.Limits.{maxBytes, maxCalls, maxKeys}
-use Rattle.block.specs.Record.{headBytes, cellBytes, receiptBytes}
+use Rattle.block.specs.Limits.{maxBytes}
 use Rattle.block.specs.Refusal.{verdictNumber, verdictOffset}
 use Rattle.block.specs.declared.Refusal.the-variants.{Buffers}
 use Rattle.machine.specs.Answer.{answerNumber}
@@ -16,16 +15,12 @@ use Rattle.machine.specs.Opening.{Opened, refusedRun, openingOf}
 use Rattle.machine.specs.Moves.{Moved, stay}
 use Rattle.machine.specs.Serial.{serialRun}
 use Rattle.machine.specs.declared.Answer.the-variants.{Accepted, Damaged}
-use Rattle.sheet.specs.Sheet.{Closed, closingNumber, closingLength, unwritten, sheetOf}
+use Rattle.sheet.specs.Sheet.{Closed, closingNumber, closingLength, maxSheet, unwritten, sheetOf}
 use Rattle.library.specs.Words.{Words, words, headWords, runIn, wordsAfter}
 
 -- A head of so many words is too short.
 abbrev pub tooShort : ℕ → Bool
 tooShort n = ltb n headWords
-
--- The longest sheet: its cells, its receipts and its end.
-abbrev pub maxSheet : ℕ
-maxSheet = maxKeys * (headBytes + cellBytes) + maxCalls * (headBytes + receiptBytes) + headBytes
 
 -- The fixed sizes, by number, of the head and of the buffers that a run takes, and the lengths of the longest sheet and of the longest
 -- block; 0 for any other number.

@@ -23,9 +23,9 @@ use Rattle.machine.specs.Step.{cellAt}
 use Rattle.machine.specs.Answer.{answerNumber}
 use Rattle.machine.specs.declared.Answer.{Answer}
 use Rattle.text.specs.Lines.{refusedText}
-use Rattle.sheet.specs.Sheet.{Closed, keyHigh, keyLow, keyBytes, cellRecords, receiptRecords, sheetBytes, statesAllowed, allFinished, balancesAllowed, receiptsAllowed, unwritten, writtenIf, sheetOf}
+use Rattle.sheet.specs.Sheet.{Closed, keyHigh, keyLow, keyBytes, cellRecords, receiptRecords, sheetBytes, statesAllowed, allFinished, balancesAllowed, receiptsAllowed, unwritten, writtenIf, sheetOf, maxSheet}
 use Rattle.console.specs.Text.{cellLine, receiptLine, recordsText, sheetText}
-use Rattle.console.specs.Register.{closingText, closeRun, maxSheet}
+use Rattle.console.specs.Register.{closingText, closeRun}
 use Rattle.play.specs.Printed.{maxRecordText, maxCloseText}
 use Rattle.play.proofs.TextLaws.{cell-short, receipt-short}
 

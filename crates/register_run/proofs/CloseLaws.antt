@@ -18,10 +18,10 @@ use Rattle.wire.specs.Decimal.{decimal, textLine}
 use Rattle.machine.specs.Run.{Run, sizesOf, largeEnough}
 use Rattle.machine.specs.Answer.{answerNumber}
 use Rattle.machine.specs.declared.Answer.{Answer}
-use Rattle.sheet.specs.Sheet.{Closed, sheetBytes, statesAllowed, allFinished, balancesAllowed, receiptsAllowed, writtenIf, sheetOf}
+use Rattle.sheet.specs.Sheet.{Closed, sheetBytes, statesAllowed, allFinished, balancesAllowed, receiptsAllowed, writtenIf, sheetOf, maxSheet}
 use Rattle.sheet.specs.declared.Closing.{Closing}
 use Rattle.sheet.specs.declared.Closing.the-variants as closing
-use Rattle.console.specs.Register.{closingText, maxSheet}
+use Rattle.console.specs.Register.{closingText}
 use Rattle.console.specs.SheetBytes.{closingBytes}
 use Rattle.console.specs.Text.{sheetText}
 use Rattle.play.specs.AnswerLength.{maxAnswer}

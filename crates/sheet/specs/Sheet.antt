@@ -10,7 +10,7 @@ use Rattle.arith.specs.Choice.{if_then_else_}
 use Rattle.arith.specs.Exact.{unsigned}
 use Rattle.wire.specs.Bytes.{bytesOf, stored}
 use Rattle.block.specs.Limits.{maxCalls, maxKeys}
-use Rattle.block.specs.Record.{recordOf, cellKind, receiptKind, endKind}
+use Rattle.block.specs.Record.{headBytes, cellBytes, receiptBytes, recordOf, cellKind, receiptKind, endKind}
 use Rattle.block.specs.Encoding.{Routine, functionRecord, callRecord, records}
 use Rattle.block.specs.declared.Call.{Call}
 use Rattle.machine.specs.Answer.{answerNumber}
@@ -117,6 +117,10 @@ writtenIf receipts output bytes =
 -- The same where the receipts are in their ranges.
 abbrev pub written : List ℕ → List ℕ → Closed
 written output bytes = writtenIf true output bytes
+
+-- The longest sheet: 1,024 cells of 24 bytes, 256 receipts of 8, and the end.
+abbrev pub maxSheet : ℕ
+maxSheet = maxKeys * (headBytes + cellBytes) + maxCalls * (headBytes + receiptBytes) + headBytes
 
 -- The sheet of a run. "20 for a value is tested where the test or the change first uses that value": the sizes, the number of calls and
 -- their states; 27; the number of cells, and which of them are not zero, so the balances; 28; outcomes and counts, which only the

@@ -12,8 +12,8 @@ use Rattle.schedule.specs.declared.Move.{Move}
 use Rattle.machine.specs.Run.{Run, fixedSizes}
 use Rattle.machine.specs.Opening.{openingOf}
 use Rattle.machine.specs.declared.Answer.the-variants.{CallUnfinished}
-use Rattle.sheet.specs.Sheet.{sheetBytes, Closed, unwritten, filled, sheetOf}
-use Rattle.console.specs.Register.{Session, maxInput, maxSheet}
+use Rattle.sheet.specs.Sheet.{sheetBytes, Closed, unwritten, filled, sheetOf, maxSheet}
+use Rattle.console.specs.Register.{Session, maxInput}
 use Rattle.console.specs.declared.Line.the-variants.{Empty}
 use Rattle.analysis.specs.LayoutOfBlock.{callCount}
 use Rattle.guarantees.specs.BlockTally.{tallyAfter}

@@ -20,9 +20,8 @@ use Rattle.machine.specs.Step.{cellAt}
 use Rattle.machine.specs.declared.Answer.{Answer}
 use Rattle.machine.specs.declared.Answer.the-variants.{SheetTooLong}
 use Rattle.block.specs.Record.{recordOf, endKind}
-use Rattle.sheet.specs.Sheet.{cellRecords, receiptRecords, sheetBytes, statesAllowed, allFinished, receiptsAllowed, balancesAllowed, Closed, unwritten, filled, writtenIf, written, sheetOf}
+use Rattle.sheet.specs.Sheet.{cellRecords, receiptRecords, sheetBytes, statesAllowed, allFinished, receiptsAllowed, balancesAllowed, Closed, unwritten, filled, writtenIf, written, sheetOf, maxSheet}
 use Rattle.sheet.proofs.ReceiptLengths.{receipts-length}
-use Rattle.console.specs.Register.{maxSheet}
 use Rattle.console.specs.SheetBytes.{closingBytes}
 
 -- A record of a cell has 24 bytes.
