@@ -104,6 +104,8 @@ pub record Damaged : Type 0 where
   pub step-head : steps P (workersAs 0 begunP ∷ workersAs 9 begunP ∷ callsAs 257 begunP ∷ heldAs 0 4 begunP ∷ statusAt 0 7 begunP ∷ []) ≡ 20 ∷ 20 ∷ 20 ∷ 20 ∷ 0 ∷ []
   pub step-place : steps P (seatAs 0 4 0 begunP ∷ seatAs 0 3 0 begunP ∷ planAt 1 66 begunP ∷ seatAs 0 0 65 begunP ∷ seatAs 0 0 64 begunP ∷ []) ≡ 20 ∷ 0 ∷ 20 ∷ 20 ∷ 0 ∷ []
   pub step-record : steps P (firstAs 200 begunP ∷ firstAs 0 begunP ∷ []) ++ steps (set P 125 128) (begunP ∷ []) ≡ 20 ∷ 20 ∷ 20 ∷ []
+  -- The record of call 0 is bytes 120 to 153: one byte fewer is no record.
+  pub step-cut : steps (take 153 P) (begunP ∷ []) ++ steps (take 154 P) (begunP ∷ []) ≡ 20 ∷ 0 ∷ []
   -- At an instruction: the code stretch, the instruction, the cell among the entries with the flag that is wanted.
   pub step-code : steps P (planAt 0 215 atPut ∷ []) ++ steps (set P 16 16) (atPut ∷ begunP ∷ []) ≡ 20 ∷ 20 ∷ 0 ∷ []
   pub step-cell : steps P (withKeyAt 6 0 atPut ∷ planAt 3 13 atPut ∷ planAt 3 4098 atPut ∷ planAt 2 0 atPut ∷ planAt 2 25 atPut ∷ atPut ∷ []) ≡ 20 ∷ 20 ∷ 20 ∷ 20 ∷ 20 ∷ 0 ∷ []
@@ -132,6 +134,7 @@ damaged =
       step-head = refl;
       step-place = refl;
       step-record = refl;
+      step-cut = refl;
       step-code = refl;
       step-cell = refl;
       step-entry = refl;
