@@ -128,9 +128,11 @@ fn the_readme_shows_every_picture_and_output() {
                 "{name} {picture}"
             );
         }
+    }
+    for name in DAYS.into_iter().chain([NEXT]) {
         let output = read(&format!("{name}.out"));
-        let indented: String = output.lines().map(|line| format!("    {line}\n")).collect();
-        assert!(readme.contains(&indented), "{name}.out");
+        let shown = format!("register < ../examples/{name}.moves\n```\n```text\n{output}```\n");
+        assert!(readme.contains(&shown), "{name}.out");
     }
 }
 
