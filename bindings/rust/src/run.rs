@@ -8,7 +8,8 @@ const PLAN_WORDS: usize = 32;
 const FIRST_ROW_WORD: usize = 27;
 /// Bits of one word of a row.
 const ROW_BITS: usize = 64;
-/// Words of a call in the status: state, outcome, count, and a spare one.
+/// Words of a call in the status: state, outcome, count, and the number of its
+/// earlier conflicting calls that are still unfinished.
 const STATUS_WORDS: usize = 4;
 
 /// How a call ended; the discriminant is document 01's number.

@@ -183,6 +183,7 @@ fn write_vectors(seed: u64, count: usize, directory: &Path) -> Result<(), Failur
     let (mut cases, _) = vectors::moves::cases(seed, count);
     cases.extend(vectors::sheets::cases(seed, count / MOVES_TO_SHEETS));
     cases.extend(vectors::serial::cases(seed, count / MOVES_TO_SERIAL));
+    cases.extend(vectors::waits::cases());
     fs::create_dir_all(directory)?;
     fs::write(directory.join("stdin"), vectors::stream::input(&cases))?;
     fs::write(directory.join("stdout"), vectors::stream::output(&cases))?;

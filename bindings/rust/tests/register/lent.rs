@@ -6,7 +6,7 @@ use runner::lent::Run;
 use runner::limits::MAX_WORKERS;
 use runner::machine::Move;
 use runner::rng::Rng;
-use runner::vectors::{moves, serial, sheets, Case, Operation, Player, OUTPUT_BYTE};
+use runner::vectors::{moves, serial, sheets, waits, Case, Operation, Player, OUTPUT_BYTE};
 use zumbiqa::raw::{size, Size};
 use zumbiqa::Answer;
 
@@ -163,4 +163,9 @@ fn sheets_agree() {
 #[test]
 fn serial_runs_agree() {
     compare_cases(3, &serial::cases(2_305, SERIALS));
+}
+
+#[test]
+fn damaged_waiting_counts_agree() {
+    compare_cases(4, &waits::cases());
 }

@@ -7,6 +7,7 @@ mod opening;
 mod serial;
 mod sheet;
 mod step;
+mod waits;
 
 pub use opening::open;
 
@@ -33,8 +34,17 @@ pub const ROW_WORDS: usize = MAX_CALLS / ROW_BITS;
 pub const ROW_BITS: usize = 64;
 /// Words of a cell in the keys.
 pub const KEY_WORDS: usize = 2;
-/// Words of a call in the status: state, outcome, count, and a spare one.
+/// Words of a call in the status.
 pub const STATUS_WORDS: usize = 4;
+/// The status word that holds the call's state.
+pub const STATE: usize = 0;
+/// The status word that holds the outcome, if the call is finished.
+pub const OUTCOME: usize = 1;
+/// The status word that holds how many instructions the finished call executed.
+pub const EXECUTED: usize = 2;
+/// The status word that holds the waiting count: the number of the call's earlier
+/// conflicting calls that are still unfinished.
+pub const WAITS: usize = 3;
 /// Words of a worker in the seats. Behind the place and the count is room that
 /// no move touches.
 pub const SEAT_WORDS: usize = 16;
@@ -151,7 +161,7 @@ pub struct Run {
     pub keys: Vec<u64>,
     /// The values by cell number.
     pub cells: Vec<i64>,
-    /// The state and the receipt of each call.
+    /// The state, the receipt and the waiting count of each call.
     pub status: Vec<u64>,
     /// The place and the count of each worker's call.
     pub seats: Vec<u64>,
@@ -199,9 +209,24 @@ impl Run {
         self.plan[call * PLAN_WORDS + word]
     }
 
+    /// Whether the row of a call names another.
+    pub fn row_names(&self, call: usize, other: usize) -> bool {
+        self.plan_word(call, ROW + other / ROW_BITS) >> (other % ROW_BITS) & 1 == 1
+    }
+
+    /// A word of a call in the status.
+    pub fn status_word(&self, call: usize, word: usize) -> u64 {
+        self.status[call * STATUS_WORDS + word]
+    }
+
     /// The state word of a call.
     pub fn state(&self, call: usize) -> u64 {
-        self.status[call * STATUS_WORDS]
+        self.status_word(call, STATE)
+    }
+
+    /// The waiting count of a call.
+    pub fn waits(&self, call: usize) -> u64 {
+        self.status_word(call, WAITS)
     }
 
     /// A word of a worker in the seats.

@@ -2,7 +2,7 @@
 
 use super::{
     Run, COUNT, ENTRIES, ENTRY_SCALE, FINISHED, FRAME_VALUES, KEY_COUNT, OLDS, PLACE, PLAN_WORDS,
-    READS, ROW, ROW_BITS, RUNNING, SEAT_WORDS, STATUS_WORDS, WAITING, WRITES,
+    READS, RUNNING, SEAT_WORDS, STATE, STATUS_WORDS, WAITING, WRITES,
 };
 use crate::limits::{MAX_CALLS, MAX_CALL_KEYS, MAX_KEYS, MAX_WORKERS, REGISTERS};
 use crate::refusal::MoveRefusal;
@@ -44,7 +44,8 @@ pub(super) fn below(number: u64, bound: usize) -> Result<usize, MoveRefusal> {
 }
 
 impl Run {
-    /// BEGIN(worker, call): 20 to 25, then the call runs on the worker.
+    /// BEGIN(worker, call): 20 to 25, then the call runs on the worker. For 25 its
+    /// own waiting count is looked at alone, and no count is changed.
     pub fn begin(&mut self, worker: usize, call: usize) -> Result<(), MoveRefusal> {
         self.test_worker(worker)?;
         if call >= self.calls()? {
@@ -60,7 +61,7 @@ impl Run {
         if self.tested_state(call)? != WAITING {
             return Err(MoveRefusal::CallNotWaiting);
         }
-        if self.earlier_unfinished(call)? {
+        if self.tested_waits(call)? != 0 {
             return Err(MoveRefusal::EarlierUnfinished);
         }
         let kept = self.kept(call)?;
@@ -68,7 +69,7 @@ impl Run {
         for (old, cell) in frame[OLDS..].iter_mut().zip(kept) {
             *old = cell.map_or(0, |cell| self.cells[cell]);
         }
-        self.status[call * STATUS_WORDS] = RUNNING;
+        self.status[call * STATUS_WORDS + STATE] = RUNNING;
         self.head.held[worker] = call as u16 + 1;
         self.stand(worker, 0, 0, [0; REGISTERS]);
         Ok(())
@@ -89,13 +90,14 @@ impl Run {
     }
 
     /// CANCEL(worker): 20, 21, 26, then the call's cells are restored, the call
-    /// waits and the worker is free. Its seat and its frame are left.
+    /// waits and the worker is free. Its seat, its frame and all waiting counts
+    /// are left.
     pub fn cancel(&mut self, worker: usize) -> Result<(), MoveRefusal> {
         let call = self.held(worker)?;
         for (cell, old) in self.restoring(worker, call)? {
             self.cells[cell] = old;
         }
-        self.status[call * STATUS_WORDS] = WAITING;
+        self.status[call * STATUS_WORDS + STATE] = WAITING;
         self.head.held[worker] = 0;
         Ok(())
     }
@@ -113,7 +115,7 @@ impl Run {
     }
 
     /// The number of calls.
-    fn calls(&self) -> Result<usize, MoveRefusal> {
+    pub(super) fn calls(&self) -> Result<usize, MoveRefusal> {
         below(self.head.calls, MAX_CALLS + 1)
     }
 
@@ -133,20 +135,6 @@ impl Run {
             return Err(MoveRefusal::Damaged);
         }
         Ok(state)
-    }
-
-    /// Whether an earlier conflicting call is waiting or running. All their
-    /// states are looked at first. Bits at the call and above it are not.
-    fn earlier_unfinished(&self, call: usize) -> Result<bool, MoveRefusal> {
-        let in_row = |earlier: &usize| {
-            let word = self.plan_word(call, ROW + earlier / ROW_BITS);
-            word >> (earlier % ROW_BITS) & 1 == 1
-        };
-        let states: Vec<u64> = (0..call)
-            .filter(in_row)
-            .map(|earlier| self.tested_state(earlier))
-            .collect::<Result<_, _>>()?;
-        Ok(states.iter().any(|state| *state != FINISHED))
     }
 
     /// The entries of a call: 20 for a number of keys above 24.

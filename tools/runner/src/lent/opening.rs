@@ -4,7 +4,7 @@ use std::collections::BTreeSet;
 
 use super::{
     key_words, Head, Run, Sizes, CODE_LENGTH, CODE_START, ENTRIES, ENTRY_SCALE, KEY_COUNT,
-    KEY_WORDS, PLAN_WORDS, READS, ROW, ROW_BITS, WRITES,
+    KEY_WORDS, PLAN_WORDS, READS, ROW, ROW_BITS, STATUS_WORDS, WAITS, WRITES,
 };
 use crate::block::Call;
 use crate::key::Key;
@@ -30,7 +30,7 @@ pub fn open(bytes: &[u8], workers: usize, sizes: Sizes) -> (Result<(), BlockRefu
 }
 
 impl Run {
-    /// Every call waits and no worker holds one.
+    /// Every call waits, for all calls of its row, and no worker holds one.
     fn fill(&mut self, bytes: &[u8], opened: &Opened) {
         let block = &opened.block;
         let table = table(opened);
@@ -50,6 +50,7 @@ impl Run {
         }
         for (index, call) in block.calls.iter().enumerate() {
             self.plan_call(opened, &table, index, call);
+            self.status[index * STATUS_WORDS + WAITS] = opened.rows[index].len() as u64;
         }
     }
 

@@ -1,6 +1,6 @@
 //! The closing sheet of a lent run.
 
-use super::{Run, FINISHED, KEY_WORDS, STATUS_WORDS};
+use super::{Run, EXECUTED, FINISHED, KEY_WORDS, OUTCOME};
 use crate::emit;
 use crate::key::Key;
 use crate::limits::{
@@ -81,8 +81,8 @@ impl Run {
 
     /// The outcome and the count of a call.
     fn receipt(&self, call: usize) -> Result<(u16, u16), SheetRefusal> {
-        let outcome = self.status[call * STATUS_WORDS + 1];
-        let count = self.status[call * STATUS_WORDS + 2];
+        let outcome = self.status_word(call, OUTCOME);
+        let count = self.status_word(call, EXECUTED);
         if outcome > LAST_OUTCOME || count > MAX_INSTRUCTIONS as u64 {
             return Err(SheetRefusal::Damaged);
         }

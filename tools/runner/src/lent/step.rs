@@ -2,7 +2,8 @@
 
 use super::moves::below;
 use super::{
-    key_words, Run, CODE_LENGTH, CODE_START, COUNT, FINISHED, KEY_WORDS, PLACE, STATUS_WORDS,
+    key_words, Run, CODE_LENGTH, CODE_START, COUNT, EXECUTED, FINISHED, KEY_WORDS, OUTCOME, PLACE,
+    STATE, STATUS_WORDS,
 };
 use crate::block::{read_call, Call};
 use crate::code::{decode, Instruction, Parts, Source};
@@ -16,9 +17,9 @@ use crate::sets::{cell_key, Use};
 
 /// What a step does to the call. Nothing is changed before it is known.
 enum Turn {
-    /// The call goes on at a place.
+    /// The call goes on at a place, and what the step stores is stored.
     Goes { place: u64 },
-    /// The call ends.
+    /// The call ends, and the step stores nothing.
     Ends(Outcome),
 }
 
@@ -60,23 +61,16 @@ impl Run {
             (stepping.run(block, place)?, count + 1)
         };
         let Stepping {
-            registers,
-            mut stores,
-            ..
+            registers, stores, ..
         } = stepping;
-        if let Turn::Ends(outcome) = turn {
-            if outcome.aborts() {
-                stores = self.restoring(worker, number)?;
-            }
-        }
-        for (cell, value) in stores {
-            self.cells[cell] = value;
-        }
         match turn {
-            Turn::Goes { place } => self.stand(worker, place, count, registers),
+            Turn::Goes { place } => {
+                self.store(stores);
+                self.stand(worker, place, count, registers);
+                Ok(())
+            }
             Turn::Ends(outcome) => self.finish(worker, number, outcome, count),
         }
-        Ok(())
     }
 
     /// The registers of a worker's frame.
@@ -84,13 +78,35 @@ impl Run {
         std::array::from_fn(|register| self.frame(worker)[register])
     }
 
-    /// The call's receipt; the worker is free. Its seat and its frame are left.
-    fn finish(&mut self, worker: usize, number: usize, outcome: Outcome, count: u64) {
+    fn store(&mut self, stores: Stores) {
+        for (cell, value) in stores {
+            self.cells[cell] = value;
+        }
+    }
+
+    /// The call ends, for every outcome alike: the later calls that wait for it
+    /// wait for one less, the call has its receipt, and the worker is free. An
+    /// abort restores the cells. The seat and the frame are left. 20 for what is
+    /// to be lowered or restored, before anything is changed.
+    fn finish(
+        &mut self,
+        worker: usize,
+        number: usize,
+        outcome: Outcome,
+        count: u64,
+    ) -> Result<(), MoveRefusal> {
+        let waiting = self.waiting_for(number)?;
+        if outcome.aborts() {
+            let restored = self.restoring(worker, number)?;
+            self.store(restored);
+        }
+        self.lower_waits(&waiting);
         let status = &mut self.status[number * STATUS_WORDS..];
-        status[0] = FINISHED;
-        status[1] = outcome.number().into();
-        status[2] = count;
+        status[STATE] = FINISHED;
+        status[OUTCOME] = outcome.number().into();
+        status[EXECUTED] = count;
         self.head.held[worker] = 0;
+        Ok(())
     }
 
     /// The cell that a call uses: the first of its entries with that key. 20 if

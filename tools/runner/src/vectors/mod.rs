@@ -11,6 +11,7 @@ pub mod serial;
 pub mod sheets;
 pub mod stream;
 pub mod titled;
+pub mod waits;
 
 use crate::lent::{open, Run, Sizes, BUFFERS};
 use crate::machine::Move;

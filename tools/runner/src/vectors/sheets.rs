@@ -6,7 +6,8 @@ use super::moves::{longer, one_short};
 use super::{Buffer, Case, HeadField, Operation, Player};
 use crate::generate::draft::{Draft, MIXED, PAYING, TOUCHING};
 use crate::lent::{
-    Run, Sizes, FINISHED, FRAME_VALUES, KEY_WORDS, RUNNING, SEAT_WORDS, STATUS_WORDS, WAITING,
+    Run, Sizes, EXECUTED, FINISHED, FRAME_VALUES, KEY_WORDS, OUTCOME, RUNNING, SEAT_WORDS, STATE,
+    STATUS_WORDS, WAITING, WAITS,
 };
 use crate::limits::{
     BALANCE_FIELD, CELL_BYTES, HEAD_BYTES, MAX_CALLS, MAX_INSTRUCTIONS, MAX_KEYS, MAX_WORKERS,
@@ -20,8 +21,8 @@ const MOST_MOVES: usize = 60;
 /// Of so many cases one has longer buffers.
 const LONG: usize = 3;
 
-/// What is damaged before a sheet; `Worker` is what a worker holds, its seat or
-/// its frame, which the sheet does not use.
+/// What is damaged before a sheet; `Unused` is a waiting count, or what a worker
+/// holds, its seat or its frame, which the sheet does not use.
 #[derive(Clone, Copy, Debug, PartialEq, Eq, PartialOrd, Ord)]
 #[allow(missing_docs)]
 pub enum Target {
@@ -34,7 +35,7 @@ pub enum Target {
     Key,
     Outcome,
     Count,
-    Worker,
+    Unused,
 }
 
 /// All of them.
@@ -48,7 +49,7 @@ pub const TARGETS: [Target; 10] = [
     Target::Key,
     Target::Outcome,
     Target::Count,
-    Target::Worker,
+    Target::Unused,
 ];
 
 /// The cases of a seed.
@@ -175,7 +176,7 @@ fn damage(rng: &mut Rng, run: &Run, target: Target) -> Option<Operation> {
                 u64::MAX,
             ]),
         },
-        Target::State => status(0, rng.pick(&[WAITING, RUNNING, FINISHED + 1, u64::MAX])),
+        Target::State => status(STATE, rng.pick(&[WAITING, RUNNING, FINISHED + 1, u64::MAX])),
         Target::Cells => Operation::Head {
             field: HeadField::Cells,
             value: rng.pick(&[
@@ -199,12 +200,16 @@ fn damage(rng: &mut Rng, run: &Run, target: Target) -> Option<Operation> {
                 value: run.keys[index] ^ flipped,
             }
         }
-        Target::Outcome => status(1, rng.pick(&[5, 6, 6, 65_536, u64::MAX])),
+        Target::Outcome => status(OUTCOME, rng.pick(&[5, 6, 6, 65_536, u64::MAX])),
         Target::Count => {
             let most = MAX_INSTRUCTIONS as u64;
-            status(2, rng.pick(&[most, most + 1, most + 1, 65_536, u64::MAX]))
+            status(
+                EXECUTED,
+                rng.pick(&[most, most + 1, most + 1, 65_536, u64::MAX]),
+            )
         }
-        Target::Worker => of_worker(rng),
+        Target::Unused if rng.chance(25) => status(WAITS, rng.pick(&[1, 257, u64::MAX])),
+        Target::Unused => of_worker(rng),
     })
 }
 

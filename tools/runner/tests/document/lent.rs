@@ -3,7 +3,7 @@
 use runner::console::{lines, parse};
 use runner::generate::draft::{Draft, CALCULATING, MIXED, PAYING, TOUCHING};
 use runner::generate::{moves, COMPLETE};
-use runner::lent::{key_words, open, Run, Sizes, FINISHED, RUNNING, WAITING};
+use runner::lent::{key_words, open, Run, Sizes, FINISHED, RUNNING, STATUS_WORDS, WAITING};
 use runner::machine::{self, Machine, Move, State};
 use runner::rng::Rng;
 use runner::serial;
@@ -11,28 +11,28 @@ use runner::serial;
 use crate::block;
 
 /// How many random runs are compared.
-const RUNS: usize = 600;
+pub(crate) const RUNS: usize = 600;
 
 /// A damage, and the number that the move behind it answers.
-type Damage = (fn(&mut Run), u16);
+pub(crate) type Damage = (fn(&mut Run), u16);
 
 /// Block P.
-const P: &str = include_str!("../../examples/p.txt");
+pub(crate) const P: &str = include_str!("../../examples/p.txt");
 
-fn begin(worker: usize, call: usize) -> Move {
+pub(crate) fn begin(worker: usize, call: usize) -> Move {
     Move::Begin { worker, call }
 }
 
-fn step(worker: usize) -> Move {
+pub(crate) fn step(worker: usize) -> Move {
     Move::Step { worker }
 }
 
-fn cancel(worker: usize) -> Move {
+pub(crate) fn cancel(worker: usize) -> Move {
     Move::Cancel { worker }
 }
 
 /// The run of a text for 8 workers, and its block.
-fn lent(text: &str) -> (Run, Vec<u8>) {
+pub(crate) fn lent(text: &str) -> (Run, Vec<u8>) {
     let bytes = block(text);
     let (answer, run) = open(&bytes, 8, Sizes::FIXED);
     assert_eq!(answer, Ok(()));
@@ -40,7 +40,7 @@ fn lent(text: &str) -> (Run, Vec<u8>) {
 }
 
 /// The run of a text after some moves that pass, and its block.
-fn moved(text: &str, passing: &[Move]) -> (Run, Vec<u8>) {
+pub(crate) fn moved(text: &str, passing: &[Move]) -> (Run, Vec<u8>) {
     let (mut run, bytes) = lent(text);
     for chosen in passing {
         assert_eq!(run.apply(&bytes, *chosen), Ok(()), "{chosen:?}");
@@ -50,7 +50,7 @@ fn moved(text: &str, passing: &[Move]) -> (Run, Vec<u8>) {
 
 /// The number that a move answers, 0 if it passes. A refused move changes
 /// nothing.
-fn answer(run: &Run, bytes: &[u8], chosen: Move) -> u16 {
+pub(crate) fn answer(run: &Run, bytes: &[u8], chosen: Move) -> u16 {
     let mut after = run.clone();
     match after.apply(bytes, chosen) {
         Ok(()) => 0,
@@ -62,7 +62,7 @@ fn answer(run: &Run, bytes: &[u8], chosen: Move) -> u16 {
 }
 
 /// Asserts what a move answers after each damage.
-fn expect(run: &Run, bytes: &[u8], chosen: Move, damages: &[Damage]) {
+pub(crate) fn expect(run: &Run, bytes: &[u8], chosen: Move, damages: &[Damage]) {
     for (place, (damage, number)) in damages.iter().enumerate() {
         let mut damaged = run.clone();
         damage(&mut damaged);
@@ -94,7 +94,10 @@ fn the_opening_of_p() {
         [run.plan[27], run.plan[32 + 27], run.plan[64 + 27]],
         [0, 1, 2]
     );
-    assert!(run.status.iter().all(|word| *word == 0));
+    // Calls 1 and 2 wait for one call each.
+    assert_eq!(run.status[..8], [0, 0, 0, 0, 0, 0, 0, 1]);
+    assert_eq!(run.status[8..12], [0, 0, 0, 1]);
+    assert!(run.status[12..].iter().all(|word| *word == 0));
 }
 
 /// The fixed sizes with 127 words of seats, and with 255 values of frames.
@@ -195,21 +198,34 @@ fn the_serial_run_goes_on_behind_a_refused_move() {
     let mut run = before.clone();
     run.run_serially(&bytes);
     assert_eq!(run, before);
+    // So does a count that the last step of call 0 cannot lower.
+    let (mut before, bytes) = moved(P, &[begin(0, 0), step(0), step(0), step(0)]);
+    before.status[7] = 0;
+    let mut run = before.clone();
+    run.run_serially(&bytes);
+    assert_eq!(run, before);
 }
 
-/// Asserts that a lent run stands where a machine stands.
-fn same(run: &Run, machine: &Machine) {
-    for (call, state) in machine.states().iter().enumerate() {
-        let words = match state {
-            State::Waiting => [WAITING, 0, 0],
-            State::Running => [RUNNING, 0, 0],
+/// Asserts that a lent run stands where a machine stands, and that each waiting
+/// count is the number that is counted from the row and the machine's states.
+pub(crate) fn same(run: &Run, machine: &Machine) {
+    let states = machine.states();
+    for (call, state) in states.iter().enumerate() {
+        let (state, outcome, count) = match state {
+            State::Waiting => (WAITING, 0, 0),
+            State::Running => (RUNNING, 0, 0),
             State::Finished(receipt) => {
                 let outcome = receipt.outcome.number().into();
-                [FINISHED, outcome, receipt.count.into()]
+                (FINISHED, outcome, receipt.count.into())
             }
         };
-        assert_eq!(run.status[4 * call..4 * call + 3], words);
+        let row = machine.opened().rows[call].iter();
+        let waits = row.filter(|earlier| !states[**earlier].is_finished());
+        let words = [state, outcome, count, waits.count() as u64];
+        assert_eq!(run.status[4 * call..4 * call + 4], words);
     }
+    let rest = &run.status[STATUS_WORDS * states.len()..];
+    assert!(rest.iter().all(|word| *word == 0));
     for (worker, held) in machine.workers().iter().enumerate() {
         assert_eq!(
             run.head.held[worker],
@@ -258,7 +274,7 @@ fn every_move_tests_sizes_and_workers_first() {
 fn what_begin_tests_and_in_which_order() {
     let run_0 = [begin(0, 0), step(0), step(0), step(0), step(0)];
     let (run, bytes) = moved(P, &run_0);
-    let damages: [Damage; 22] = [
+    let damages: [Damage; 25] = [
         (|_| (), 0),
         (|run| run.head.calls = 256, 0),
         (|run| run.head.calls = 257, 20),
@@ -271,30 +287,24 @@ fn what_begin_tests_and_in_which_order() {
         (|run| run.seats[16..32].fill(u64::MAX), 0),
         (|run| run.status[4] = 3, 20),
         (|run| run.status[4] = 2, 24),
-        (|run| run.status[0] = 3, 20),
-        (|run| run.status[0] = 1, 25),
+        (|run| run.status[7] = 1, 25),
+        (|run| run.status[7] = 2, 20),
+        (|run| run.status[7] = u64::MAX, 20),
+        // The states of earlier calls are not looked at, nor the row.
+        (|run| run.status[0] = 1, 0),
+        (|run| run.status[0] = 3, 0),
+        (|run| run.plan[32 + 27] = u64::MAX, 0),
         (|run| run.plan[32 + 2] = 25, 20),
         (|run| run.plan[32 + 3] = 0, 20),
         (|run| run.plan[32 + 3] = 1024 * 4 + 2, 20),
         (|run| run.plan[32 + 3] = 1023 * 4 + 2, 0),
         (|run| run.plan[32 + 3] = 1024 * 4 + 1, 0),
-        // Bits at the call and above it are not looked at.
-        (|run| run.plan[32 + 27] = u64::MAX, 0),
         // Lower numbers answer before values that were not used yet.
-        (|run| (run.status[0], run.plan[32 + 2]) = (1, 25), 25),
-        (|run| (run.status[4], run.status[0]) = (1, 3), 24),
+        (|run| (run.status[7], run.plan[32 + 2]) = (1, 25), 25),
+        (|run| (run.status[4], run.status[7]) = (1, 2), 24),
         (|run| (run.head.held[1], run.status[4]) = (1, 3), 23),
     ];
     expect(&run, &bytes, begin(1, 1), &damages);
-}
-
-#[test]
-fn one_broken_state_is_20_though_another_call_is_unfinished() {
-    let (mut run, bytes) = lent(P);
-    run.plan[64 + 27] = 3;
-    assert_eq!(answer(&run, &bytes, begin(0, 2)), 25);
-    run.status[4] = 3;
-    assert_eq!(answer(&run, &bytes, begin(0, 2)), 20);
 }
 
 #[test]
@@ -384,7 +394,7 @@ fn what_a_step_at_an_instruction_tests() {
 #[test]
 fn what_cancel_tests() {
     let (run, bytes) = moved(P, &[begin(0, 0), step(0)]);
-    let damages: [Damage; 12] = [
+    let damages: [Damage; 13] = [
         (|run| run.head.held[0] = 0, 26),
         (|run| run.head.held[0] = 4, 20),
         (|run| run.head.held[0] = u16::MAX, 20),
@@ -395,6 +405,7 @@ fn what_cancel_tests() {
         (|run| run.plan[3] = 1024 * 4 + 2, 20),
         (|run| run.frames[8] = i64::MIN, 0),
         (|run| run.status[0] = 3, 0),
+        (|run| (run.status[3], run.status[7]) = (u64::MAX, 0), 0),
         (|run| run.seats[1] = u64::MAX, 0),
         (|run| run.seats[0] = u64::MAX, 0),
     ];
@@ -501,7 +512,7 @@ fn a_finishing_step_leaves_seat_and_frame() {
 #[test]
 fn a_throw_restores_and_leaves_seat_and_frame() {
     let (mut run, bytes) = lent(TWO);
-    run.status[0] = FINISHED;
+    (run.status[0], run.status[7]) = (FINISHED, 0);
     for chosen in [begin(3, 1), step(3), step(3), step(3), step(3), step(3)] {
         assert_eq!(run.apply(&bytes, chosen), Ok(()));
     }

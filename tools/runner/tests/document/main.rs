@@ -2,6 +2,7 @@
 
 mod assembler;
 mod console;
+mod damaged_waits;
 mod edges;
 mod errors;
 mod examples;
@@ -16,6 +17,7 @@ mod refusals;
 mod sheet;
 mod tally;
 mod vectors;
+mod waits;
 
 use runner::assemble::assemble;
 use runner::console::register;

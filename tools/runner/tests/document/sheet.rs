@@ -101,7 +101,7 @@ fn the_sheet_of_a_lent_run() {
 
 #[test]
 fn what_a_sheet_tests_and_in_which_order() {
-    let damages: [Damage; 24] = [
+    let damages: [Damage; 25] = [
         (|run| run.seats.truncate(127), 20, 20),
         (|run| run.frames.truncate(255), 20, 20),
         (|run| run.seats.push(1), 0, 28),
@@ -129,6 +129,7 @@ fn what_a_sheet_tests_and_in_which_order() {
         (|run| (run.status[1], run.cells[0]) = (6, -1), 20, 20),
         (|run| run.head.workers = 9, 0, 28),
         (|run| run.plan[0] = u64::MAX, 0, 28),
+        (|run| run.status[3] = u64::MAX, 0, 28),
         (|run| run.status[7] = 9, 0, 28),
     ];
     for (place, (damage, room, short)) in damages.iter().enumerate() {

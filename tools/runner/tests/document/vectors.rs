@@ -10,12 +10,13 @@ use runner::vectors::moves::cases;
 use runner::vectors::serial;
 use runner::vectors::sheets;
 use runner::vectors::stream::{hash, input, output};
+use runner::vectors::waits;
 use runner::vectors::{answers, Answer, HeadField, Left, Operation, Player};
 
 /// As many cases as the stored file has.
-const COUNT: usize = 400;
+pub(crate) const COUNT: usize = 400;
 /// The seed of the stored file.
-const SEED: u64 = 1;
+pub(crate) const SEED: u64 = 1;
 /// Most bytes of the stored file.
 const MOST_BYTES: usize = 1_000_000;
 /// The answers of moves, and how often each stands in the file at least.
@@ -43,11 +44,15 @@ const RUNS: [(Outcome, usize); 3] = [
     (Outcome::Partial, 40),
 ];
 /// How often each damage is answered 20, and not, at least.
-const LEAST: usize = 2;
+pub(crate) const LEAST: usize = 2;
 /// Damages that a move never answers with 20 if they stand alone.
-const HARMLESS: [Target; 9] = [
+const HARMLESS: [Target; 13] = [
     Target::Cells,
     Target::Row,
+    Target::EarlierRow,
+    Target::EarlierState,
+    Target::LaterState,
+    Target::Waits,
     Target::Old,
     Target::Behind,
     Target::Register,
@@ -57,7 +62,9 @@ const HARMLESS: [Target; 9] = [
     Target::State,
 ];
 /// Those of a move that is no step.
-const HARMLESS_BUT_TO_STEPS: [Target; 2] = [Target::Place, Target::Count];
+const HARMLESS_BUT_TO_STEPS: [Target; 3] = [Target::Place, Target::Count, Target::LaterWaits];
+/// Those of which BEGIN answers some with 20.
+const OF_BEGIN_ALONE: [Target; 2] = [Target::State, Target::Waits];
 
 #[test]
 fn all_answers_are_well_covered() {
@@ -74,7 +81,8 @@ fn all_answers_are_well_covered() {
     }
     let sheets = sheets::cases(SEED, SHEETS);
     let serial = serial::cases(SEED, SERIAL);
-    assert!(input(&cases).len() + input(&sheets).len() + input(&serial).len() < MOST_BYTES);
+    let all = [cases, sheets, serial, waits::cases()].concat();
+    assert!(input(&all).len() < MOST_BYTES);
 }
 
 #[test]
@@ -219,7 +227,7 @@ fn every_target_is_met_by_every_move_that_uses_it() {
         for target in targets {
             let counts = damaged.get(&(name, *target)).copied().unwrap_or(0);
             let harmless = match name {
-                "begin" if *target == Target::State => false,
+                "begin" if OF_BEGIN_ALONE.contains(target) => false,
                 "step" => HARMLESS.contains(target),
                 _ => HARMLESS.contains(target) || HARMLESS_BUT_TO_STEPS.contains(target),
             };

@@ -4,8 +4,7 @@ use super::{bytes_at, Target};
 use crate::code::op;
 use crate::lent::{
     Sizes, BUFFERS, CODE_LENGTH, CODE_START, COUNT, ENTRIES, ENTRY_SCALE, FRAME_VALUES, KEY_COUNT,
-    KEY_WORDS, OLDS, PLACE, PLAN_WORDS, READS, ROOM, ROW, ROW_BITS, SEAT_WORDS, STATUS_WORDS,
-    WRITES,
+    KEY_WORDS, OLDS, PLACE, PLAN_WORDS, READS, ROOM, SEAT_WORDS, STATE, STATUS_WORDS, WRITES,
 };
 use crate::limits::{
     CALL_BYTES, HEAD_BYTES, INSTRUCTION_BYTES, MAX_CALLS, MAX_CALL_KEYS, MAX_KEYS, REGISTERS,
@@ -55,7 +54,15 @@ impl Aim<'_> {
             }
             Target::State => state(self.call, rng),
             Target::EarlierState => state(self.earlier(rng)?, rng),
+            Target::LaterState => state(self.later(rng)?, rng),
+            Target::Waits => self.waits(self.call, rng),
+            Target::LaterWaits => self.waits(self.later(rng)?, rng),
             Target::Row => self.row(rng),
+            Target::EarlierRow => {
+                let earlier = (self.call > 0).then(|| rng.below(self.call));
+                self.turn(earlier?, self.call)
+            }
+            Target::LaterRow => self.turn(self.later(rng)?, self.call),
             Target::KeyCount => self.key_count(rng),
             Target::Entry => self.entry(rng)?,
             Target::Key => self.key(rng)?,
@@ -152,7 +159,7 @@ impl Aim<'_> {
 
     /// An earlier call, one of the row if there is any.
     fn earlier(&self, rng: &mut Rng) -> Option<usize> {
-        let in_row = |call: &usize| self.plan(ROW + call / ROW_BITS) >> (call % ROW_BITS) & 1 == 1;
+        let in_row = |earlier: &usize| self.player.run.row_names(self.call, *earlier);
         let row: Vec<usize> = (0..self.call).filter(in_row).collect();
         if row.is_empty() {
             return (self.call > 0).then(|| rng.below(self.call));
@@ -162,14 +169,12 @@ impl Aim<'_> {
 
     /// A bit of the row is turned: below the call, at it, or above.
     fn row(&self, rng: &mut Rng) -> Operation {
-        let bit = match rng.below(4) {
+        let bit = match rng.below(6) {
             0 => self.call,
             1 => rng.between(self.call, MAX_CALLS - 1),
-            2 => MAX_CALLS - 1,
-            _ => rng.below(self.call + 1),
+            _ => rng.below(self.call.max(1)),
         };
-        let place = ROW + bit / ROW_BITS;
-        self.set_plan(place, self.plan(place) ^ 1 << (bit % ROW_BITS))
+        self.turn(self.call, bit)
     }
 
     fn key_count(&self, rng: &mut Rng) -> Operation {
@@ -392,14 +397,14 @@ impl Aim<'_> {
 /// A state at and outside the range, for a call.
 fn state(call: usize, rng: &mut Rng) -> Operation {
     let value = rng.pick(&[0, 1, 2, 3, 3, u64::MAX]);
-    word(Buffer::Status, call * STATUS_WORDS, value)
+    word(Buffer::Status, call * STATUS_WORDS + STATE, value)
 }
 
-fn head(field: HeadField, value: u64) -> Operation {
+pub(super) fn head(field: HeadField, value: u64) -> Operation {
     Operation::Head { field, value }
 }
 
-fn word(buffer: Buffer, index: usize, value: u64) -> Operation {
+pub(super) fn word(buffer: Buffer, index: usize, value: u64) -> Operation {
     Operation::Word {
         buffer,
         index,

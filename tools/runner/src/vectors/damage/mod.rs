@@ -2,9 +2,12 @@
 //! outside the ranges.
 
 mod aim;
+mod kind;
 mod used;
+mod waits;
 
 pub use aim::Aim;
+pub use kind::{Kind, Moment};
 
 use super::{Operation, Player, CHANGED_BYTES};
 use crate::machine::Move;
@@ -12,7 +15,9 @@ use crate::rng::Rng;
 
 /// What is damaged. `Room` is a word of a seat behind place and count, `Behind` a
 /// frame value behind those of the call's entries, `Beyond` a word of a buffer
-/// beyond its fixed size, `Length` a longer buffer's length.
+/// beyond its fixed size, `Length` a longer buffer's length. `Waits` is the call's
+/// own waiting count and `LaterWaits` that of a later call; `EarlierRow` and
+/// `LaterRow` are the call's bits in the rows of others.
 #[derive(Clone, Copy, Debug, PartialEq, Eq, PartialOrd, Ord)]
 #[allow(missing_docs)]
 pub enum Target {
@@ -27,7 +32,12 @@ pub enum Target {
     Room,
     State,
     EarlierState,
+    LaterState,
+    Waits,
+    LaterWaits,
     Row,
+    EarlierRow,
+    LaterRow,
     KeyCount,
     Entry,
     Key,
@@ -44,8 +54,9 @@ pub enum Target {
     Beyond,
 }
 
-/// What BEGIN may use, and the worker's seat and frame, which it does not.
-pub const OF_BEGIN: [Target; 20] = [
+/// What BEGIN may use, and the worker's seat and frame, the row, and other calls'
+/// states and waiting counts, which it does not.
+pub const OF_BEGIN: [Target; 22] = [
     Target::Workers,
     Target::Calls,
     Target::HeldCall,
@@ -57,6 +68,8 @@ pub const OF_BEGIN: [Target; 20] = [
     Target::State,
     Target::EarlierState,
     Target::EarlierState,
+    Target::Waits,
+    Target::LaterWaits,
     Target::Row,
     Target::KeyCount,
     Target::Entry,
@@ -68,9 +81,11 @@ pub const OF_BEGIN: [Target; 20] = [
     Target::Beyond,
 ];
 
-/// What STEP may use, and the call's state, the number of cells and the rest of
-/// the seat, the frame and longer buffers, which it does not.
-pub const OF_STEP: [Target; 38] = [
+/// What STEP may use, and the call's state and waiting count, later states,
+/// earlier rows, the number of cells and the rest of the seat, the frame and
+/// longer buffers, which it does not. Only one that ends the call uses later
+/// counts and rows.
+pub const OF_STEP: [Target; 43] = [
     Target::Workers,
     Target::Calls,
     Target::Cells,
@@ -84,6 +99,11 @@ pub const OF_STEP: [Target; 38] = [
     Target::Register,
     Target::Room,
     Target::State,
+    Target::LaterState,
+    Target::Waits,
+    Target::LaterWaits,
+    Target::EarlierRow,
+    Target::LaterRow,
     Target::KeyCount,
     Target::KeyCount,
     Target::Entry,
@@ -111,9 +131,10 @@ pub const OF_STEP: [Target; 38] = [
     Target::Beyond,
 ];
 
-/// What CANCEL may use, the old values, which it does not test, and the rest of
-/// the seat, the frame and longer buffers, which it does not use.
-pub const OF_CANCEL: [Target; 15] = [
+/// What CANCEL may use, the old values, which it does not test, and the waiting
+/// counts and the rest of the seat, the frame and longer buffers, which it does
+/// not use.
+pub const OF_CANCEL: [Target; 17] = [
     Target::Workers,
     Target::Calls,
     Target::HeldCall,
@@ -121,6 +142,8 @@ pub const OF_CANCEL: [Target; 15] = [
     Target::Count,
     Target::Register,
     Target::Room,
+    Target::Waits,
+    Target::LaterWaits,
     Target::KeyCount,
     Target::Entry,
     Target::Entry,
@@ -129,6 +152,39 @@ pub const OF_CANCEL: [Target; 15] = [
     Target::Size,
     Target::Length,
     Target::Beyond,
+];
+
+/// What a begin looks at for 25, and what it does not look at for it.
+pub const OF_WAITS_AT_BEGIN: [Target; 9] = [
+    Target::Waits,
+    Target::Waits,
+    Target::Waits,
+    Target::EarlierState,
+    Target::EarlierState,
+    Target::Row,
+    Target::Row,
+    Target::LaterWaits,
+    Target::LaterWaits,
+];
+
+/// What a cancel does not look at.
+pub const OF_WAITS_AT_CANCEL: [Target; 3] = [Target::Waits, Target::LaterWaits, Target::LaterRow];
+
+/// What a step lowers counts by if it ends its call, and what it does not look at
+/// then.
+pub const OF_WAITS_AT_STEP: [Target; 12] = [
+    Target::LaterWaits,
+    Target::LaterWaits,
+    Target::LaterWaits,
+    Target::LaterWaits,
+    Target::LaterWaits,
+    Target::LaterRow,
+    Target::LaterRow,
+    Target::LaterRow,
+    Target::LaterState,
+    Target::EarlierRow,
+    Target::Row,
+    Target::Waits,
 ];
 
 /// What a step that uses a cell finds it by.

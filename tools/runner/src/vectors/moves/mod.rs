@@ -2,7 +2,9 @@
 //! drawn, so that most damages meet a move that would pass without them. Each
 //! case ends in the serial run on the run as it stands.
 
-use super::damage::{repair, target, Aim, Target};
+mod waits;
+
+use super::damage::{repair, target, Aim, Kind, Target};
 use super::{Case, Operation, Player, SPARE};
 use crate::generate::draft::{Draft, Shape, CALCULATING, MIXED, PAYING, TOUCHING};
 use crate::generate::{edges, programs};
@@ -14,6 +16,34 @@ use crate::rng::Rng;
 
 /// How often a move or a damage is looked for.
 const ATTEMPTS: usize = 12;
+
+/// Of so many damages that are drawn, that which was shown least is made.
+const DRAWS: usize = 4;
+
+/// How many turns a case of waiting counts has.
+const WAITS_TURNS: usize = 16;
+
+/// Blocks of cases of waiting counts, with more calls than others.
+const WAITS_TOUCHING: Shape = Shape {
+    calls: (4, 6),
+    bytes: 380,
+    ..TOUCHING
+};
+
+/// The same with payments.
+const WAITS_PAYING: Shape = Shape {
+    calls: (4, 6),
+    bytes: 380,
+    ..PAYING
+};
+
+/// The same with all instructions.
+const WAITS_MIXED: Shape = Shape {
+    instructions: (2, 4),
+    calls: (4, 6),
+    bytes: 380,
+    ..MIXED
+};
 
 /// Worker and call numbers that no run has.
 const NONE_SUCH: [usize; 4] = [8, 9, 99_999, usize::MAX];
@@ -27,6 +57,9 @@ pub struct Shown {
     pub chosen: Move,
     /// Its answer.
     pub answer: Result<(), MoveRefusal>,
+    /// What the damage is to the move, if it is one of a waiting count, a state or
+    /// a row.
+    pub kind: Option<Kind>,
 }
 
 /// The cases of a seed, and what their damages show.
@@ -48,8 +81,12 @@ fn case(rng: &mut Rng, index: usize, shown: &mut Vec<Shown>) -> Case {
         operations: Vec::new(),
         shown,
     };
-    if opened.is_ok() {
-        for _ in 0..rng.between(8, 20) {
+    if opened.is_ok() && is_of_waits(index) {
+        for _ in 0..WAITS_TURNS {
+            writer.waits_turn(rng);
+        }
+    } else if opened.is_ok() {
+        for _ in 0..rng.between(8, 15) {
             writer.turn(rng);
         }
     } else {
@@ -67,13 +104,21 @@ fn case(rng: &mut Rng, index: usize, shown: &mut Vec<Shown>) -> Case {
     }
 }
 
+/// Whether a case is one of waiting counts.
+fn is_of_waits(index: usize) -> bool {
+    matches!(index % 12, 8 | 10)
+}
+
 /// Mostly blocks that are accepted.
 fn block(rng: &mut Rng, index: usize) -> Vec<u8> {
     let random = |rng: &mut Rng, shape: Shape| Draft::random(rng, shape).bytes();
     match index % 12 {
         0 | 6 => random(rng, MIXED),
         1 | 7 => random(rng, TOUCHING),
-        2 | 5 | 8 | 10 => random(rng, PAYING),
+        2 | 5 => random(rng, PAYING),
+        8 => random(rng, WAITS_TOUCHING),
+        10 if rng.chance(50) => random(rng, WAITS_PAYING),
+        10 => random(rng, WAITS_MIXED),
         3 => programs::block(rng.below(MAX_CALLS)),
         4 => Draft::with_keys(rng, MAX_CALL_KEYS).bytes(),
         9 => random(rng, CALCULATING),
@@ -116,6 +161,11 @@ fn workers(rng: &mut Rng) -> usize {
         3 => 0,
         _ => MAX_WORKERS + 1,
     }
+}
+
+/// Whether two moves are both begins, both steps or both cancels.
+fn same_kind(one: Move, other: Move) -> bool {
+    std::mem::discriminant(&one) == std::mem::discriminant(&other)
 }
 
 struct Writer<'a> {
@@ -165,7 +215,7 @@ impl Writer<'_> {
         let Some(chosen) = self.passing_move(rng) else {
             return;
         };
-        let mut targets = Vec::new();
+        let mut damaged = Vec::new();
         let mut repairs = Vec::new();
         if let Some(damages) = self.paired(rng, chosen).filter(|_| rng.chance(30)) {
             for damage in damages {
@@ -175,18 +225,19 @@ impl Writer<'_> {
         } else {
             for _ in 0..rng.pick(&[1, 1, 1, 2]) {
                 if let Some((target, damage)) = self.damage(rng, chosen) {
-                    targets.push(target);
+                    damaged.push((target, Kind::of(&self.player, chosen, damage)));
                     repairs.push(repair(&self.player, damage));
                     self.play(damage);
                 }
             }
         }
         let answer = self.make(chosen);
-        if let [target] = targets[..] {
+        if let [(target, kind)] = damaged[..] {
             self.shown.push(Shown {
                 target,
                 chosen,
                 answer,
+                kind,
             });
         }
         if rng.chance(30) {
@@ -210,12 +261,41 @@ impl Writer<'_> {
         }
     }
 
-    /// A damage aimed at a move that changes something.
+    /// A damage aimed at a move: of some that are drawn that which was shown least.
     fn damage(&self, rng: &mut Rng, chosen: Move) -> Option<(Target, Operation)> {
+        let uses_cell = !self.aim(chosen)?.used_entries().is_empty();
+        let drawn: Vec<(Target, Operation)> = (0..DRAWS)
+            .filter_map(|_| self.drawn(rng, chosen, |rng| target(rng, chosen, uses_cell)))
+            .collect();
+        let times = |(target, damage): &(Target, Operation)| self.times(chosen, *target, *damage);
+        drawn.into_iter().min_by_key(times)
+    }
+
+    /// How often a target was shown by moves of a kind with 20, or without, as the
+    /// move answers behind a damage.
+    fn times(&self, chosen: Move, target: Target, damage: Operation) -> usize {
+        let mut damaged = self.player.clone();
+        damaged.play(damage);
+        let answer = damaged.play(Operation::Move(chosen));
+        let is_20 = |answer| answer == Err(MoveRefusal::Damaged);
+        let such = |one: &&Shown| {
+            one.target == target
+                && same_kind(one.chosen, chosen)
+                && Some(is_20(one.answer)) == answer.map(is_20)
+        };
+        self.shown.iter().filter(such).count()
+    }
+
+    /// A damage aimed at a move that changes something, of a target that is drawn.
+    fn drawn(
+        &self,
+        rng: &mut Rng,
+        chosen: Move,
+        mut target: impl FnMut(&mut Rng) -> Target,
+    ) -> Option<(Target, Operation)> {
         let aim = self.aim(chosen)?;
-        let uses_cell = !aim.used_entries().is_empty();
         (0..ATTEMPTS).find_map(|_| {
-            let target = target(rng, chosen, uses_cell);
+            let target = target(rng);
             let damage = aim.draw(rng, target)?;
             let changes = repair(&self.player, damage) != damage;
             changes.then_some((target, damage))
@@ -274,11 +354,15 @@ impl Writer<'_> {
     }
 
     fn waiting_call(&self, rng: &mut Rng) -> Option<usize> {
-        let calls = self.player.run.head.calls.min(MAX_CALLS as u64) as usize;
-        let waiting: Vec<usize> = (0..calls)
-            .filter(|call| self.player.run.state(*call) == WAITING)
-            .collect();
+        let waiting = self.waiting_calls();
         (!waiting.is_empty()).then(|| rng.pick(&waiting))
+    }
+
+    fn waiting_calls(&self) -> Vec<usize> {
+        let calls = self.player.run.head.calls.min(MAX_CALLS as u64) as usize;
+        (0..calls)
+            .filter(|call| self.player.run.state(*call) == WAITING)
+            .collect()
     }
 
     /// Any move, also of workers and calls that there are not.
@@ -304,12 +388,17 @@ impl Writer<'_> {
             },
         }
     }
+
     /// An idle worker begins a waiting call, perhaps too early.
     fn eager_begin(&self, rng: &mut Rng) -> Option<Move> {
-        let head = &self.player.run.head;
-        let workers = head.workers.min(MAX_WORKERS as u64) as usize;
-        let worker = (0..workers).find(|worker| head.held[*worker] == 0)?;
+        let worker = self.idle()?;
         let call = self.waiting_call(rng)?;
         Some(Move::Begin { worker, call })
+    }
+
+    fn idle(&self) -> Option<usize> {
+        let head = &self.player.run.head;
+        let workers = head.workers.min(MAX_WORKERS as u64) as usize;
+        (0..workers).find(|worker| head.held[*worker] == 0)
     }
 }
