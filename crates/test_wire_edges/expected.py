@@ -50,5 +50,6 @@ for i in (0, 1, 63, 64, 127, 128, 191, 192, 255, 256, BIG - 1):
 
 row = {0, 63, 64, 255}
 line('union', *sorted(row), *sorted(row))
-for r, f in [(row, f) for f in (0, 1, 63, 64, 65, 128, 254, 255, 256, BIG - 1)] + [(set(), 0), ({192}, 0)]:
-    line('next', f, min([j for j in r if j >= f], default=256))
+full = set(range(256))
+for r, b in [(row, b) for b in (0, 1, 63, 64, 65, 128, 255, 256, 257, BIG - 1)] + [(full, b) for b in (1, 127, 191, 255, 256)] + [(set(), 256)]:
+    line('count', b, sum(j < b for j in r))

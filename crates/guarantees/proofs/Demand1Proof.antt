@@ -6,6 +6,7 @@ use Rattle.guarantees.proofs.NumbersByCondition.OpeningExact.{opening-e
 use Rattle.guarantees.proofs.NumbersByCondition.OpeningNumbers.{opens-not}
 use Rattle.guarantees.proofs.NumbersByCondition.BeginNumbers.{begin-numbers}
 use Rattle.guarantees.proofs.NumbersByCondition.HeldNumbers.{steps, cancels, cancel-accepted, unmoved}
+use Rattle.guarantees.proofs.NumbersByCondition.FinishNumbers.{finish-accepted, finish-lowers}
 use Rattle.guarantees.proofs.NumbersByCondition.SheetNumbers.{refuses, sheet-writes, unwritten-left}
 
 pub demand-1 : Demand1
@@ -18,6 +19,8 @@ demand-1 =
       steps = steps;
       cancels = cancels;
       cancelled = cancel-accepted;
+      finishes = λ r worker call. finish-accepted r call worker;
+      lowers = λ r worker call. finish-lowers r call worker;
       refuses = refuses;
       writes = sheet-writes;
       cleared = opening-cleared;

@@ -6,16 +6,19 @@ use Prim.Native.Nat.{ℕ, _≤_, _<_}
 use native.Mathlib.Omega.{arith}
 use lib.IntN.{ℤ}
 use Rattle.schedule.specs.declared.Move.{Move}
-use Rattle.schedule.specs.Tally.{Phase, running, finished, Tally, isFinished, hasBegun}
+use Rattle.schedule.specs.Tally.{Phase, running, finished, Tally, isFinished, unfinishedEarlier, hasBegun}
 use Rattle.schedule.specs.Calls as calls
 use Rattle.schedule.specs.Calls.{Calls, done, Laws}
-use Rattle.schedule.specs.Machine.{ended, activity, Machine}
+use Rattle.schedule.specs.Machine.{ended, isEnded, activity, Machine}
 use Rattle.schedule.proofs.RunLaws.{wr-touches}
 use Rattle.schedule.proofs.Expected.{ClosedUnderEarlier}
 use Rattle.schedule.proofs.Valid.{Valid}
+use Rattle.schedule.proofs.Simulation.{agrees-shape}
+use Rattle.schedule.proofs.CountLaws.{count-same}
 use Rattle.schedule.specs.Confluent.{Confluent}
 use Rattle.block.specs.Encoding.{AreBytes}
-use Rattle.machine.specs.Run.{Run, Sizes, heldAt, stateOf}
+use Rattle.machine.specs.Run.{Run, Sizes, heldAt, stateOf, waitCount}
+use Rattle.machine.specs.Waits.{namedIn, finishedIn, countedWaits}
 use Rattle.machine.specs.Step.{cellAt}
 use Rattle.machine.specs.Moves.{moveOf}
 use Rattle.machine.specs.Serial.{serialRunOf}
@@ -24,7 +27,9 @@ use Rattle.guarantees.specs.Agreement.{stateNumber, seatNumber, runAfter
 use Rattle.guarantees.specs.Demand3.{SameReceipt, AtSerialPoint, Forwards, Closes, Demand3, Demand3Holds}
 use Rattle.guarantees.proofs.FollowingMachine.RunMatches as matching
 use Rattle.guarantees.proofs.AcceptedOpening.AfterOpening.{AfterOpening, after-opening}
-use Rattle.guarantees.proofs.FollowingMachine.OpenedRuns.{openedRun, openedCalls, OpenedMatches}
+use Rattle.guarantees.proofs.FollowingMachine.OpenedRuns.{openedRun, openedCalls, OpenedMatches, base}
+use Rattle.guarantees.proofs.FollowingMachine.Follows.{call-read, row-read}
+use Rattle.guarantees.proofs.FollowingMachine.BeginByRow.{begin-by-row}
 use Rattle.guarantees.proofs.FollowingMachine.MoveMatches.{move-matches}
 use Rattle.guarantees.proofs.SerialAndRule.ChosenRun.{ran, ran-is, underway, underway-is}
 use Rattle.guarantees.proofs.SerialAndRule.SerialRunOfFile.{opened-laws, opened-good, serially-matches, alone-matches, stepped-matches}
@@ -79,6 +84,9 @@ module _ (s : Sizes) (file : List ℕ) (workers : ℕ) (bytes : AreBytes file) (
   stands : OpenedMatches s file workers M r
   stands = behind-matches s file workers bytes after sized ms
 
+  start : matching.Base file workers n (isBefore file) r₀
+  start = base s file workers after
+
   -- The serial run, and the state that it stands for.
   abbrev serialMachine : Machine Y
   serialMachine = ran Y s₀ (λ i. true) n
@@ -106,6 +114,25 @@ module _ (s : Sizes) (file : List ℕ) (workers : ℕ) (bytes : AreBytes file) (
       seat-holds file workers n (isBefore file) r₀ M r stands w l
       ∙ ap seatNumber (conf .same-seats w)
       ∙ sym (ap (λ (t : Tally). seatNumber (t .seat w)) tallied)
+
+  -- ---- the numbers that calls carry
+
+  ended-is : (c : ℕ) → isEnded (M .call c) ≡ isFinished (tallyAfter file workers ms .phase c)
+  ended-is c =
+      let a = agreed s file workers bytes after sized ms in
+      ap isEnded (a .stands c) ∙ agrees-shape Y laws workers s₀ good T M a c .ends ∙ ap isFinished (sym (phase-is c))
+
+  counts : (c : ℕ) → c < n → waitCount (r .status) c ≡ unfinishedEarlier (isBefore file) (λ i. isFinished (tallyAfter file workers ms .phase i)) c c
+  counts c l = stands .waits c l ∙ count-same (isBefore file) _ c (isBefore file) _ c (λ i less. refl) (λ i less. ended-is i)
+
+  -- The row has the earlier conflicting calls, and the states say which are finished.
+  counted : (c : ℕ) → c < n → waitCount (r .status) c ≡ countedWaits (r .plan) (r .status) c
+  counted c l =
+      stands .waits c l
+      ∙ sym
+      (count-same (namedIn (r .plan)) (finishedIn (r .status)) c (isBefore file) (λ i. isEnded (M .call i)) c
+      (λ i less. row-read file workers n (isBefore file) r₀ start M r stands i c less l)
+      (λ i less. call-read file workers n (isBefore file) r₀ start M r stands i (omega arith) .ends))
 
   -- ---- finished calls
 
@@ -230,6 +257,9 @@ module _ (s : Sizes) (file : List ℕ) (workers : ℕ) (bytes : AreBytes file) (
         answers = answers-are s file workers bytes after sized ms;
         states = λ c l. states c l;
         seats = seats;
+        counts = counts;
+        counted = counted;
+        by-row = begin-by-row file workers n (isBefore file) r₀ start M r stands;
         never-damaged = no-twenty s file workers bytes after sized ms;
         receipts = λ c l e. receipts c l (phased c finished e);
         steps = λ c l e. finished-steps c l (phased c finished e);

@@ -3,9 +3,11 @@ pub mod RunMatches
 pub mod OpenedRuns
 pub mod ChangeMatches
 pub mod BufferLaws
+pub mod WaitMatches
 pub mod Follows
 pub mod HeldMatches
 pub mod BeginMatches
+pub mod BeginByRow
 pub mod StepMatches
 pub mod CancelMatches
 pub mod MoveMatches

@@ -1,5 +1,5 @@
 -- The proofs of the statements in specs/: a room for each part of the way, then the theorems. Which rooms lead to which theorem:
---   Demand1Proof          AcceptedOpening, NumbersByCondition
+--   Demand1Proof          AcceptedOpening, NumbersByCondition, and of FollowingMachine the laws of buffers
 --   Demand2Proof          CallsOfRun, AcceptedOpening, FollowingMachine, SerialAndRule, RunAndTally
 --   Demand3Proof          those of Demand2Proof, ClosingSheet
 --   RegisterByTallyProof  Demand3Proof, ClosingSheet, RegisterOutput

@@ -2,6 +2,7 @@
 pub mod ExactTests
 pub mod BeginNumbers
 pub mod HeldNumbers
+pub mod FinishNumbers
 pub mod SheetNumbers
 pub mod OpeningExact
 pub mod ReaderNumbers

@@ -4,8 +4,8 @@
 use mathlib.Core.Path.{_≡_}
 use mathlib.Core.Bool.{true}
 use mathlib.Core.List.{List, [], _∷_}
-use Prim.Native.Nat.{ℕ, suc, _+_, _*_, _%_, _<_, _≤_}
-use lib.IntN.{pos}
+use Prim.Native.Nat.{ℕ, suc, _+_, _-_, _*_, _%_, _<_, _≤_}
+use lib.IntN.{ℤ, pos}
 use lib.ListN.{length, getD, take}
 use lib.Signed.{nonNeg}
 use Rattle.wire.specs.Bytes.{repeated}
@@ -22,11 +22,11 @@ use Rattle.footprint.specs.Access.{Access}
 use Rattle.footprint.specs.Table.{insertKeys}
 use Rattle.analysis.specs.LayoutOfBlock.{allSets, openingKeys}
 use Rattle.block.specs.Outcomes.{lastOutcome, maxCount}
-use Rattle.machine.specs.Run.{Run, Sizes, sizesOf, fixedSizes, heldAt, rowIn, stateOf, statusWord, waiting, finished, outcomeWord, countWord}
+use Rattle.machine.specs.Run.{Run, Sizes, sizesOf, fixedSizes, heldAt, rowIn, stateOf, statusWord, waitCount, waiting, finished, outcomeWord, countWord}
 use Rattle.footprint.specs.Plan.{entryCell, entryWrites, entryFlags}
 use Rattle.machine.specs.Opening.{headOf, openingOf}
-use Rattle.machine.specs.Step.{cellAt}
-use Rattle.machine.specs.Moves.{callKeyCount, ownEntries, beginOf, stepOf, cancelOf, moveOf}
+use Rattle.machine.specs.Step.{done, cellAt}
+use Rattle.machine.specs.Moves.{callKeyCount, ownEntries, beginOf, stepped, stepOf, cancelOf, moveOf}
 use Rattle.machine.specs.declared.Answer.{Answer}
 use Rattle.machine.specs.declared.Answer.the-variants as answer
 use Rattle.sheet.specs.Sheet.{sheetBytes, fieldOf, filled, sheetOf}
@@ -138,10 +138,6 @@ StateIn r call = stateOf (r .status) call ≤ finished
 abbrev pub CallFinished : Run → ℕ → Type 0
 CallFinished r call = stateOf (r .status) call ≡ finished
 
--- The earlier conflicting calls of a call, by its row.
-abbrev pub EarlierConflicting : Run → (call i : ℕ) → Type 0
-EarlierConflicting r call i = (i < call) × (inRow (rowIn (r .plan) call) i ≡ true)
-
 -- An entry has a flag, and where it is written a cell number of the table.
 abbrev pub EntryIn : ℕ → Type 0
 EntryIn e = (e % entryFlags ≡ 0 → ⊥) × (entryWrites e ≡ true → entryCell e < maxKeys)
@@ -174,18 +170,18 @@ pub record Before24 (r : Run) (worker call : ℕ) : Type 0 where
 pub record Before25 (r : Run) (worker call : ℕ) : Type 0 where
   pub so-far : Before24 r worker call
   pub waits : stateOf (r .status) call ≡ waiting
-  pub states : (i : ℕ) → EarlierConflicting r call i → StateIn r i
+  pub number : waitCount (r .status) call ≤ call
 
--- "21 no such worker; 22 no such call; 23 worker holds a call; 24 call not waiting; 25 an earlier conflicting call unfinished": when BEGIN
--- gives each answer, 20 apart.
+-- "21 no such worker; 22 no such call; 23 worker holds a call; 24 call not waiting; 25 an earlier conflicting call unfinished", and M-100: "For 25
+-- BEGIN looks at this number alone": when BEGIN gives each answer, 20 apart.
 abbrev pub BeginGives : Run → (worker call : ℕ) → Answer → Type 0
-BeginGives r worker call answer.Accepted = Before25 r worker call × ((i : ℕ) → EarlierConflicting r call i → CallFinished r i) × EntriesIn r call
+BeginGives r worker call answer.Accepted = Before25 r worker call × (waitCount (r .status) call ≡ 0) × EntriesIn r call
 BeginGives r worker call answer.Damaged = ⊥
 BeginGives r worker call answer.NoWorker = Before21 r × (r .head .workers ≤ worker)
 BeginGives r worker call answer.NoCall = Before22 r worker × (r .head .calls ≤ call)
 BeginGives r worker call answer.WorkerBusy = Before23 r worker call × (heldIn r worker ≡ 0 → ⊥)
 BeginGives r worker call answer.NotWaiting = Before24 r worker call × (stateOf (r .status) call ≡ waiting → ⊥)
-BeginGives r worker call answer.EarlierUnfinished = Before25 r worker call × ((i : ℕ) × EarlierConflicting r call i × (CallFinished r i → ⊥))
+BeginGives r worker call answer.EarlierUnfinished = Before25 r worker call × (waitCount (r .status) call ≡ 0 → ⊥)
 BeginGives r worker call answer.WorkerIdle = ⊥
 BeginGives r worker call answer.CallUnfinished = ⊥
 BeginGives r worker call answer.SheetTooLong = ⊥
@@ -210,6 +206,20 @@ pub record HoldsCall (r : Run) (worker call : ℕ) : Type 0 where
   pub so-far : Before22 r worker
   pub held : heldIn r worker ≡ call + 1
   pub known-call : call < r .head .calls
+
+-- A later call waits for another: its row names it.
+abbrev pub WaitsFor : Run → (call later : ℕ) → Type 0
+WaitsFor r call later = (call < later) × (inRow (rowIn (r .plan) later) call ≡ true)
+
+-- M-100: "one above its call's number, or 0 where it is to be lowered, is 20": the numbers that a finish lowers are none of these.
+abbrev pub Lowerable : Run → (call : ℕ) → Type 0
+Lowerable r call =
+    (later : ℕ) → later < r .head .calls → WaitsFor r call later → (1 ≤ waitCount (r .status) later) × (waitCount (r .status) later ≤ later)
+
+-- "a finish lowers it in each later call whose row names the finished one", and in no other.
+pub record Lowers (r : Run) (call later : ℕ) (after : Run) : Type 0 where
+  pub lowered : WaitsFor r call later → waitCount (after .status) later ≡ waitCount (r .status) later - 1
+  pub kept : (WaitsFor r call later → ⊥) → waitCount (after .status) later ≡ waitCount (r .status) later
 
 -- ---- the sheet
 
@@ -263,6 +273,11 @@ pub record Demand1 : Type 0 where
   pub cancels : (r : Run) (worker : ℕ) (a : Answer) → (a ≡ answer.Accepted → ⊥) → (a ≡ answer.Damaged → ⊥)
       → Exactly (cancelOf r worker .answer ≡ a) (HeldRefuses r worker a)
   pub cancelled : (r : Run) (worker : ℕ) → Exactly (cancelOf r worker .answer ≡ answer.Accepted) ((call : ℕ) × HoldsCall r worker call × EntriesIn r call)
+  -- M-100, of a step that ends a call, with whatever outcome: when it is 20 by the numbers of the calls that wait for it, and what it leaves of them.
+  pub finishes : (r : Run) (worker call outcome count : ℕ) (cells : List ℤ)
+      → Exactly (stepped r worker call (done outcome count cells) .answer ≡ answer.Accepted) (Lowerable r call)
+  pub lowers : (r : Run) (worker call outcome count : ℕ) (cells : List ℤ) → Large (sizesOf r) → CallsIn r → Lowerable r call
+      → (later : ℕ) → later < r .head .calls → Lowers r call later (stepped r worker call (done outcome count cells) .run)
   -- The same of the sheet.
   pub refuses : (r : Run) (output : List ℕ) (a : Answer) → (a ≡ answer.Damaged → ⊥)
       → Exactly (sheetOf r output .answer ≡ Refused a) (SheetRefuses r output a)

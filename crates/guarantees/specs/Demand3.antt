@@ -4,17 +4,19 @@ use mathlib.Core.Bool.{true, false}
 use mathlib.Core.List.{List}
 use Prim.Native.Nat.{ℕ, _<_, _≤_}
 use lib.ListN.{getD}
-use Rattle.schedule.specs.Tally.{running, finished, holds, isFinished, Forward}
+use Rattle.schedule.specs.Tally.{running, finished, holds, isFinished, unfinishedEarlier, Forward}
 use Rattle.schedule.specs.declared.Move.{Move}
 use Rattle.block.specs.Encoding.{AreBytes}
 use Rattle.block.specs.declared.Verdict.the-variants as verdict
-use Rattle.machine.specs.Run.{Run, Sizes, heldAt, stateOf, statusWord, outcomeWord, countWord}
+use Rattle.machine.specs.Run.{Run, Sizes, heldAt, stateOf, statusWord, outcomeWord, countWord, waitCount}
 use Rattle.machine.specs.Opening.{openingOf}
 use Rattle.machine.specs.Step.{cellAt}
-use Rattle.machine.specs.Moves.{localOf, moveOf, answersOf}
+use Rattle.machine.specs.Waits.{countedWaits}
+use Rattle.machine.specs.Moves.{localOf, beginOf, moveOf, answersOf}
+use Rattle.machine.specs.ByRow.{beginByRow}
 use Rattle.machine.specs.declared.Answer.the-variants.{Accepted, CallUnfinished}
 use Rattle.sheet.specs.Sheet.{sheetBytes, unwritten, written, sheetOf}
-use Rattle.guarantees.specs.BlockTally.{stepsIn, tallyAfter, tallyAnswers}
+use Rattle.guarantees.specs.BlockTally.{isBefore, stepsIn, tallyAfter, tallyAnswers}
 use Rattle.guarantees.specs.Agreement.{stateNumber, seatNumber, openedIn, runAfterMoves, stepsSince, mayWrite, serialRunOfFile, finishedAlone, serialPointAfter, SameSheet}
 use Rattle.analysis.specs.LayoutOfBlock.{callCount}
 
@@ -57,6 +59,16 @@ pub record Demand3 (s : Sizes) (file : List ℕ) (workers : ℕ) (ms : List Move
       → stateOf (runAfterMoves s file workers ms .status) call ≡ stateNumber (tallyAfter file workers ms .phase call)
   pub seats : (worker : ℕ) → worker < workers
       → heldAt (runAfterMoves s file workers ms .head) worker ≡ seatNumber (tallyAfter file workers ms .seat worker)
+  -- M-100: "Each call shall carry the number of its earlier conflicting calls still unfinished": by the block and the tally; "It .. stays equal to
+  -- the counted number after every begin, step and cancel": by the row and the states of the run itself.
+  pub counts : (call : ℕ) → call < callCount file
+      → waitCount (runAfterMoves s file workers ms .status) call
+      ≡ unfinishedEarlier (isBefore file) (λ i. isFinished (tallyAfter file workers ms .phase i)) call call
+  pub counted : (call : ℕ) → call < callCount file
+      → waitCount (runAfterMoves s file workers ms .status) call
+      ≡ countedWaits (runAfterMoves s file workers ms .plan) (runAfterMoves s file workers ms .status) call
+  -- "After an opening and moves alone, every answer is that of the row": BEGIN answers and leaves what the test by the row would.
+  pub by-row : (worker call : ℕ) → beginOf (runAfterMoves s file workers ms) worker call ≡ beginByRow (runAfterMoves s file workers ms) worker call
   -- "(none after an opening and moves alone ..)": no answer is 20.
   pub never-damaged : (i : ℕ) → getD (answersOf file (openedIn s file workers) ms) i 0 ≡ 20 → ⊥
   -- "Each finished call has its receipt of the serial run, in as many accepted steps, counted from its last begin."

@@ -15,9 +15,10 @@ use Rattle.block.specs.Record.{headBytes, callRecordBytes, callOf}
 use Rattle.block.specs.declared.CallBody.{CallBody}
 use Rattle.block.specs.declared.CallBody.the-variants.{InRange, OutOfRange}
 use Rattle.footprint.specs.Plan.{codeLength}
-use Rattle.machine.specs.Run.{Run, sizesOf, largeEnough, heldAt, withHeld, placeIn, countIn, planWord, rowIn, stateOf, isState, waiting}
+use Rattle.machine.specs.Run.{Run, sizesOf, largeEnough, heldAt, withHeld, placeIn, countIn, planWord, stateOf, isState, waiting}
+use Rattle.machine.specs.Waits.{waitsLowerable}
 use Rattle.machine.specs.Step.{Stepped, damaged, more, done, restorable, stepCall}
-use Rattle.machine.specs.Moves.{Moved, callKeyCount, ownEntries, earlierBroken, earlierFinished, beginCall, beginChecked, beginOf, viewOf, localOf, stepped, stepRecord, stepHeld, cancelHeld, Held, answered, holds, heldBy, stepFor, cancelFor, stepOf, cancelOf}
+use Rattle.machine.specs.Moves.{Moved, callKeyCount, ownEntries, Waits, waitsByCount, beginCall, beginChecked, beginBy, beginOf, viewOf, localOf, stepped, stepRecord, stepHeld, cancelHeld, Held, answered, holds, heldBy, stepFor, cancelFor, stepOf, cancelOf}
 use Rattle.machine.specs.Serial.{isSerialIdle, stepToEnd, maxSteps, runCall, runCalls}
 use Rattle.machine.specs.declared.Answer.{Answer}
 use Rattle.machine.specs.declared.Head.{Head}
@@ -53,18 +54,18 @@ module _ (r : Run) (w : ℕ) where
   -- ---- BEGIN
 
   module _ (call : ℕ) where
-    begun-change : w < maxWorkers → call + 1 ≤ largestHeld → Changes (beginChecked r w call)
+    begun-change : (waits : Waits) → w < maxWorkers → call + 1 ≤ largestHeld → Changes (beginChecked waits r w call)
     unfolding beginChecked beginCall
-    begun-change here small =
+    begun-change waits here small =
         if-all Changes (not (isState (stateOf (r .status) call))) (λ _. kept refl) λ _.
         if-all Changes (not (eqb (stateOf (r .status) call) waiting)) (λ _. kept refl) λ _.
-        if-all Changes (earlierBroken (rowIn (r .plan) call) (r .status) call) (λ _. kept refl) λ _.
-        if-all Changes (not (earlierFinished (rowIn (r .plan) call) (r .status) call)) (λ _. kept refl) λ _.
+        if-all Changes (waits .broken) (λ _. kept refl) λ _.
+        if-all Changes (waits .unfinished) (λ _. kept refl) λ _.
         if-all Changes (not (restorable (callKeyCount (r .plan) call) (ownEntries (r .plan) call))) (λ _. kept refl) λ _.
         held (call + 1) here small refl
 
     pub begin-change : Changes (beginOf r w call)
-    unfolding beginOf
+    unfolding beginBy
     begin-change =
         if-all Changes (not (largeEnough (sizesOf r)) || eqb (r .head .workers) 0 || ltb maxWorkers (r .head .workers)) (λ _. kept refl) λ sized.
         if-all Changes (leb (r .head .workers) w) (λ _. kept refl) λ here.
@@ -72,7 +73,7 @@ module _ (r : Run) (w : ℕ) where
         if-all Changes (leb (r .head .calls) call) (λ _. kept refl) λ one.
         if-all Changes (ltb (r .head .calls) (heldAt (r .head) w)) (λ _. kept refl) λ _.
         if-all Changes (not (eqb (heldAt (r .head) w) 0)) (λ _. kept refl) λ _.
-        begun-change (among-eight sized here) (omega (arith, ltb-false maxCalls (r .head .calls) few, leb-false (r .head .calls) call one))
+        begun-change (waitsByCount r call) (among-eight sized here) (omega (arith, ltb-false maxCalls (r .head .calls) few, leb-false (r .head .calls) call one))
 
   -- ---- STEP and CANCEL
 
@@ -94,7 +95,8 @@ module _ (r : Run) (w : ℕ) where
     unfolding stepped
     stepped-change damaged = kept refl
     stepped-change (more l cells) = kept refl
-    stepped-change (done outcome count cells) = freed
+    stepped-change (done outcome count cells) =
+        if-all Changes (not (waitsLowerable (r .plan) (r .status) call (r .head .calls))) (λ _. kept refl) (λ _. freed)
 
     record-change : (block : List ℕ) (b : CallBody) → Changes (stepRecord block r w call b)
     unfolding stepRecord

@@ -8,9 +8,10 @@ use Rattle.schedule.specs.declared.Move.the-variants.{Begin, Step, Cancel}
 use Rattle.block.specs.Assemble.{text, joinedParts, STOP, THROW, SET, PUT, function, cell, call, end}
 use Rattle.block.specs.Worked.{P}
 use Rattle.machine.specs.Answer.{answerNumber}
-use Rattle.machine.specs.Run.{Run}
+use Rattle.machine.specs.Run.{Run, waitCount}
 use Rattle.machine.specs.Opening.{openedForEight}
 use Rattle.machine.specs.Moves.{beginOf, stepOf, cancelOf, runAfter, answersOf}
+use Rattle.machine.specs.ByRow.{beginByRow}
 use Rattle.machine.specs.Serial.{serialSteps}
 use Rattle.machine.specs.Damage.{tooShort, planAt, withKeyAt, valueAt, statusAt, frameAt, workersAs, callsAs, firstAs, heldAs, seatAs}
 use Rattle.machine.specs.Computing.{computing}
@@ -27,21 +28,29 @@ begunP = runAfter P startP (Begin 0 0 ∷ [])
 unfoldable pub atPut : Run
 atPut = runAfter P startP (Begin 0 0 ∷ Step 0 ∷ Step 0 ∷ [])
 
+-- It is at the end of its code.
+unfoldable pub atEnd : Run
+atEnd = runAfter P atPut (Step 0 ∷ [])
+
 -- Call 0 is finished.
 unfoldable pub one : Run
-one = runAfter P startP (Begin 0 0 ∷ Step 0 ∷ Step 0 ∷ Step 0 ∷ Step 0 ∷ [])
+one = runAfter P atEnd (Step 0 ∷ [])
 
--- Call 1 at its entry; call 2 before its PAY.
+-- Call 1 at its entry, and before its STOP; call 2 before its PAY.
 unfoldable pub second : Run
 second = runAfter P one (Begin 0 1 ∷ [])
+
+unfoldable pub second′ : Run
+second′ = runAfter P second (Step 0 ∷ Step 0 ∷ Step 0 ∷ [])
 
 unfoldable pub atPay : Run
 atPay = runAfter P one (Begin 0 1 ∷ Step 0 ∷ Step 0 ∷ Step 0 ∷ Step 0 ∷ Begin 0 2 ∷ Step 0 ∷ Step 0 ∷ [])
 
--- A call before the THROW behind its PUT.
+-- A call before the THROW behind its PUT, and one that waits for it.
 unfoldable pub thrower : List ℕ
 thrower =
-    joinedParts (function 32768 0 (PUT 0 1 0 ∷ THROW ∷ []) ∷ cell 32768 1 0 0 (pos 9) ∷ call 5 32768 0 (pos 0) ∷ end ∷ [])
+    joinedParts
+    (function 32768 0 (PUT 0 1 0 ∷ THROW ∷ []) ∷ cell 32768 1 0 0 (pos 9) ∷ call 5 32768 0 (pos 0) ∷ call 5 32768 0 (pos 0) ∷ end ∷ [])
 
 unfoldable pub atThrow : Run
 atThrow = runAfter thrower (openedForEight thrower) (Begin 0 0 ∷ Step 0 ∷ Step 0 ∷ [])
@@ -90,12 +99,11 @@ unfolding computing text joinedParts P thrower endings startP begunP atPut atThr
 moves-of-p = record { answered = refl; cancelled = refl; restored-head = refl; restored-cells = refl; restored-status = refl; left-seat = refl; left-frame = refl; thrown = refl; receipt = refl; stepped = refl }
 
 pub record Damaged : Type 0 where
-  -- BEGIN: the sizes, the workers (then 21), the calls (then 22), the held call (then 23), the call's state (then 24), the states of
-  -- earlier conflicting calls (then 25), the number of keys, and of each entry the flags and, where it is written, the cell number.
+  -- BEGIN: the sizes, the workers (then 21), the calls (then 22), the held call (then 23), the call's state (then 24), the number of
+  -- calls that it waits for (then 25), the number of keys, and of each entry the flags and, where it is written, the cell number.
   pub begin-sizes : begins 0 0 (tooShort startP) ≡ 20 ∷ 20 ∷ 20 ∷ 20 ∷ 20 ∷ 20 ∷ []
   pub begin-head : begins 0 0 (workersAs 0 startP ∷ workersAs 9 startP ∷ callsAs 257 startP ∷ heldAs 0 4 startP ∷ heldAs 0 3 startP ∷ []) ≡ 20 ∷ 20 ∷ 20 ∷ 20 ∷ 23 ∷ []
   pub begin-state : begins 0 0 (statusAt 0 3 startP ∷ statusAt 0 2 startP ∷ statusAt 0 1 startP ∷ []) ≡ 20 ∷ 24 ∷ 24 ∷ []
-  pub begin-earlier : begins 0 1 (statusAt 0 3 startP ∷ statusAt 0 1 startP ∷ statusAt 0 2 startP ∷ []) ≡ 20 ∷ 25 ∷ 0 ∷ []
   pub begin-entries : begins 0 1 (planAt 34 25 one ∷ planAt 35 0 one ∷ planAt 35 4098 one ∷ planAt 37 4097 one ∷ []) ≡ 20 ∷ 20 ∷ 20 ∷ 0 ∷ []
   -- What a lower number answers first is not looked at: a damaged number of calls behind 21, a held call that is none behind 22, a damaged state behind 23.
   pub begin-order : begins 8 0 (callsAs 257 startP ∷ []) ++ begins 0 3 (heldAs 0 4 startP ∷ []) ++ begins 0 0 (statusAt 0 3 begunP ∷ []) ≡ 21 ∷ 22 ∷ 23 ∷ []
@@ -121,13 +129,12 @@ pub record Damaged : Type 0 where
   pub cancel-entries : cancels (planAt 2 25 begunP ∷ planAt 3 0 begunP ∷ planAt 3 4098 begunP ∷ frameAt 8 (negsuc 4) begunP ∷ []) ≡ 20 ∷ 20 ∷ 20 ∷ 0 ∷ []
 
 pub damaged : Damaged
-unfolding computing text joinedParts P thrower startP begunP atPut one second atPay atThrow tooShort
+unfolding computing text joinedParts P thrower startP begunP atPut atEnd one second atPay atThrow tooShort
 damaged =
     record {
       begin-sizes = refl;
       begin-head = refl;
       begin-state = refl;
-      begin-earlier = refl;
       begin-entries = refl;
       begin-order = refl;
       step-sizes = refl;
@@ -143,4 +150,59 @@ damaged =
       cancel-sizes = refl;
       cancel-head = refl;
       cancel-entries = refl;
+    }
+
+-- M-100, "Waiting counts kept". In P call 1 waits for 0 and call 2 for 1, so at the opening the calls carry 0, 1 and 1. The number of call n is word 4 * n + 3 of the
+-- status, and its row starts at word 32 * n + 27 of the plan.
+abbrev carried : Run → List ℕ
+carried r = map (waitCount (r .status)) (0 ∷ 1 ∷ 2 ∷ [])
+
+pub record Carried : Type 0 where
+  pub opened : carried startP ≡ 0 ∷ 1 ∷ 1 ∷ []
+  -- Begins and cancels leave them, and so does a step that finishes no call.
+  pub begun : carried begunP ++ carried atEnd ++ carried (runAfter P atEnd (Cancel 0 ∷ [])) ≡ 0 ∷ 1 ∷ 1 ∷ 0 ∷ 1 ∷ 1 ∷ 0 ∷ 1 ∷ 1 ∷ []
+  -- "a finish lowers it in each later call whose row names the finished one", whatever the outcome: call 0 of P with 0, the thrower with 3.
+  pub lowered : carried one ++ carried second ++ carried atPay ≡ 0 ∷ 0 ∷ 1 ∷ 0 ∷ 0 ∷ 1 ∷ 0 ∷ 0 ∷ 0 ∷ []
+  pub lowered-thrown : carried atThrow ++ carried (runAfter thrower atThrow (Step 0 ∷ [])) ≡ 0 ∷ 1 ∷ 0 ∷ 0 ∷ 0 ∷ 0 ∷ []
+  -- BEGIN: "one above its call's number" is 20; a wrong one in its range is believed, either way.
+  pub begin-above : begins 0 1 (statusAt 7 2 one ∷ statusAt 7 (2 ^ 64 - 1) one ∷ statusAt 7 2 startP ∷ []) ++ begins 0 0 (statusAt 3 1 startP ∷ []) ≡ 20 ∷ 20 ∷ 20 ∷ 20 ∷ []
+  pub begin-believed : begins 0 1 (startP ∷ statusAt 7 0 startP ∷ one ∷ statusAt 7 1 one ∷ []) ++ begins 0 2 (statusAt 11 2 startP ∷ []) ≡ 25 ∷ 0 ∷ 0 ∷ 25 ∷ 25 ∷ []
+  -- Neither the states of earlier calls nor the row are looked at; by the row these are answered otherwise.
+  pub begin-unread : begins 0 1 (statusAt 0 3 one ∷ statusAt 0 1 one ∷ planAt 59 0 startP ∷ []) ≡ 0 ∷ 0 ∷ 25 ∷ []
+  pub begin-by-row : map (λ r. answerNumber (beginByRow r 0 1 .answer)) (statusAt 0 3 one ∷ statusAt 0 1 one ∷ planAt 59 0 startP ∷ startP ∷ one ∷ []) ≡ 20 ∷ 25 ∷ 0 ∷ 25 ∷ 0 ∷ []
+  -- What answers before is not followed by a look at the number: 22, 23, 24.
+  pub begin-order : begins 0 3 (statusAt 15 9 startP ∷ []) ++ begins 0 1 (statusAt 7 9 begunP ∷ statusAt 4 1 (statusAt 7 9 startP) ∷ []) ≡ 22 ∷ 23 ∷ 24 ∷ []
+  -- A finish: "one above its call's number, or 0 where it is to be lowered, is 20"; any other is lowered.
+  pub finish-damaged : steps P (statusAt 7 0 atEnd ∷ statusAt 7 2 atEnd ∷ statusAt 7 1 atEnd ∷ []) ≡ 20 ∷ 20 ∷ 0 ∷ []
+  pub throw-damaged : steps thrower (statusAt 7 0 atThrow ∷ statusAt 7 2 atThrow ∷ statusAt 7 1 atThrow ∷ []) ≡ 20 ∷ 20 ∷ 0 ∷ []
+  -- "nothing changes": the THROW whose finish is 20 restores nothing.
+  pub throw-stays : take 1 (stepOf thrower (statusAt 7 0 atThrow) 0 .run .cells) ++ take 1 (stepOf thrower atThrow 0 .run .cells) ≡ pos 0 ∷ pos 9 ∷ []
+  -- Calls that the row does not name are not looked at, nor earlier ones, nor the call itself, nor those that the run does not have; a row that
+  -- names a call is believed, and so is the state of the call that waits.
+  pub finish-unnamed : steps P (statusAt 11 0 atEnd ∷ statusAt 11 9 atEnd ∷ statusAt 3 9 atEnd ∷ statusAt 7 0 (planAt 59 0 atEnd) ∷ statusAt 7 0 (callsAs 1 atEnd) ∷ []) ≡ 0 ∷ 0 ∷ 0 ∷ 0 ∷ 0 ∷ []
+  pub finish-earlier : steps P (statusAt 3 0 (planAt 27 2 second′) ∷ []) ≡ 0 ∷ []
+  pub finish-by-row : carried (runAfter P (planAt 91 3 (statusAt 11 2 (statusAt 4 9 atEnd))) (Step 0 ∷ [])) ≡ 0 ∷ 0 ∷ 1 ∷ []
+  -- A step that goes on and a CANCEL look at none.
+  pub onward-unread : steps P (statusAt 7 0 atPut ∷ statusAt 3 9 atPut ∷ []) ++ cancels (statusAt 7 0 atEnd ∷ statusAt 3 9 atEnd ∷ []) ≡ 0 ∷ 0 ∷ 0 ∷ 0 ∷ []
+
+pub carried-counts : Carried
+unfolding computing text joinedParts P thrower startP begunP atPut atEnd one second second′ atPay atThrow
+carried-counts =
+    record {
+      opened = refl;
+      begun = refl;
+      lowered = refl;
+      lowered-thrown = refl;
+      begin-above = refl;
+      begin-believed = refl;
+      begin-unread = refl;
+      begin-by-row = refl;
+      begin-order = refl;
+      finish-damaged = refl;
+      throw-damaged = refl;
+      throw-stays = refl;
+      finish-unnamed = refl;
+      finish-earlier = refl;
+      finish-by-row = refl;
+      onward-unread = refl;
     }

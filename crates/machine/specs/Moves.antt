@@ -4,14 +4,13 @@
 -- instruction that the run or the block holds, needed by the move and outside its range above, or a balance needed by it below zero or
 -- passing 2^63 - 1 (none after an opening and moves alone; kept old values are restored untested)." "Lowest number first, except that
 -- 20 for a value is tested where the test or the change first uses that value".
-use mathlib.Core.Bool.{Bool, true, false, _&&_, _||_, not}
+use mathlib.Core.Bool.{Bool, _||_, not}
 use mathlib.Core.List.{List, [], _∷_}
-use Prim.Native.Nat.{ℕ, zero, suc, _+_, _-_, _*_}
+use Prim.Native.Nat.{ℕ, _+_, _-_, _*_}
 use lib.Dec.{eqb, leb, ltb}
 use lib.ListN.{drop}
 use Rattle.footprint.specs.Plan.{codeStart, codeLength, keyCount}
 use Rattle.arith.specs.Choice.{if_then_else_}
-use Rattle.wire.specs.Rows.{inRow}
 use Rattle.block.specs.Limits.{maxCalls, maxCode, maxWorkers}
 use Rattle.block.specs.Outcomes.{maxCount}
 use Rattle.block.specs.Record.{headBytes, callRecordBytes, callOf}
@@ -21,7 +20,8 @@ use Rattle.block.specs.declared.CallBody.the-variants.{InRange, OutOfRange}
 use Rattle.schedule.specs.declared.Move.{Move}
 use Rattle.schedule.specs.declared.Move.the-variants.{Begin, Step, Cancel}
 use Rattle.machine.specs.Answer.{answerNumber}
-use Rattle.machine.specs.Run.{Run, sizesOf, largeEnough, heldAt, withHeld, placeIn, countIn, withSeat, regsIn, withRegs, savedIn, withSaved, zeroRegisters, planWord, entriesOf, rowIn, stateOf, isState, withState, withReceipt, waiting, running, finished}
+use Rattle.machine.specs.Run.{Run, sizesOf, largeEnough, heldAt, withHeld, placeIn, countIn, withSeat, regsIn, withRegs, savedIn, withSaved, zeroRegisters, planWord, entriesOf, stateOf, isState, withState, withReceipt, waitCount, waiting, running}
+use Rattle.machine.specs.Waits.{waitsLowerable, waitsLowered}
 use Rattle.machine.specs.Step.{View, Local, Stepped, damaged, more, done, restorable, savedOf, restored, stepCall}
 use Rattle.machine.specs.declared.Answer.{Answer}
 use Rattle.machine.specs.declared.Answer.the-variants.{Accepted, Damaged, NoWorker, NoCall, WorkerBusy, NotWaiting, EarlierUnfinished, WorkerIdle}
@@ -40,15 +40,6 @@ callKeyCount plan call = planWord plan call keyCount
 abbrev pub ownEntries : List ℕ → ℕ → List ℕ
 ownEntries plan call = entriesOf plan call (callKeyCount plan call)
 
--- "25 uses the states of all earlier conflicting calls": among the first n, one is no state; and all are finished.
-unfoldable pub earlierBroken : List ℕ → List ℕ → ℕ → Bool
-earlierBroken row status zero = false
-earlierBroken row status (suc n) = (inRow row n && not (isState (stateOf status n))) || earlierBroken row status n
-
-unfoldable pub earlierFinished : List ℕ → List ℕ → ℕ → Bool
-earlierFinished row status zero = true
-earlierFinished row status (suc n) = (not (inRow row n) || eqb (stateOf status n) finished) && earlierFinished row status n
-
 -- "BEGIN(worker, call): running, at entry, the write set's old values kept."
 unfoldable pub beginCall : Run → ℕ → ℕ → Run
 beginCall r worker call =
@@ -62,24 +53,34 @@ beginCall r worker call =
       frames = withSaved (withRegs (r .frames) worker zeroRegisters) worker (savedOf (ownEntries (r .plan) call) (r .cells));
     }
 
--- The call's state, 24; the states of its earlier conflicting calls, 25; its entries.
-unfoldable pub beginChecked : Run → ℕ → ℕ → Moved
-beginChecked r worker call =
+-- What is found for 25 of a call's earlier conflicting calls: the lent run is damaged there, or one of them is unfinished.
+pub record Waits : Type 0 where
+  pub broken : Bool
+  pub unfinished : Bool
+
+-- M-100: "For 25 BEGIN looks at this number alone"; "one above its call's number .. is 20".
+abbrev pub waitsByCount : Run → ℕ → Waits
+waitsByCount r call =
+    record { broken = ltb call (waitCount (r .status) call); unfinished = not (eqb (waitCount (r .status) call) 0) }
+
+-- The call's state, 24; its earlier conflicting calls, 25; its entries.
+unfoldable pub beginChecked : Waits → Run → ℕ → ℕ → Moved
+beginChecked waits r worker call =
     if not (isState (stateOf (r .status) call))
     then stay r Damaged
     else if not (eqb (stateOf (r .status) call) waiting)
     then stay r NotWaiting
-    else if earlierBroken (rowIn (r .plan) call) (r .status) call
+    else if waits .broken
     then stay r Damaged
-    else if not (earlierFinished (rowIn (r .plan) call) (r .status) call)
+    else if waits .unfinished
     then stay r EarlierUnfinished
     else if not (restorable (callKeyCount (r .plan) call) (ownEntries (r .plan) call))
     then stay r Damaged
     else record { answer = Accepted; run = beginCall r worker call }
 
 -- The number of calls, 22; the worker's held call, 23.
-unfoldable pub beginOf : Run → ℕ → ℕ → Moved
-beginOf r worker call =
+unfoldable pub beginBy : (waits : Run → ℕ → Waits) → Run → ℕ → ℕ → Moved
+beginBy waits r worker call =
     if not (largeEnough (sizesOf r)) || eqb (r .head .workers) 0 || ltb maxWorkers (r .head .workers)
     then stay r Damaged
     else if leb (r .head .workers) worker
@@ -92,7 +93,10 @@ beginOf r worker call =
     then stay r Damaged
     else if not (eqb (heldAt (r .head) worker) 0)
     then stay r WorkerBusy
-    else beginChecked r worker call
+    else beginChecked (waits r call) r worker call
+
+abbrev pub beginOf : Run → ℕ → ℕ → Moved
+beginOf = beginBy waitsByCount
 
 abbrev pub viewOf : List ℕ → Run → ℕ → Call → View
 viewOf block r call body =
@@ -116,7 +120,8 @@ localOf r worker call =
       saved = savedIn (r .frames) worker (callKeyCount (r .plan) call);
     }
 
--- The run after a step of a call on a worker. "A finished or cancelled call frees its worker."
+-- The run after a step of a call on a worker. "A finished or cancelled call frees its worker." M-100: a finish lowers the numbers of the calls that wait
+-- for it; where one cannot be lowered, the lent run is damaged.
 unfoldable pub stepped : Run → ℕ → ℕ → Stepped → Moved
 stepped r worker call damaged = stay r Damaged
 stepped r worker call (more l cells) =
@@ -134,6 +139,9 @@ stepped r worker call (more l cells) =
           };
     }
 stepped r worker call (done outcome count cells) =
+    if not (waitsLowerable (r .plan) (r .status) call (r .head .calls))
+    then stay r Damaged
+    else
     record {
       answer = Accepted;
       run =
@@ -142,7 +150,7 @@ stepped r worker call (done outcome count cells) =
             plan = r .plan;
             keys = r .keys;
             cells = cells;
-            status = withReceipt (r .status) call outcome count;
+            status = waitsLowered (r .plan) call (r .head .calls) (withReceipt (r .status) call outcome count);
             seats = r .seats;
             frames = r .frames;
           };

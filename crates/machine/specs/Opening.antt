@@ -14,6 +14,7 @@ use Rattle.block.specs.declared.Verdict.{Verdict}
 use Rattle.block.specs.declared.Verdict.the-variants as verdict
 use Rattle.footprint.specs.Plan.{Prepared, prepareRead}
 use Rattle.machine.specs.Run.{Run, Sizes, fixedSizes, roomIn, largeEnough}
+use Rattle.machine.specs.Waits.{waitsSet}
 use Rattle.machine.specs.declared.Head.{Head}
 
 pub record Opened : Type 0 where
@@ -41,7 +42,7 @@ refusedRun s why =
           };
     }
 
--- Every call waits and no worker holds one.
+-- Every call waits, with the number of the calls that it waits for, and no worker holds one.
 unfoldable pub openPrepared : Sizes → ℕ → Prepared → Verdict → Opened
 openPrepared s workers p (verdict.Refused why) = refusedRun s why
 openPrepared s workers p verdict.Accepted =
@@ -53,7 +54,7 @@ openPrepared s workers p verdict.Accepted =
             plan = p .plan;
             keys = p .keys;
             cells = p .values;
-            status = repeated (s .status) 0;
+            status = waitsSet (p .plan) (p .calls) (repeated (s .status) 0);
             seats = repeated (s .seats) 0;
             frames = repeated (s .frames) (pos 0);
           };

@@ -124,7 +124,8 @@ rowIn plan call = take rowWords (drop (planWords * call + firstRowWord) plan)
 abbrev pub hasKey : List ℕ → ℕ → ℕ → Bool
 hasKey keys n k = eqb (getD keys (keyWords * n) 0) (highWord k) && eqb (getD keys (keyWords * n + 1) 0) (lowWord k)
 
--- "A call is waiting, running .. or finished": the first word of its status; the next are its outcome and its count.
+-- "A call is waiting, running .. or finished": the first word of its status; the next are its outcome and its count, and the last is "the number of
+-- its earlier conflicting calls still unfinished".
 abbrev pub waiting : ℕ
 waiting = 0
 
@@ -143,6 +144,9 @@ outcomeWord = 1
 abbrev pub countWord : ℕ
 countWord = 2
 
+abbrev pub waitWord : ℕ
+waitWord = 3
+
 abbrev pub statusWord : List ℕ → ℕ → ℕ → ℕ
 statusWord status call k = getD status (statusWords * call + k) 0
 
@@ -159,3 +163,10 @@ withState status call s = set status (statusWords * call) s
 abbrev pub withReceipt : List ℕ → ℕ → ℕ → ℕ → List ℕ
 withReceipt status call outcome count =
     set (set (withState status call finished) (statusWords * call + outcomeWord) outcome) (statusWords * call + countWord) count
+
+-- The number of earlier conflicting calls that a call waits for, as it carries it.
+abbrev pub waitCount : List ℕ → ℕ → ℕ
+waitCount status call = statusWord status call waitWord
+
+abbrev pub withWait : List ℕ → ℕ → ℕ → List ℕ
+withWait status call n = set status (statusWords * call + waitWord) n

@@ -8,7 +8,8 @@ use footprint::layout::PLAN_WORDS;
 ghost use mathlib.Core.Path.{_≡_};
 ghost use Rattle.machine.specs.Run.{largeEnough};
 
-// A call has STATUS_WORDS words of the status: its state, its outcome, its count, and one more.
+// A call has STATUS_WORDS words of the status: its state, its outcome, its count, and the number of its earlier conflicting
+// calls still unfinished.
 pub const STATUS_WORDS: usize = 4;
 
 pub const STATE_WORD: usize = 0;
@@ -16,6 +17,8 @@ pub const STATE_WORD: usize = 0;
 pub const OUTCOME_WORD: usize = 1;
 
 pub const COUNT_WORD: usize = 2;
+
+pub const WAIT_WORD: usize = 3;
 
 // The states.
 pub const WAITING: u64 = 0;

@@ -1,27 +1,26 @@
 -- The mathematics of the proofs of `begin`, over plain variables: the ways of BEGIN are those of its definition.
-use mathlib.Core.Path.{_≡_, refl, sym, _∙_}
+use mathlib.Core.Path.{_≡_, refl, sym, ap, _∙_}
 use mathlib.Core.Bool.{Bool, true, false, not}
 use mathlib.Core.List.{List}
 use Prim.Native.Nat.{ℕ, _+_, _*_, _≤_, _<_}
+use native.Mathlib.Nat.{add-zero}
 use native.Mathlib.Omega.{arith}
 use borrow.Author.Tests.{eq-eqb, ne-eqb, lt-ltb, le-ltb, le-leb, lt-leb, leb-false, ltb-false}
 use lib.Dec.{eqb, leb, ltb}
 use lib.IntN.{ℤ}
-use lib.ListN.{set}
+use lib.ListN.{getD, set}
 use Rattle.arith.specs.Choice.{if_then_else_}
 use Rattle.block.specs.Limits.{maxCalls, maxCallKeys}
-use Rattle.machine.specs.Run.{Run, entriesOf, heldAt, largeEnough, rowIn, sizesOf, stateOf, withHeld, withRegs, withSaved, withSeat, zeroRegisters}
+use Rattle.machine.specs.Run.{Run, entriesOf, heldAt, largeEnough, sizesOf, stateOf, waitCount, withHeld, withRegs, withSaved, withSeat, zeroRegisters}
 use Rattle.machine.specs.Step.{restorable, savedOf}
-use Rattle.machine.specs.Moves.{Moved, stay, callKeyCount, earlierBroken, earlierFinished, beginCall, beginChecked, beginOf}
+use Rattle.machine.specs.Moves.{Moved, stay, callKeyCount, beginCall, beginChecked, beginBy, beginOf}
 use Rattle.machine.specs.declared.Head.{Head}
 use Rattle.machine.specs.declared.Answer.{Answer}
 use Rattle.machine.specs.declared.Answer.the-variants.{Accepted, Damaged, NoCall, WorkerBusy, NotWaiting, EarlierUnfinished}
 use Rattle.moves.specs.Lent.{lent, moved}
-use Rattle.moves.specs.Tests.{unlessRefused, workerTested, headTested, earlierOf, FewKeys}
+use Rattle.moves.specs.Tests.{unlessRefused, workerTested, headTested, beginByCount, FewKeys}
 use Rattle.moves.specs.declared.Tested.{Tested}
 use Rattle.moves.specs.declared.Tested.the-variants.{Passed, Refused}
-use Rattle.moves.specs.declared.Earlier.{Earlier}
-use Rattle.moves.specs.declared.Earlier.the-variants.{Broken, Unfinished, Finished}
 use Rattle.moves.proofs.HeldLaws.{worker-behind}
 
 -- ---- behind tests
@@ -109,74 +108,57 @@ module _ (h : Head) (w c : ℕ) (plan keys status : List ℕ) (cells : List ℤ)
   -- What is left behind the tests of the worker, from the number of calls and the held call.
   abbrev behindWorker : Moved
   behindWorker =
-      unlessRefused (headTested (h .calls) (heldAt h w) c) (stay (lent h plan keys cells status seats frames)) (beginChecked (lent h plan keys cells status seats frames) w c)
+      unlessRefused (headTested (h .calls) (heldAt h w) c) (stay (lent h plan keys cells status seats frames)) (beginByCount (lent h plan keys cells status seats frames) w c)
 
   begin-behind : unlessRefused t (stay (lent h plan keys cells status seats frames)) behindWorker ≡ beginOf (lent h plan keys cells status seats frames) w c
-  unfolding beginOf
+  unfolding beginBy
   begin-behind =
       rw
-      (tested, sized, head-behind (h .calls) (heldAt h w) c (stay (lent h plan keys cells status seats frames)) (beginChecked (lent h plan keys cells status seats frames) w c))
+      (tested, sized, head-behind (h .calls) (heldAt h w) c (stay (lent h plan keys cells status seats frames)) (beginByCount (lent h plan keys cells status seats frames) w c))
       (worker-behind _ _ _ _ _)
 
   pub begin-refused : {a : Answer} → t ≡ Refused a → stay (lent h plan keys cells status seats frames) a ≡ beginOf (lent h plan keys cells status seats frames) w c
   begin-refused e = rw e at begin-behind
 
   pub begin-headed : t ≡ Passed → {n : ℕ} → n ≡ heldAt h w → {u : Tested} → u ≡ headTested (h .calls) n c
-      → unlessRefused u (stay (lent h plan keys cells status seats frames)) (beginChecked (lent h plan keys cells status seats frames) w c)
+      → unlessRefused u (stay (lent h plan keys cells status seats frames)) (beginByCount (lent h plan keys cells status seats frames) w c)
       ≡ beginOf (lent h plan keys cells status seats frames) w c
   begin-headed on own told = rw (told, own) (rw on at begin-behind)
 
--- ---- what the plan and the states tell
+-- ---- what the status and the plan tell
 
--- The answer on the earlier calls leads each one way.
-abbrev onEarlier : {A : Type 0} → Earlier → A → A → A → A
-onEarlier Broken x y z = x
-onEarlier Unfinished x y z = y
-onEarlier Finished x y z = z
-
-on-earlier : {A : Type 0} (row status : List ℕ) (c : ℕ) (x y z : A)
-    → onEarlier (earlierOf row status c) x y z
-    ≡ (if earlierBroken row status c then x else if not (earlierFinished row status c) then y else z)
-unfolding earlierOf
-on-earlier row status c x y z = go (earlierBroken row status c) (earlierFinished row status c)
-  where
-    go : (a b : Bool) → onEarlier (if a then Broken else if b then Finished else Unfinished) x y z ≡ (if a then x else if not b then y else z)
-    go true b = refl
-    go false true = refl
-    go false false = refl
+-- The word that is read is the call's state.
+pub state-at : (status : List ℕ) (c : ℕ) → getD status (4 * c) 0 ≡ stateOf status c
+state-at status c = ap (λ (i : ℕ). getD status i 0) (sym (add-zero (4 * c)))
 
 module _ (h : Head) (plan keys status : List ℕ) (cells : List ℤ) (seats : List ℕ) (frames : List ℤ) (w c : ℕ) {s : ℕ} (state : s ≡ stateOf status c) where
-  pub checked-broken : 2 < s → stay (lent h plan keys cells status seats frames) Damaged ≡ beginChecked (lent h plan keys cells status seats frames) w c
+  pub checked-broken : 2 < s → stay (lent h plan keys cells status seats frames) Damaged ≡ beginByCount (lent h plan keys cells status seats frames) w c
   unfolding beginChecked
   checked-broken l = rw (← state, lt-leb s 2 l)
 
-  pub checked-begun : s ≤ 2 → (s ≡ 0 → ⊥) → stay (lent h plan keys cells status seats frames) NotWaiting ≡ beginChecked (lent h plan keys cells status seats frames) w c
+  pub checked-begun : s ≤ 2 → (s ≡ 0 → ⊥) → stay (lent h plan keys cells status seats frames) NotWaiting ≡ beginByCount (lent h plan keys cells status seats frames) w c
   unfolding beginChecked
   checked-begun l some = rw (← state, le-leb s 2 l, ne-eqb s 0 some)
 
-  -- A waiting call: its earlier conflicting calls, and then its entries.
-  module _ (l : s ≤ 2) (waits : s ≡ 0) {row : List ℕ} (is-row : row ≡ rowIn plan c) {e : Earlier} (is-earlier : e ≡ earlierOf row status c) where
-    waiting : onEarlier e (stay (lent h plan keys cells status seats frames) Damaged) (stay (lent h plan keys cells status seats frames) EarlierUnfinished)
-        (if not (restorable (callKeyCount plan c) (entriesOf plan c (callKeyCount plan c)))
-        then stay (lent h plan keys cells status seats frames) Damaged
-        else moved Accepted (beginCall (lent h plan keys cells status seats frames) w c))
-        ≡ beginChecked (lent h plan keys cells status seats frames) w c
+  -- A waiting call: the number that it carries, and then its entries.
+  module _ (l : s ≤ 2) (waits : s ≡ 0) {m : ℕ} (carries : m ≡ waitCount status c) where
+    pub waiting-broken : c < m → stay (lent h plan keys cells status seats frames) Damaged ≡ beginByCount (lent h plan keys cells status seats frames) w c
     unfolding beginChecked
-    waiting = rw (← state, le-leb s 2 l, eq-eqb s 0 waits, is-earlier, is-row) (on-earlier _ _ _ _ _ _)
+    waiting-broken many = rw (← state, ← carries, le-leb s 2 l, eq-eqb s 0 waits, lt-ltb c m many)
 
-    pub waiting-broken : e ≡ Broken → stay (lent h plan keys cells status seats frames) Damaged ≡ beginChecked (lent h plan keys cells status seats frames) w c
-    waiting-broken f = rw f at waiting
+    pub waiting-unfinished : m ≤ c → (m ≡ 0 → ⊥) → stay (lent h plan keys cells status seats frames) EarlierUnfinished ≡ beginByCount (lent h plan keys cells status seats frames) w c
+    unfolding beginChecked
+    waiting-unfinished few some = rw (← state, ← carries, le-leb s 2 l, eq-eqb s 0 waits, le-ltb c m few, ne-eqb m 0 some)
 
-    pub waiting-unfinished : e ≡ Unfinished → stay (lent h plan keys cells status seats frames) EarlierUnfinished ≡ beginChecked (lent h plan keys cells status seats frames) w c
-    waiting-unfinished f = rw f at waiting
-
-    module _ (f : e ≡ Finished) {n : ℕ} (count : n ≡ callKeyCount plan c) where
-      pub waiting-damaged : false ≡ restorable n (entriesOf plan c n) → stay (lent h plan keys cells status seats frames) Damaged ≡ beginChecked (lent h plan keys cells status seats frames) w c
-      waiting-damaged r = rw (f, ← count, ← r) at waiting
+    module _ (few : m ≤ c) (none : m ≡ 0) {n : ℕ} (count : n ≡ callKeyCount plan c) where
+      pub waiting-damaged : false ≡ restorable n (entriesOf plan c n) → stay (lent h plan keys cells status seats frames) Damaged ≡ beginByCount (lent h plan keys cells status seats frames) w c
+      unfolding beginChecked
+      waiting-damaged r = rw (← state, ← carries, ← count, ← r, le-leb s 2 l, eq-eqb s 0 waits, le-ltb c m few, eq-eqb m 0 none)
 
       pub waiting-good : true ≡ restorable n (entriesOf plan c n)
-          → moved Accepted (beginCall (lent h plan keys cells status seats frames) w c) ≡ beginChecked (lent h plan keys cells status seats frames) w c
-      waiting-good r = rw (f, ← count, ← r) at waiting
+          → moved Accepted (beginCall (lent h plan keys cells status seats frames) w c) ≡ beginByCount (lent h plan keys cells status seats frames) w c
+      unfolding beginChecked
+      waiting-good r = rw (← state, ← carries, ← count, ← r, le-leb s 2 l, eq-eqb s 0 waits, le-ltb c m few, eq-eqb m 0 none)
 
 -- ---- the change
 

@@ -147,8 +147,11 @@ module _ (calls call : ℕ) where
     pub held-holds : calls ≤ maxCalls → call ≤ calls → holds (call - 1) ≡ heldFrom calls call
     held-holds few l = simp (ne-eqb call 0 some, le-ltb maxCalls calls few, le-ltb calls call l)
 
-pub held-known : {c : ℕ} {k : Holding} → k ≡ Holds c → HeldInRun k → c < maxCalls
-held-known e h = rw e at h
+pub held-known : (calls : ℕ) {c : ℕ} {k : Holding} → k ≡ Holds c → HeldInRun calls k → (c < calls) × (calls ≤ maxCalls)
+held-known calls e h = rw e at h
+
+pub held-below : (calls : ℕ) {c : ℕ} {k : Holding} → k ≡ Holds c → HeldInRun calls k → c < maxCalls
+held-below calls e h = let known = held-known calls e h in omega (arith, known .0, known .1)
 
 -- The tests of the worker, and behind them its held call, decide what is held.
 module _ (h : Head) (w : ℕ) (plan keys status : List ℕ) (cells : List ℤ) (seats : List ℕ) (frames : List ℤ) {large : Bool} (sized : large ≡ largeEnough (sizesOf (lent h plan keys cells status seats frames)))

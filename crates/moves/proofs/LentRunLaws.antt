@@ -9,6 +9,7 @@ use lib.Dec.{leb, ltb}
 use lib.IntN.{ℤ}
 use lib.ListN.{length, set, drop, length-drop}
 use Rattle.arith.specs.Choice.{if_then_else_}
+use Rattle.arith.proofs.ChoiceLaws.{if-all}
 use Rattle.block.specs.Limits.{maxCode}
 use Rattle.block.specs.Outcomes.{maxCount, thrown}
 use Rattle.block.specs.Record.{headBytes, callBytes, callRecordBytes, callOf}
@@ -17,7 +18,8 @@ use Rattle.block.specs.declared.Call.{Call}
 use Rattle.block.specs.declared.CallBody.{CallBody}
 use Rattle.block.specs.declared.CallBody.the-variants.{InRange, OutOfRange}
 use Rattle.machine.specs.Run.{Run, entriesOf, heldAt, placeIn, countIn, planWord, regsIn, savedIn, withHeld, withRegs, withSeat, withReceipt, finished}
-use Rattle.machine.specs.Step.{View, Performed, broken, onward, ending, concluded, finish, restorable, restored, stepCall, stepPlace}
+use Rattle.machine.specs.Waits.{waitsLowered, waitsLowerable}
+use Rattle.machine.specs.Step.{View, Performed, broken, onward, ending, Stepped, done, concluded, finish, restorable, restored, stepCall, stepPlace}
 use Rattle.machine.specs.Moves.{Moved, answered, callKeyCount, holds, heldBy, localOf, stay, stepFor, stepHeld, stepOf, stepRecord, stepped, viewOf}
 use Rattle.machine.specs.declared.Answer.{Answer}
 use Rattle.machine.specs.declared.Answer.the-variants.{Accepted, Damaged}
@@ -198,16 +200,35 @@ module _ (head : Head) (plan keys : List ℕ) (cells : List ℤ) (status seats :
     unfolding stepped
     end-damaged high n r = rw (held-kept head w own, finish-damaged (cellView plan keys c) old outcome count cells high (sym (rw (← n) r)))
 
-    pub end-restored : thrown ≤ outcome → {n : ℕ} → n ≡ callKeyCount plan c → true ≡ restorable n (entriesOf plan c n)
-        → {cells′ : List ℤ} {status′ : List ℕ} → cells′ ≡ restored (entriesOf plan c n) (savedIn frames w n) cells → status′ ≡ withReceipt status c outcome count
-        → moved Accepted (lent (withHeld head w 0) plan keys cells′ status′ seats frames) ≡ finished-run
-    unfolding stepped
-    end-restored high n r e f = rw (e, f, n, finish-restored (cellView plan keys c) old outcome count cells high (sym (rw (← n) r)))
+    -- The numbers of the calls that wait for it can be lowered, or not.
+    module _ {calls : ℕ} (called : calls ≡ head .calls) {ok : Bool} (tested : ok ≡ waitsLowerable plan status c calls) where
+      lowerable : waitsLowerable plan status c (head .calls) ≡ ok
+      lowerable = sym (tested ∙ ap (waitsLowerable plan status c) called)
 
-    pub end-kept : outcome < thrown → {status′ : List ℕ} → status′ ≡ withReceipt status c outcome count
-        → moved Accepted (lent (withHeld head w 0) plan keys cells status′ seats frames) ≡ finished-run
-    unfolding stepped
-    end-kept low f = rw (f, finish-kept (cellView plan keys c) old outcome count cells low)
+      done-stays : ok ≡ false → (after : List ℤ) → stay start Damaged ≡ stepped start w c (done outcome count after)
+      unfolding stepped
+      done-stays f after = rw (lowerable, f)
+
+      pub end-stays : ok ≡ false → moved Damaged (lent (withHeld head w held) plan keys cells status seats frames) ≡ finished-run
+      unfolding finish stepped
+      end-stays f =
+          rw (held-kept head w own)
+          (if-all (λ (s : Stepped). stay start Damaged ≡ stepped start w c s) (ltb outcome thrown) (λ e. done-stays f cells)
+          (λ e.
+          if-all (λ (s : Stepped). stay start Damaged ≡ stepped start w c s) (restorable (callKeyCount plan c) (entriesOf plan c (callKeyCount plan c)))
+          (λ g. done-stays f (restored (entriesOf plan c (callKeyCount plan c)) old cells)) (λ g. refl)))
+
+      module _ (can : ok ≡ true) {status′ : List ℕ} (closed : status′ ≡ waitsLowered plan c calls (withReceipt status c outcome count)) where
+        pub end-restored : thrown ≤ outcome → {n : ℕ} → n ≡ callKeyCount plan c → true ≡ restorable n (entriesOf plan c n)
+            → {cells′ : List ℤ} → cells′ ≡ restored (entriesOf plan c n) (savedIn frames w n) cells
+            → moved Accepted (lent (withHeld head w 0) plan keys cells′ status′ seats frames) ≡ finished-run
+        unfolding stepped
+        end-restored high n r e =
+            rw (e, closed, called, n, finish-restored (cellView plan keys c) old outcome count cells high (sym (rw (← n) r)), lowerable, can)
+
+        pub end-kept : outcome < thrown → moved Accepted (lent (withHeld head w 0) plan keys cells status′ seats frames) ≡ finished-run
+        unfolding stepped
+        end-kept low = rw (closed, called, finish-kept (cellView plan keys c) old outcome count cells low, lowerable, can)
 
   -- A turn.
   module _ (t : Turn) where

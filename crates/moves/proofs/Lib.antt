@@ -1,7 +1,7 @@
 -- The mathematics of the code, in the order of a move: the first tests, the entries, BEGIN; the lookup, an action, a step; CANCEL.
 mod HeldLaws
 mod EntryLaws
-mod EarlierLaws
+mod WaitCodeLaws
 mod BeginLaws
 mod LookupCodeLaws
 mod ViewCodeLaws

@@ -1,6 +1,6 @@
 -- What STEP and CANCEL test of what the worker holds, in the type of their definition, and what is known of the held call.
 use mathlib.Core.Bool.{_||_}
-use Prim.Native.Nat.{ℕ, _-_, _<_}
+use Prim.Native.Nat.{ℕ, _-_, _≤_, _<_}
 use lib.Dec.{eqb, ltb}
 use Rattle.arith.specs.Choice.{if_then_else_}
 use Rattle.block.specs.Limits.{maxCalls}
@@ -22,7 +22,7 @@ heldFrom calls call =
     then definition.answered Damaged
     else definition.holds (call - 1)
 
--- A held call is one of at most 256.
-abbrev pub HeldInRun : Holding → Type 0
-HeldInRun (Answered a) = Unit {0}
-HeldInRun (Holds call) = call < maxCalls
+-- A held call is one of the run, which has at most 256.
+abbrev pub HeldInRun : (calls : ℕ) → Holding → Type 0
+HeldInRun calls (Answered a) = Unit {0}
+HeldInRun calls (Holds call) = (call < calls) × (calls ≤ maxCalls)

@@ -1,17 +1,15 @@
 -- What the tests of a move find, as the code answers it: how a move goes on behind them.
 use mathlib.Core.Bool.{Bool, _||_, not}
-use mathlib.Core.List.{List}
 use Prim.Native.Nat.{ℕ, _≤_}
 use lib.Dec.{eqb, leb, ltb}
 use Rattle.arith.specs.Choice.{if_then_else_}
 use Rattle.block.specs.Limits.{maxCalls, maxCallKeys, maxWorkers}
-use Rattle.machine.specs.Moves.{earlierBroken, earlierFinished}
+use Rattle.machine.specs.Run.{Run}
+use Rattle.machine.specs.Moves.{Moved, waitsByCount, beginChecked}
 use Rattle.machine.specs.declared.Answer.{Answer}
 use Rattle.machine.specs.declared.Answer.the-variants.{Damaged, NoWorker, NoCall, WorkerBusy}
 use Rattle.moves.specs.declared.Tested.{Tested}
 use Rattle.moves.specs.declared.Tested.the-variants.{Passed, Refused}
-use Rattle.moves.specs.declared.Earlier.{Earlier}
-use Rattle.moves.specs.declared.Earlier.the-variants.{Broken, Unfinished, Finished}
 
 -- What follows tests: a refusal ends the move, else it goes on.
 abbrev pub unlessRefused : {A : Type 0} → Tested → (Answer → A) → A → A
@@ -40,14 +38,9 @@ headTested calls busy call =
     then Refused WorkerBusy
     else Passed
 
--- The earlier conflicting calls of a call, in one answer.
-unfoldable pub earlierOf : List ℕ → List ℕ → ℕ → Earlier
-earlierOf row status call =
-    if earlierBroken row status call
-    then Broken
-    else if earlierFinished row status call
-    then Finished
-    else Unfinished
+-- BEGIN of a call that the tests of the head let through.
+abbrev pub beginByCount : Run → (worker call : ℕ) → Moved
+beginByCount r worker call = beginChecked (waitsByCount r call) r worker call
 
 -- A call whose tests are passed has few enough keys.
 abbrev pub FewKeys : Tested → ℕ → Type 0

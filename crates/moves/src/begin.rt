@@ -1,5 +1,4 @@
-// BEGIN by value: the tests of the worker, of the call and of its earlier conflicting calls, and the change.
-use crate::Earlier;
+// BEGIN by value: the tests of the worker, of the call and of the number that it carries, and the change.
 use crate::Reply;
 use crate::Seated;
 use crate::Tested;
@@ -9,9 +8,8 @@ use crate::entries::save;
 use crate::held::worker_tested;
 use crate::seat::put_regs;
 use crate::seat::put_seat;
+use crate::waits::wait_of;
 use block::limits::MAX_CALLS;
-use footprint::layout::FIRST_ROW_WORD;
-use footprint::layout::PLAN_WORDS;
 use machine::Answer;
 use machine::Head;
 use machine::layout::FINISHED;
@@ -24,15 +22,13 @@ ghost use mathlib.Core.List.{List};
 ghost use Prim.Native.Nat.{ℕ, _≤_, _<_};
 ghost use lib.IntN.{ℤ};
 ghost use lib.ListN.{length};
-ghost use Rattle.arith.specs.Choice.{if_then_else_};
 ghost use Rattle.block.specs.Limits.{maxCalls, maxWorkers};
-ghost use Rattle.machine.specs.Run.{fixedSizes, heldAt, rowIn, stateOf, withHeld};
-ghost use Rattle.machine.specs.Moves.{beginCall, beginChecked, beginOf, callKeyCount, stay};
+ghost use Rattle.machine.specs.Run.{fixedSizes, heldAt, stateOf, withHeld};
+ghost use Rattle.machine.specs.Moves.{beginCall, beginOf, callKeyCount, stay};
 ghost use Rattle.machine.specs.declared.Head.{Head};
 ghost use Rattle.machine.specs.declared.Answer.the-variants.{Accepted};
 ghost use Rattle.moves.specs.Lent.{lent, moved};
-ghost use Rattle.moves.specs.Tests.{unlessRefused, earlierOf, headTested, FewKeys};
-ghost use Rattle.moves.specs.declared.Earlier.the-variants.{Unfinished, Finished};
+ghost use Rattle.moves.specs.Tests.{unlessRefused, headTested, beginByCount, FewKeys};
 
 // The state of a call.
 fn state_of(status: &[u64], call: usize) -> u64
@@ -40,49 +36,6 @@ fn state_of(status: &[u64], call: usize) -> u64
     ensures { λ r. ⌜ r ≡ stateOf (now (status .entry)) call ⌝ }
 {
     wire::word(status, STATUS_WORDS * call)
-}
-
-// The row of a call's earlier conflicting calls.
-fn row_of(plan: &[u64], call: usize) -> [u64; 4]
-    requires { ⌜ call < maxCalls ⌝ }
-    requires { ⌜ fixedSizes .plan ≤ length (now plan) ⌝ }
-    ensures { λ r. ⌜ r ≡ rowIn (now (plan .entry)) call ⌝ }
-{
-    let at = PLAN_WORDS * call + FIRST_ROW_WORD;
-    [plan[at], plan[at + 1], plan[at + 2], plan[at + 3]]
-}
-
-// The states of the earlier calls whose bits are set in a row; only these are looked at.
-fn earlier(row: [u64; 4], status: &[u64], call: usize) -> Earlier
-    requires { ⌜ call < maxCalls ⌝ }
-    ensures { λ r. ⌜ r ≡ earlierOf row (now (status .entry)) call ⌝ }
-{
-    let mut unfinished = false;
-    let mut from = 0;
-    while from < call {
-        let at = wire::row_next(row, from);
-        if call <= at {
-            return settled(unfinished);
-        }
-        let state = state_of(status, at);
-        if FINISHED < state {
-            return Earlier::Broken;
-        }
-        unfinished = unfinished | (state != FINISHED);
-        from = at + 1;
-    }
-    settled(unfinished)
-}
-
-// The answer where every state is one.
-fn settled(unfinished: bool) -> Earlier
-    ensures { λ r. ⌜ r ≡ (if unfinished then Unfinished else Finished) ⌝ }
-{
-    if unfinished {
-        Earlier::Unfinished
-    } else {
-        Earlier::Finished
-    }
 }
 
 // 22 and 23, and 20 for the numbers that these use: the number of calls, and the call that the worker holds.
@@ -104,14 +57,14 @@ fn head_tested(calls: usize, busy: usize, call: usize) -> Tested
     Tested::Passed
 }
 
-// 24, 25, and 20 for what these and the change look at: the states, the number of keys and the entries.
+// 24, 25, and 20 for what these and the change look at: the call's state, the number that it carries, the number of keys and the entries.
 fn call_tested(plan: &[u64], status: &[u64], call: usize) -> Tested
     requires { ⌜ call < maxCalls ⌝ }
     requires { ⌜ fixedSizes .plan ≤ length (now plan) ⌝ }
     ensures { λ r. ⌜ ((head : Head) (keys : List ℕ) (cells : List ℤ) (seats : List ℕ) (frames : List ℤ) (worker : ℕ)
         → unlessRefused r (stay (lent head (now (plan .entry)) keys cells (now (status .entry)) seats frames))
         (moved Accepted (beginCall (lent head (now (plan .entry)) keys cells (now (status .entry)) seats frames) worker call))
-        ≡ beginChecked (lent head (now (plan .entry)) keys cells (now (status .entry)) seats frames) worker call) ⌝ }
+        ≡ beginByCount (lent head (now (plan .entry)) keys cells (now (status .entry)) seats frames) worker call) ⌝ }
     ensures { λ r. ⌜ FewKeys r (callKeyCount (now (plan .entry)) call) ⌝ }
 {
     let state = state_of(status, call);
@@ -121,17 +74,18 @@ fn call_tested(plan: &[u64], status: &[u64], call: usize) -> Tested
     if state != WAITING {
         return Tested::Refused(Answer::NotWaiting);
     }
-    match earlier(row_of(plan, call), status, call) {
-        Earlier::Broken => Tested::Refused(Answer::Damaged),
-        Earlier::Unfinished => Tested::Refused(Answer::EarlierUnfinished),
-        Earlier::Finished => {
-            let n = key_count(plan, call);
-            if restorable(plan, call, n) {
-                Tested::Passed
-            } else {
-                Tested::Refused(Answer::Damaged)
-            }
-        }
+    let waits = wait_of(status, call);
+    if (call as u64) < waits {
+        return Tested::Refused(Answer::Damaged);
+    }
+    if waits != 0 {
+        return Tested::Refused(Answer::EarlierUnfinished);
+    }
+    let n = key_count(plan, call);
+    if restorable(plan, call, n) {
+        Tested::Passed
+    } else {
+        Tested::Refused(Answer::Damaged)
     }
 }
 
@@ -154,7 +108,7 @@ fn begin_call(
         → moved (r .answer)
         (lent (withHeld head worker (r .held)) (now (plan .entry)) keys (now (cells .entry)) (now (status .exit)) (now (seats .exit))
         (now (frames .exit)))
-        ≡ beginChecked
+        ≡ beginByCount
         (lent head (now (plan .entry)) keys (now (cells .entry)) (now (status .entry)) (now (seats .entry)) (now (frames .entry))) worker
         call) ⌝ }
 {

@@ -30,7 +30,7 @@ pub(crate) fn worker_tested(workers: usize, large: bool, worker: usize) -> Teste
 // 26, and 20 for a held call that is none of the run; else the held call. `call` is what the head has for the worker.
 pub(crate) fn held_call(calls: usize, call: usize) -> Holding
     ensures { λ r. ⌜ asHeld r ≡ heldFrom calls call ⌝ }
-    ensures { λ r. ⌜ HeldInRun r ⌝ }
+    ensures { λ r. ⌜ HeldInRun calls r ⌝ }
 {
     if call == 0 {
         return Holding::Answered(Answer::WorkerIdle);

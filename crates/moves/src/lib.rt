@@ -8,6 +8,7 @@ mod perform;
 mod place;
 mod seat;
 pub mod step;
+mod waits;
 
 use footprint::Uses;
 use machine::Action;
@@ -36,13 +37,6 @@ pub enum Tested {
 pub enum Holding {
     Answered(Answer),
     Holds(usize),
-}
-
-// The earlier conflicting calls of a call: one has no state, or one is unfinished, or all are finished.
-pub enum Earlier {
-    Broken,
-    Unfinished,
-    Finished,
 }
 
 // Where a step works: the call that runs, its place, and its count.

@@ -20,6 +20,8 @@ use crate::seat::place_of;
 use crate::seat::put_regs;
 use crate::seat::put_seat;
 use crate::seat::regs_of;
+use crate::waits::can_lower;
+use crate::waits::lower;
 use block::Call;
 use block::CallBody;
 use block::limits::MAX_CODE;
@@ -45,6 +47,7 @@ ghost use Rattle.block.specs.Outcomes.{maxCount};
 ghost use Rattle.block.specs.Record.{callRecordBytes, headBytes, callOf};
 ghost use Rattle.footprint.specs.Plan.{codeLength, planWords};
 ghost use Rattle.machine.specs.Run.{fixedSizes, heldAt, planWord, withHeld, withReceipt};
+ghost use Rattle.machine.specs.Waits.{waitsLowered};
 ghost use Rattle.machine.specs.Step.{finish, stepPlace};
 ghost use Rattle.machine.specs.Moves.{stepHeld, stepOf, stepped};
 ghost use Rattle.machine.specs.declared.Answer.the-variants.{Accepted};
@@ -165,6 +168,25 @@ fn put_receipt(status: &mut [u64], call: usize, outcome: u64, count: u64)
     wire::put_word(status, at + 2, count);
 }
 
+// What a finish leaves of the status: the receipt, and the lowered numbers of the calls that wait for it.
+fn close_status(
+    plan: &[u64],
+    status: &mut [u64],
+    call: usize,
+    calls: usize,
+    outcome: u64,
+    count: u64,
+)
+    requires { ⌜ call < calls ⌝ }
+    requires { ⌜ calls ≤ maxCalls ⌝ }
+    requires { ⌜ fixedSizes .plan ≤ length (now plan) ⌝ }
+    ensures { λ r. ⌜ now (status .exit)
+        ≡ waitsLowered (now (plan .entry)) call calls (withReceipt (now (status .entry)) call outcome count) ⌝ }
+{
+    put_receipt(status, call, outcome, count);
+    lower(plan, status, call, calls);
+}
+
 // "A finished or cancelled call frees its worker."
 fn freed() -> Seated
     ensures { λ r. ⌜ r ≡ record { held = 0; answer = Accepted } ⌝ }
@@ -175,9 +197,11 @@ fn freed() -> Seated
     }
 }
 
-// The end of a call. "On 3, 4, 5 the same step restores every cell of the write set"; behind all tests the receipt is written.
+// The end of a call. "On 3, 4, 5 the same step restores every cell of the write set"; behind all tests the receipt is written, and the numbers
+// of the calls that wait for it are lowered.
 fn finish(
     held: u16,
+    calls: usize,
     plan: &[u64],
     cells: &mut [i64],
     status: &mut [u64],
@@ -187,19 +211,26 @@ fn finish(
     outcome: u64,
     count: u64,
 ) -> Seated
-    requires { ⌜ call < maxCalls ⌝ }
+    requires { ⌜ call < calls ⌝ }
+    requires { ⌜ calls ≤ maxCalls ⌝ }
     requires { ⌜ worker < maxWorkers ⌝ }
     requires { ⌜ fixedSizes .plan ≤ length (now plan) ⌝ }
     requires { ⌜ fixedSizes .frames ≤ length (now frames) ⌝ }
-    ensures { λ r. ⌜ ((head : Head) (keys seats : List ℕ) → held ≡ heldAt head worker
+    ensures { λ r. ⌜ ((head : Head) (keys seats : List ℕ) → held ≡ heldAt head worker → calls ≡ head .calls
         → moved (r .answer)
         (lent (withHeld head worker (r .held)) (now (plan .entry)) keys (now (cells .exit)) (now (status .exit)) seats (now (frames .entry)))
         ≡ stepped (lent head (now (plan .entry)) keys (now (cells .entry)) (now (status .entry)) seats (now (frames .entry))) worker call
         (finish (cellView (now (plan .entry)) keys call) (workerSaved (now (plan .entry)) (now (frames .entry)) worker call) outcome count
         (now (cells .entry)))) ⌝ }
 {
+    if !can_lower(plan, status, call, calls) {
+        return Seated {
+            held,
+            answer: Answer::Damaged,
+        };
+    }
     if outcome < THROWN {
-        put_receipt(status, call, outcome, count);
+        close_status(plan, status, call, calls, outcome, count);
         return freed();
     }
     let n = key_count(plan, call);
@@ -210,13 +241,14 @@ fn finish(
         };
     }
     restore(plan, call, n, frames, worker, cells);
-    put_receipt(status, call, outcome, count);
+    close_status(plan, status, call, calls, outcome, count);
     freed()
 }
 
 // What a turn leaves of a run, beside the cells that its place changed.
 fn settle(
     held: u16,
+    calls: usize,
     plan: &[u64],
     cells: &mut [i64],
     status: &mut [u64],
@@ -226,11 +258,12 @@ fn settle(
     call: usize,
     turn: Turn,
 ) -> Seated
-    requires { ⌜ call < maxCalls ⌝ }
+    requires { ⌜ call < calls ⌝ }
+    requires { ⌜ calls ≤ maxCalls ⌝ }
     requires { ⌜ worker < maxWorkers ⌝ }
     requires { ⌜ fixedSizes .plan ≤ length (now plan) ⌝ }
     requires { ⌜ fixedSizes .frames ≤ length (now frames) ⌝ }
-    ensures { λ r. ⌜ ((head : Head) (keys : List ℕ) → held ≡ heldAt head worker
+    ensures { λ r. ⌜ ((head : Head) (keys : List ℕ) → held ≡ heldAt head worker → calls ≡ head .calls
         → moved (r .answer)
         (lent (withHeld head worker (r .held)) (now (plan .entry)) keys (now (cells .exit)) (now (status .exit)) (now (seats .exit))
         (now (frames .exit)))
@@ -254,6 +287,7 @@ fn settle(
         }
         Fate::Over(outcome) => finish(
             held,
+            calls,
             plan,
             cells,
             status,
@@ -312,7 +346,18 @@ pub fn step(
                 worker,
                 call,
             );
-            let after = settle(held, plan, cells, status, seats, frames, worker, call, turn);
+            let after = settle(
+                held,
+                head.calls,
+                plan,
+                cells,
+                status,
+                seats,
+                frames,
+                worker,
+                call,
+                turn,
+            );
             let answer = after.answer;
             next.held[worker] = after.held;
             Reply { head: next, answer }

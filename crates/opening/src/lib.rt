@@ -3,12 +3,20 @@ use analysis::Prepared;
 use block::Refusal;
 use block::Verdict;
 use block::limits::MAX_WORKERS;
+use footprint::layout::FIRST_ROW_WORD;
+use footprint::layout::PLAN_WORDS;
 use machine::Head;
+use machine::layout::STATUS_WORDS;
+use machine::layout::WAIT_WORD;
 use machine::layout::large_enough;
 ghost use mathlib.Core.Path.{_≡_};
+ghost use Prim.Native.Nat.{_≤_, _<_};
 ghost use lib.IntN.{pos};
 ghost use lib.ListN.{length};
 ghost use Rattle.wire.specs.Bytes.{repeated};
+ghost use Rattle.block.specs.Limits.{maxCalls};
+ghost use Rattle.machine.specs.Run.{fixedSizes, rowIn};
+ghost use Rattle.machine.specs.Waits.{waitsSet};
 ghost use Rattle.machine.specs.Opening.{headOf, openingOf};
 ghost use Rattle.opening.specs.Opened.{sizesFor, OpenedAs, testedFor, openedBy, openedNone};
 
@@ -93,6 +101,31 @@ pub fn clear_prepared(plan: &mut [u64], keys: &mut [u64], cells: &mut [i64])
     wire::clear_values(cells);
 }
 
+// The row of a call's earlier conflicting calls.
+fn row_of(plan: &[u64], call: usize) -> [u64; 4]
+    requires { ⌜ call < maxCalls ⌝ }
+    requires { ⌜ fixedSizes .plan ≤ length (now plan) ⌝ }
+    ensures { λ r. ⌜ r ≡ rowIn (now (plan .entry)) call ⌝ }
+{
+    let at = PLAN_WORDS * call + FIRST_ROW_WORD;
+    [plan[at], plan[at + 1], plan[at + 2], plan[at + 3]]
+}
+
+// Each call carries the number of its earlier conflicting calls; none is finished.
+fn set_waits(plan: &[u64], calls: usize, status: &mut [u64])
+    requires { ⌜ calls ≤ maxCalls ⌝ }
+    requires { ⌜ fixedSizes .plan ≤ length (now plan) ⌝ }
+    requires { ⌜ now status ≡ repeated (length (now status)) 0 ⌝ }
+    ensures { λ r. ⌜ now (status .exit) ≡ waitsSet (now (plan .entry)) calls (now (status .entry)) ⌝ }
+{
+    let mut call = 0;
+    while call < calls {
+        let count = wire::row_count(row_of(plan, call), call);
+        wire::put_word(status, STATUS_WORDS * call + WAIT_WORD, count);
+        call += 1;
+    }
+}
+
 // The run of a block for 1 to 8 workers, every call waiting: 20 if a buffer is too short, then 13, then 1 to 12. The head and the buffers
 // are zero if it is refused.
 pub fn open(
@@ -125,6 +158,10 @@ pub fn open(
             clear_prepared(plan, keys, cells);
             refused(why)
         }
-        Verdict::Accepted => answered(analysis::prepare(file, plan, keys, cells), workers),
+        Verdict::Accepted => {
+            let p = analysis::prepare(file, plan, keys, cells);
+            set_waits(plan, p.calls, status);
+            answered(p, workers)
+        }
     }
 }

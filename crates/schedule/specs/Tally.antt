@@ -1,6 +1,6 @@
 -- The tally: what each move is answered, which calls wait, run or are finished, and which call each worker holds,
 -- computed from the numbers of a block and the list of moves alone.
-use Prim.Native.Nat.{ℕ, zero, suc}
+use Prim.Native.Nat.{ℕ, zero, suc, _+_}
 use mathlib.Core.Bool.{Bool, true, false, cond, not, _&&_, _||_}
 use mathlib.Core.List.{List, [], _∷_}
 use lib.Dec.{leb, eqb}
@@ -47,6 +47,11 @@ put f i v j = elim (eqb j i) [ true ↦ v | false ↦ f j ]
 unfoldable pub blocked : (before : ℕ → ℕ → Bool) (done : ℕ → Bool) (call m : ℕ) → Bool
 blocked before done call zero = false
 blocked before done call (suc m) = (before m call && not (done m)) || blocked before done call m
+
+-- How many of the calls below `m` are earlier conflicting calls of `call` and are not done.
+unfoldable pub unfinishedEarlier : (before : ℕ → ℕ → Bool) (done : ℕ → Bool) (call m : ℕ) → ℕ
+unfinishedEarlier before done call zero = 0
+unfinishedEarlier before done call (suc m) = cond (before m call && not (done m)) 1 0 + unfinishedEarlier before done call m
 
 -- "21 no such worker; 22 no such call; 23 worker holds a call; 24 call not waiting; 25 an earlier conflicting call
 -- unfinished; 26 worker holds none"; "The lowest number answers": the number that answers a move, 0 for an accepted one.

@@ -192,12 +192,14 @@ fn slices() {
     end();
 }
 
-// The set bits of a row, found one after the other.
+// The set bits of a row, one after the other.
 fn walk(row: [u64; 4]) {
-    let mut i = wire::row_next(row, 0);
+    let mut i = 0;
     while i < ROW_BITS {
-        number(i as u64);
-        i = wire::row_next(row, i + 1);
+        if wire::row_test(row, i) {
+            number(i as u64);
+        }
+        i += 1;
     }
 }
 
@@ -214,10 +216,10 @@ fn bit_at(i: usize) {
     end();
 }
 
-fn next_at(row: [u64; 4], from: usize) {
-    io::write_all(STDOUT_FILENO, b"next");
-    number(from as u64);
-    number(wire::row_next(row, from) as u64);
+fn count_at(row: [u64; 4], below: usize) {
+    io::write_all(STDOUT_FILENO, b"count");
+    number(below as u64);
+    number(wire::row_count(row, below));
     end();
 }
 
@@ -240,18 +242,23 @@ fn rows() {
     walk(row);
     walk(wire::row_union(row, row));
     end();
-    next_at(row, 0);
-    next_at(row, 1);
-    next_at(row, 63);
-    next_at(row, 64);
-    next_at(row, 65);
-    next_at(row, 128);
-    next_at(row, 254);
-    next_at(row, 255);
-    next_at(row, 256);
-    next_at(row, 18446744073709551615);
-    next_at([0u64; 4], 0);
-    next_at([0u64, 0, 0, 1], 0);
+    count_at(row, 0);
+    count_at(row, 1);
+    count_at(row, 63);
+    count_at(row, 64);
+    count_at(row, 65);
+    count_at(row, 128);
+    count_at(row, 255);
+    count_at(row, 256);
+    count_at(row, 257);
+    count_at(row, 18446744073709551615);
+    let full = [18446744073709551615u64; 4];
+    count_at(full, 1);
+    count_at(full, 127);
+    count_at(full, 191);
+    count_at(full, 255);
+    count_at(full, 256);
+    count_at([0u64; 4], 256);
 }
 
 fn main() {

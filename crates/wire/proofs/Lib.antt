@@ -2,6 +2,6 @@
 pub mod BytesLaws
 pub mod StoringLaws
 pub mod RowLaws
-pub mod NextLaws
+pub mod CountLaws
 mod MaskedBits
 mod Laws

@@ -1,12 +1,11 @@
--- A row with one bit more, the union of two rows, and the next set bit of a row.
+-- A row with one bit more, and the union of two rows; the first position that passes a test, and how many do.
 use mathlib.Core.Bool.{Bool}
 use mathlib.Core.List.{List, [], _∷_}
-use Prim.Native.Nat.{ℕ, zero, suc, _+_, _-_, _/_, _%_, _^_}
+use Prim.Native.Nat.{ℕ, zero, suc, _+_, _/_, _%_, _^_}
 use lib.Bits.{bitOr}
-use lib.Dec.{ltb}
 use lib.ListN.{getD, set}
 use Rattle.arith.specs.Choice.{if_then_else_}
-use Rattle.wire.specs.Rows.{inRow, rowBits}
+use Rattle.wire.specs.Rows.{bit}
 
 -- The row with bit i set as well; a bit past the row changes nothing.
 unfoldable pub withBit : List ℕ → ℕ → List ℕ
@@ -23,6 +22,7 @@ unfoldable pub firstOf : (ℕ → Bool) → ℕ → ℕ → ℕ
 firstOf p zero i = i
 firstOf p (suc n) i = let rest = firstOf p n (i + 1) in if p i then i else rest
 
--- The least set bit at or above a position; the number of bits where there is none.
-unfoldable pub nextBit : List ℕ → ℕ → ℕ
-nextBit ws from = if ltb from rowBits then firstOf (inRow ws) (rowBits - from) from else rowBits
+-- How many positions below a number pass a test.
+unfoldable pub countOf : (ℕ → Bool) → ℕ → ℕ
+countOf p zero = 0
+countOf p (suc i) = bit (p i) + countOf p i

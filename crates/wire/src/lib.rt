@@ -8,8 +8,8 @@ ghost use lib.IntN.{pos};
 ghost use lib.ListN.{length, getD, set};
 ghost use Rattle.arith.specs.Exact.{signed, unsigned};
 ghost use Rattle.wire.specs.Bytes.{readLe, writeLe, repeated};
-ghost use Rattle.wire.specs.Rows.{inRow};
-ghost use Rattle.wire.specs.RowOps.{withBit, unionOf, nextBit};
+ghost use Rattle.wire.specs.Rows.{inRow, inWord, rowBits};
+ghost use Rattle.wire.specs.RowOps.{withBit, unionOf, countOf};
 
 // The byte at a position.
 pub fn byte(s: &[u8], i: usize) -> u8
@@ -250,13 +250,20 @@ pub const ROW_BITS: usize = 256;
 
 pub const ROW_WORDS: usize = 4;
 
-const WORD_BITS: usize = 64;
+pub const WORD_BITS: usize = 64;
 
 // The word in which only the bit of a position is set.
 fn mask(i: usize) -> u64
     ensures { λ r. ⌜ r ≡ 2 ^ (i % 64) ⌝ }
 {
     1 << (i % WORD_BITS)
+}
+
+// Whether the bit of a position is set in its word of a row.
+pub fn word_test(word: u64, i: usize) -> bool
+    ensures { λ r. ⌜ r ≡ inWord word (i % 64) ⌝ }
+{
+    word & mask(i) != 0
 }
 
 // Whether a bit of a row is set; there is none past the row.
@@ -266,7 +273,7 @@ pub fn row_test(row: [u64; 4], i: usize) -> bool
     if ROW_BITS <= i {
         return false;
     }
-    row[i / WORD_BITS] & mask(i) != 0
+    word_test(row[i / WORD_BITS], i)
 }
 
 // The row with one bit set as well; past the row nothing changes.
@@ -287,20 +294,29 @@ pub fn row_union(a: [u64; 4], b: [u64; 4]) -> [u64; 4]
     [a[0] | b[0], a[1] | b[1], a[2] | b[2], a[3] | b[3]]
 }
 
-// The least set bit at or above a position, or 256: a word at a time, by the zeros below its lowest bit.
-pub fn row_next(row: [u64; 4], from: usize) -> usize
-    ensures { λ r. ⌜ r ≡ nextBit row from ⌝ }
+// How many of the first n bits of a row are set: those of the whole words, and those of the word that they end in.
+fn count_within(row: [u64; 4], n: usize) -> u64
+    requires { ⌜ n ≤ rowBits ⌝ }
+    ensures { λ r. ⌜ r ≡ countOf (inRow row) n ⌝ }
 {
-    if ROW_BITS <= from {
-        return ROW_BITS;
+    let mut count = 0;
+    let mut w = 0;
+    while w < n / WORD_BITS {
+        count += u64::count_ones(row[w]) as u64;
+        w += 1;
     }
-    let mut at = from;
-    while at < ROW_BITS {
-        let rest = row[at / WORD_BITS] >> (at % WORD_BITS);
-        if rest != 0 {
-            return at + u64::trailing_zeros(rest) as usize;
-        }
-        at = (at / WORD_BITS + 1) * WORD_BITS;
+    if w == ROW_WORDS {
+        return count;
     }
-    ROW_BITS
+    count + u64::count_ones(row[w] % mask(n)) as u64
+}
+
+// How many bits of a row below a position are set; there are none past the row.
+pub fn row_count(row: [u64; 4], below: usize) -> u64
+    ensures { λ r. ⌜ r ≡ countOf (inRow row) below ⌝ }
+{
+    if ROW_BITS < below {
+        return count_within(row, ROW_BITS);
+    }
+    count_within(row, below)
 }

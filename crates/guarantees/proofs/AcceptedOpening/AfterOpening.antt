@@ -30,9 +30,11 @@ use Rattle.analysis.specs.LayoutOfBlock.{blockIn, blockOf, allSets, openingKeys
 use Rattle.analysis.proofs.CollectedLaws.{Complete, analysed-complete}
 use Rattle.analysis.specs.Masks.{EveryListed}
 use Rattle.machine.specs.Run.{Run, Sizes, sizesOf, largeEnough, rowIn}
+use Rattle.machine.specs.Waits.{waitsSet}
 use Rattle.machine.specs.Opening.{headOf, openingOf}
 use Rattle.machine.specs.Step.{cellAt}
 use Rattle.machine.specs.CallInRun.{Hold}
+use Rattle.machine.proofs.WaitLaws.{each-length}
 use Rattle.guarantees.proofs.AcceptedOpening.PlanWords.{plans-length}
 use Rattle.guarantees.proofs.AcceptedOpening.OpeningLimit.{opening-limit}
 use Rattle.guarantees.specs.Demand1.{Large}
@@ -46,9 +48,9 @@ pub record OpenedWith (s : Sizes) (file : List ℕ) (workers : ℕ) (b : Block) 
   pub sizes : sizesOf r ≡ s
   pub someWorkers : 0 < workers
   pub fewWorkers : workers ≤ maxWorkers
-  -- The head; every call waits, and no old value is kept.
+  -- The head; every call waits and carries its number, and no old value is kept.
   pub head : r .head ≡ headOf workers (length (b .calls)) (length table) (b .firstCall)
-  pub status : r .status ≡ repeated (s .status) 0
+  pub status : r .status ≡ waitsSet (r .plan) (length (b .calls)) (repeated (s .status) 0)
   pub seats : r .seats ≡ repeated (s .seats) 0
   pub frames : r .frames ≡ repeated (s .frames) (pos 0)
   -- The table: rising, within its limit, with every key of opening and sets; and the number of calls.
@@ -108,11 +110,13 @@ module _ (s : Sizes) (file : List ℕ) (workers : ℕ) (bytes : (i : ℕ) → ge
       let cells : maxKeys ≤ s .cells = large .cells in
       let words : length (plans (b .functions) table [] (b .calls) (allSets file b)) ≤ s .plan =
       omega (arith, plans-length (b .functions) table [] (b .calls) (allSets file b) same-length (complete .short)) in
+      let status : length (runWith s workers b (allSets file b) table .status) ≡ s .status =
+      each-length _ (repeated (s .status) 0) (length (b .calls)) ∙ length-replicate {A = ℕ} (s .status) 0 in
       λ i. record {
         plan = padded-length (s .plan) 0 (plans (b .functions) table [] (b .calls) (allSets file b)) words i;
         keys = padded-length (s .keys) 0 (tableWords table) (omega (arith, words-length table)) i;
         cells = padded-length (s .cells) (pos 0) (map (openingValue (b .cells)) table) (omega (arith, length-map table (openingValue (b .cells)))) i;
-        status = length-replicate {A = ℕ} (s .status) 0 i;
+        status = status i;
         seats = length-replicate {A = ℕ} (s .seats) 0 i;
         frames = length-replicate {A = ℤ} (s .frames) (pos 0) i;
       }

@@ -25,6 +25,7 @@ use Rattle.footprint.specs.Table.{Analysis}
 use Rattle.footprint.specs.Plan.{Room, Prepared, unprepared, roomEnough, prepareAnalysed, prepareRead, plans, tableWords, openingValue}
 use Rattle.analysis.specs.LayoutOfBlock.{analysisOf}
 use Rattle.machine.specs.Run.{Run, Sizes, fixedSizes, roomIn, largeEnough}
+use Rattle.machine.specs.Waits.{waitsSet}
 use Rattle.machine.specs.Opening.{Opened, headOf, refusedRun, openPrepared, openingOf}
 use Rattle.guarantees.specs.Demand1.{Large, Cleared}
 
@@ -109,7 +110,7 @@ runWith s workers b sets keys =
       plan = padded (s .plan) 0 (plans (b .functions) keys [] (b .calls) sets);
       keys = padded (s .keys) 0 (tableWords keys);
       cells = padded (s .cells) (pos 0) (map (openingValue (b .cells)) keys);
-      status = repeated (s .status) 0;
+      status = waitsSet (padded (s .plan) 0 (plans (b .functions) keys [] (b .calls) sets)) (length (b .calls)) (repeated (s .status) 0);
       seats = repeated (s .seats) 0;
       frames = repeated (s .frames) (pos 0);
     }

@@ -1,60 +1,40 @@
 -- BEGIN on a lent run follows the machine: the tests 20 to 25 answer alike, and an accepted call runs at its entry with its old values kept.
-use mathlib.Core.Path.{_≡_, refl, sym, ap, ap₂, subst⁻¹, _∙_}
-use mathlib.Core.Bool.{Bool, true, false, cond, not, _&&_, _||_}
+use mathlib.Core.Path.{_≡_, refl, sym, ap, subst⁻¹, _∙_}
+use mathlib.Core.Bool.{Bool, true, false, cond, not}
 use mathlib.Core.List.{List}
-use Prim.Native.Nat.{ℕ, zero, suc, _+_, _*_, _≤_, _<_}
+use Prim.Native.Nat.{ℕ, _+_, _*_, _≤_, _<_}
 use native.Mathlib.Omega.{arith}
 use borrow.Author.Tests.{leb-false, le-ltb, not-false}
 use lib.Dec.{eqb, leb, ltb}
 use lib.IntN.{ℤ}
 use lib.ListN.{length}
 use Rattle.wire.proofs.BytesLaws.{stored-length}
-use Rattle.wire.specs.Rows.{inRow}
 use Rattle.block.specs.Limits.{maxCalls, maxCallKeys}
 use Rattle.schedule.proofs.RunLaws.{one-answer}
+use Rattle.schedule.proofs.CountLaws.{count-blocked, count-most}
 use Rattle.schedule.specs.Tally as tally
 use Rattle.schedule.specs.Tally.{blocked, refusal}
 use Rattle.schedule.specs.declared.Move.the-variants.{Begin}
 use Rattle.schedule.specs.Machine as schedule
-use Rattle.schedule.specs.Machine.{active, isReady, isEnded, Machine}
-use Rattle.machine.specs.Run.{Run, registers, frameValues, zeroRegisters, heldAt, withSeat, withRegs, savedIn, withSaved, stateOf, isState, rowIn, withState, running, finished}
+use Rattle.schedule.specs.Machine.{ready, active, ended, isReady, isEnded, Machine}
+use Rattle.machine.specs.Run.{Run, registers, frameValues, zeroRegisters, heldAt, withSeat, withRegs, savedIn, withSaved, stateOf, withState, waitCount, running}
 use Rattle.machine.proofs.StepLaws.{begun-ranged}
 use Rattle.machine.specs.Step.{savedOf}
-use Rattle.machine.specs.Moves.{Moved, callKeyCount, ownEntries, earlierBroken, earlierFinished, beginCall, beginChecked, beginOf}
+use Rattle.machine.specs.Moves.{Moved, callKeyCount, ownEntries, waitsByCount, beginCall, beginChecked, beginBy, beginOf}
 use Rattle.machine.specs.Answer.{answerNumber}
 use Rattle.machine.specs.declared.Answer.the-variants.{NoWorker, NoCall, WorkerBusy, NotWaiting, EarlierUnfinished}
 use Rattle.guarantees.proofs.CallsOfRun.ViewCalls.{atEntry, runView}
-use Rattle.guarantees.proofs.FollowingMachine.RunMatches.{Base, callsIn, Matches}
-use Rattle.guarantees.proofs.FollowingMachine.BufferLaws.{state-here, state-there, state-length, saved-length, seat-length, seat-own, regs-own, old-own, old-leaves-regs, begin-elsewhere}
+use Rattle.guarantees.proofs.FollowingMachine.RunMatches.{CallState, Base, callsIn, Matches}
+use Rattle.guarantees.proofs.FollowingMachine.BufferLaws.{state-here, state-there, state-wait, state-length, saved-length, seat-length, seat-own, regs-own, old-own, old-leaves-regs, begin-elsewhere}
+use Rattle.guarantees.proofs.FollowingMachine.WaitMatches.{waits-kept}
 use Rattle.guarantees.proofs.FollowingMachine.ChangeMatches.{changed, CallChange, change-matches, call-few-keys}
 use Rattle.guarantees.proofs.FollowingMachine.Follows.{Follows, refused, passes, tests, large, sized, SeatRead, follows-seat, StateRead, call-read, can-restore}
 
--- ---- the states of the earlier conflicting calls
-
-none-broken : (row status : List ℕ) (k : ℕ) → ((i : ℕ) → i < k → isState (stateOf status i) ≡ true) → earlierBroken row status k ≡ false
-unfolding earlierBroken
-none-broken row status zero h = refl
-none-broken row status (suc k) h = rw (h k (omega arith)) (go (inRow row k) (none-broken row status k (λ i l. h i (omega arith))))
-  where
-    go : (b : Bool) → earlierBroken row status k ≡ false → ((b && not true) || earlierBroken row status k) ≡ false
-    go true e = e
-    go false e = e
-
--- One earlier call more: all are finished unless it is one to wait for and is not.
-one-more : (a d f : Bool) → not ((not a || d) && f) ≡ ((a && not d) || not f)
-one-more true true f = refl
-one-more true false f = refl
-one-more false d f = refl
-
-finished-blocked : (row status : List ℕ) (before : ℕ → ℕ → Bool) (done : ℕ → Bool) (c k : ℕ)
-    → ((i : ℕ) → i < k → inRow row i ≡ before i c) → ((i : ℕ) → i < k → eqb (stateOf status i) finished ≡ done i)
-    → not (earlierFinished row status k) ≡ blocked before done c k
-unfolding earlierFinished blocked
-finished-blocked row status before done c zero f g = refl
-finished-blocked row status before done c (suc k) f g =
-    one-more (inRow row k) (eqb (stateOf status k) finished) (earlierFinished row status k)
-    ∙ ap₂ (λ (b t : Bool). b || t) (ap₂ (λ (a d : Bool). a && not d) (f k (omega arith)) (g k (omega arith)))
-    (finished-blocked row status before done c k (λ i l. f i (omega arith)) (λ i l. g i (omega arith)))
+-- A call that waits has not ended.
+not-ended : (a : CallState) → isReady a ≡ true → isEnded a ≡ false
+not-ended ready e = refl
+not-ended (active l o) e = refl
+not-ended (ended q) e = one-answer e refl
 
 module _ (file : List ℕ) (workers n : ℕ) (before : ℕ → ℕ → Bool) (r₀ : Run) (base : Base file workers n before r₀)
     (M : Machine (callsIn file n before r₀)) (r : Run) (m : Matches file workers n before r₀ M r) (w c : ℕ) where
@@ -107,7 +87,10 @@ module _ (file : List ℕ) (workers n : ℕ) (before : ℕ → ℕ → Bool) (r�
               let room : 256 * 4 ≤ length (r .status) = large file workers n before r₀ base M r m .status in
               let few : n ≤ 256 = base .fewCalls in
               state-here (r .status) c running (omega arith);
-          others = λ d k x l. state-there (r .status) c running d k x l;
+          others = λ d k x l. state-there (r .status) c running d k x (omega arith);
+          waits =
+              waits-kept file workers n before r₀ base M r m c (active atEntry own-saved) (withState (r .status) c running) (state-wait (r .status) c running)
+              (not-ended (M .call c) waits);
           seated =
               record {
                 holds = refl;
@@ -139,8 +122,15 @@ module _ (file : List ℕ) (workers n : ℕ) (before : ℕ → ℕ → Bool) (r�
   abbrev done : ℕ → Bool
   done i = isEnded (M .call i)
 
+  -- The number that the call carries: at most its index, and 0 unless an earlier conflicting call is unfinished.
+  pub counts-few : c < n → waitsByCount r c .broken ≡ false
+  counts-few call = le-ltb c (waitCount (r .status) c) (rw (m .waits c call) (count-most before done c c))
+
+  pub counts-blocked : c < n → waitsByCount r c .unfinished ≡ blocked before (λ i. isEnded (M .call i)) c c
+  counts-blocked call = ap (λ (k : ℕ). not (eqb k 0)) (m .waits c call) ∙ sym (count-blocked before done c c)
+
   checked : w < workers → c < n → tally.isIdle (M .seat w) ≡ true
-      → Follow (cond (not (isReady (M .call c))) 24 (cond (blocked before done c c) 25 0)) (beginChecked r w c)
+      → Follow (cond (not (isReady (M .call c))) 24 (cond (blocked before done c c) 25 0)) (beginChecked (waitsByCount r c) r w c)
   unfolding beginChecked answerNumber
   checked worker call free =
       let state : StateRead (stateOf (r .status) c) (M .call c) = call-read file workers n before r₀ base M r m c call in
@@ -148,19 +138,15 @@ module _ (file : List ℕ) (workers n : ℕ) (before : ℕ → ℕ → Bool) (r�
       (tests file workers n before r₀ 24 _ _ _ _ (not (isReady (M .call c))) (ap not (state .waits))
       (λ e. refused file workers n before r₀ m NotWaiting 23 refl)
       (λ e.
-      passes file workers n before r₀ _ _ _
-      (none-broken (rowIn (r .plan) c) (r .status) c (λ i l. call-read file workers n before r₀ base M r m i (omega arith) .known))
-      (tests file workers n before r₀ 25 0 _ _ _ (blocked before done c c)
-      (finished-blocked (rowIn (r .plan) c) (r .status) before done c c
-      (λ i l. ap (λ (plan : List ℕ). inRow (rowIn plan c) i) (m .plan) ∙ base .row i c l call)
-      (λ i l. call-read file workers n before r₀ base M r m i (omega arith) .ends))
+      passes file workers n before r₀ _ _ _ (counts-few call)
+      (tests file workers n before r₀ 25 0 _ _ _ (blocked before done c c) (counts-blocked call)
       (λ f. refused file workers n before r₀ m EarlierUnfinished 24 refl)
       (λ f.
       passes file workers n before r₀ _ _ _ (ap not (can-restore file workers n before r₀ base M r m c call))
       (record { same = refl; run = begun worker call free (not-false (isReady (M .call c)) e) })))))
 
   pub begin-follows : Follow (refusal workers n before (λ i. isReady (M .call i)) done (M .seat) (Begin w c)) (beginOf r w c)
-  unfolding refusal beginOf answerNumber
+  unfolding refusal beginBy answerNumber
   begin-follows =
       passes file workers n before r₀ _ _ _ (sized file workers n before r₀ base M r m)
       (tests file workers n before r₀ 21 _ _ _ _ (leb workers w) (ap (λ (k : ℕ). leb k w) (m .workerCount))

@@ -12,7 +12,7 @@ use lib.Seq.{getD-set-same, getD-set-other, getD-take, getD-drop, ext-getD, take
 use Rattle.wire.specs.Bytes.{stored}
 use Rattle.wire.proofs.BytesLaws.{stored-length, stored-inside, stored-before, stored-behind}
 use Rattle.block.specs.Limits.{maxCallKeys}
-use Rattle.machine.specs.Run.{seatWords, registers, frameValues, placeIn, countIn, withSeat, regsIn, withRegs, savedIn, withSaved, statusWords, statusWord, stateOf, withState, withReceipt, finished}
+use Rattle.machine.specs.Run.{seatWords, registers, frameValues, placeIn, countIn, withSeat, regsIn, withRegs, savedIn, withSaved, statusWords, statusWord, stateOf, withState, withReceipt, waitCount, finished}
 use Rattle.machine.specs.Step.{savedOf}
 
 -- ---- status words
@@ -23,6 +23,10 @@ module _ (status : List ℕ) (c : ℕ) where
 
   pub state-there : (s d k : ℕ) → ¬ (d ≡ c) → k < statusWords → statusWord (withState status c s) d k ≡ statusWord status d k
   state-there s d k x l = getD-set-other status (4 * c) (4 * d + k) s 0 (omega arith)
+
+  -- The number of calls that a call waits for stays, its own too.
+  pub state-wait : (s d : ℕ) → waitCount (withState status c s) d ≡ waitCount status d
+  state-wait s d = getD-set-other status (4 * c) (4 * d + 3) s 0 (omega arith)
 
   pub state-length : (s : ℕ) → length (withState status c s) ≡ length status
   state-length s = length-set status (4 * c) s
@@ -41,6 +45,11 @@ module _ (status : List ℕ) (c : ℕ) where
     receipt-there d k x l =
         getD-set-other two (4 * c + 2) (4 * d + k) count 0 (omega arith)
         ∙ getD-set-other one (4 * c + 1) (4 * d + k) outcome 0 (omega arith) ∙ state-there finished d k x l
+
+    pub receipt-wait : (d : ℕ) → waitCount (withReceipt status c outcome count) d ≡ waitCount status d
+    receipt-wait d =
+        getD-set-other two (4 * c + 2) (4 * d + 3) count 0 (omega arith)
+        ∙ getD-set-other one (4 * c + 1) (4 * d + 3) outcome 0 (omega arith) ∙ state-wait finished d
 
     -- The receipt itself.
     pub receipt-here : statusWords * c + 3 < length status

@@ -18,7 +18,8 @@ use Rattle.machine.specs.Answer.{answerNumber}
 use Rattle.machine.specs.declared.Answer.the-variants.{Accepted, Damaged}
 use Rattle.machine.proofs.RestoreLaws.{restored-length}
 use Rattle.guarantees.proofs.FollowingMachine.RunMatches.{Base, callsIn, HoldsRunning, Matches}
-use Rattle.guarantees.proofs.FollowingMachine.BufferLaws.{state-here, state-there, state-length, seat-stays}
+use Rattle.guarantees.proofs.FollowingMachine.BufferLaws.{state-here, state-there, state-wait, state-length, seat-stays}
+use Rattle.guarantees.proofs.FollowingMachine.WaitMatches.{waits-kept}
 use Rattle.guarantees.proofs.FollowingMachine.ChangeMatches.{changed, CallChange, change-matches}
 use Rattle.guarantees.proofs.FollowingMachine.Follows.{Follows, large, can-restore}
 use Rattle.guarantees.proofs.FollowingMachine.HeldMatches.{held-follows}
@@ -45,7 +46,10 @@ module _ (file : List ℕ) (workers n : ℕ) (before : ℕ → ℕ → Bool) (r�
               let few : n ≤ 256 = base .fewCalls in
               let below : c < n = k .call in
               state-here (r .status) c waiting (omega arith);
-          others = λ d j x l. state-there (r .status) c waiting d j x l;
+          others = λ d j x l. state-there (r .status) c waiting d j x (omega arith);
+          waits =
+              waits-kept file workers n before r₀ base M r m c ready (withState (r .status) c waiting) (state-wait (r .status) c waiting)
+              (ap isEnded (k .runs));
           seated = refl;
           elsewhere = λ u x. seat-stays (r .seats) (r .frames) u;
         }

@@ -9,10 +9,10 @@ use lib.ListN.{length, length-set}
 use lib.Seq.{getD-set-same, getD-set-other}
 use Rattle.block.specs.Limits.{maxCallKeys}
 use Rattle.schedule.specs.Tally as tally
-use Rattle.schedule.specs.Tally.{put}
-use Rattle.schedule.specs.Machine.{ready, active, ended, kept, Machine, settleCall}
+use Rattle.schedule.specs.Tally.{put, unfinishedEarlier}
+use Rattle.schedule.specs.Machine.{ready, active, ended, isEnded, kept, Machine, settleCall}
 use Rattle.schedule.proofs.Valid.{put-here, put-there, put-all}
-use Rattle.machine.specs.Run.{Run, sizesOf, heldAt, withHeld, statusWord, statusWords}
+use Rattle.machine.specs.Run.{Run, sizesOf, heldAt, withHeld, statusWord, waitWord, waitCount}
 use Rattle.machine.specs.Moves.{callKeyCount}
 use Rattle.machine.specs.Step.{View}
 use Rattle.guarantees.proofs.CallsOfRun.ViewCalls.{Place, broken, receipt, runView}
@@ -26,7 +26,7 @@ changed r w held cells status seats frames =
 
 -- ---- what a state says of a call stays said by equal words
 
-stands-same : (status old : List ℕ) (c : ℕ) (a : CallState) → ((k : ℕ) → k < statusWords → statusWord status c k ≡ statusWord old c k)
+pub stands-same : (status old : List ℕ) (c : ℕ) (a : CallState) → ((k : ℕ) → k < waitWord → statusWord status c k ≡ statusWord old c k)
     → StatusSays old c a → StatusSays status c a
 stands-same status old c ready same h = same 0 (omega arith) ∙ h
 stands-same status old c (active l o) same h = same 0 (omega arith) ∙ h
@@ -79,7 +79,8 @@ module _ (file : List ℕ) (workers n : ℕ) (before : ℕ → ℕ → Bool) (r�
     pub seatLength : length seats ≡ length (r .seats)
     pub frameLength : length frames ≡ length (r .frames)
     pub stands : StatusSays status c a
-    pub others : (d k : ℕ) → ¬ (d ≡ c) → k < statusWords → statusWord status d k ≡ statusWord (r .status) d k
+    pub others : (d k : ℕ) → ¬ (d ≡ c) → k < waitWord → statusWord status d k ≡ statusWord (r .status) d k
+    pub waits : (d : ℕ) → d < n → waitCount status d ≡ unfinishedEarlier before (λ i. isEnded (put (M .call) c a i)) d d
     pub seated : Seated (runView file r₀ c) held seats frames w c a
     pub elsewhere : (u : ℕ) → ¬ (u ≡ w) → SeatKept (r .seats) seats (r .frames) frames u
 
@@ -178,6 +179,7 @@ module _ (file : List ℕ) (workers n : ℕ) (before : ℕ → ℕ → Bool) (r�
           cells = refl;
           calls = put-all (M .call) c a (λ d q. d < n → StatusSays status d q) (λ l. h .stands)
               (λ d x l. stands-same status (r .status) d (M .call d) (λ k. h .others d k x) (m .calls d l));
+          waits = h .waits;
           idle = put-all (M .seat) w (kept c a) (λ u q. u < workers → q ≡ tally.idle → heldAt (r′ .head) u ≡ 0)
               (λ l e. new-held ∙ freed (runView file r₀ c) held seats frames w c a (h .seated) e) (λ u x l e. old-held u x ∙ m .idle u l e);
           holds = put-all (M .seat) w (kept c a) (λ u q. (d : ℕ) → q ≡ tally.holds d → HoldsRunning file workers n before r₀ M′ r′ u d) held-new held-old;

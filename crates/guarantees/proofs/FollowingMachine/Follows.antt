@@ -13,6 +13,7 @@ use Rattle.schedule.specs.Tally as tally
 use Rattle.schedule.specs.Tally.{unless}
 use Rattle.schedule.specs.Machine.{ready, active, ended, isReady, isEnded, Machine}
 use Rattle.machine.specs.Run.{Run, sizesOf, largeEnough, heldAt, stateOf, isState, waiting, finished}
+use Rattle.machine.specs.Waits.{namedIn}
 use Rattle.footprint.specs.Plan.{entryCell, entryWrites}
 use Rattle.machine.specs.Step.{View, entriesAllowed, restorable}
 use Rattle.machine.specs.Moves.{Moved, stay, callKeyCount, ownEntries}
@@ -102,6 +103,10 @@ module _ (file : List ℕ) (workers n : ℕ) (before : ℕ → ℕ → Bool) (r�
 
     pub call-read : (c : ℕ) → c < n → StateRead (stateOf (r .status) c) (M .call c)
     call-read c l = state-read (r .status) c (M .call c) (m .calls c l)
+
+    -- A call's row names the calls before it.
+    pub row-read : (i c : ℕ) → i < c → c < n → namedIn (r .plan) i c ≡ before i c
+    row-read i c less l = ap (λ (plan : List ℕ). namedIn plan i c) (m .plan) ∙ base .row i c less l
 
     pub can-restore : (c : ℕ) → c < n → restorable (callKeyCount (r .plan) c) (ownEntries (r .plan) c) ≡ true
     can-restore c l =

@@ -7,7 +7,8 @@ use mathlib.Core.Option.{Option, none, some}
 use Prim.Native.Nat.{ℕ, _+_, _*_, _≤_, _<_}
 use native.Mathlib.Omega.{arith}
 use borrow.Author.Tests.{lt-ltb}
-use lib.ListN.{length, getD, drop, length-map}
+use lib.Dec.{eqb}
+use lib.ListN.{length, getD, drop, length-map, length-replicate}
 use Rattle.wire.specs.Bytes.{repeated}
 use Rattle.wire.proofs.BytesLaws.{repeated-at}
 use Rattle.block.specs.Limits.{maxCode, maxCallKeys}
@@ -17,20 +18,25 @@ use Rattle.block.specs.declared.Call.{Call}
 use Rattle.block.specs.declared.CallBody.the-variants.{InRange}
 use Rattle.schedule.specs.Calls.{Calls, Apart}
 use Rattle.schedule.specs.Tally as tally
+use Rattle.schedule.specs.Tally.{unfinishedEarlier}
 use Rattle.schedule.specs.declared.Move.{Move}
 use Rattle.schedule.specs.Machine.{Machine, machineOpening}
+use Rattle.schedule.proofs.CountLaws.{count-same}
 use Rattle.footprint.specs.Conflict.{conflict}
 use Rattle.footprint.specs.Sets.{setsOf}
 use Rattle.block.specs.Naming.{functionOf}
 use Rattle.footprint.specs.Plan.{entryWord, codeWords}
 use Rattle.analysis.specs.LayoutOfBlock.{blockOf, callCount}
 use Rattle.analysis.proofs.MaskLaws.{entriesWait, waits-conflict}
-use Rattle.machine.specs.Run.{Run, Sizes, largeEnough, heldAt, stateOf}
+use Rattle.machine.specs.Run.{Run, Sizes, largeEnough, heldAt, statusWords, stateWord, stateOf, finished, waitCount}
+use Rattle.machine.specs.Waits.{namedIn, finishedIn}
 use Rattle.machine.specs.Moves.{ownEntries, viewOf}
 use Rattle.machine.specs.CallInRun.{madeView}
 use Rattle.machine.specs.Opening.{openingOf}
+use Rattle.machine.proofs.WaitLaws.{each-word, each-new}
 use Rattle.machine.specs.declared.Head.{Head}
 use Rattle.guarantees.proofs.CallsOfRun.ViewCalls.{Proper, Tidy, runView}
+use Rattle.guarantees.proofs.AcceptedOpening.OpeningPassed.{large-sizes}
 use Rattle.guarantees.proofs.AcceptedOpening.OpenedCalls.{CallOpened}
 use Rattle.guarantees.proofs.AcceptedOpening.AfterOpening.{AfterOpening}
 use Rattle.guarantees.proofs.CallsOfRun.SetEntries.{entries-proper, left-apart, right-apart}
@@ -127,6 +133,29 @@ module _ (s : Sizes) (file : List ℕ) (workers : ℕ) (after : AfterOpening s f
         row = λ i c less l. after .opened .waits i c l ∙ ap (λ (t : Bool). t && isBefore file i c) (lt-ltb i c less);
       }
 
+  -- The status: no call has started, and each has the number of its earlier conflicting calls.
+  abbrev n : ℕ
+  n = callCount file
+
+  abbrev zeros : List ℕ
+  zeros = repeated (s .status) 0
+
+  unstarted : (c : ℕ) → stateOf zeros c ≡ 0
+  unstarted c = repeated-at (s .status) _ 0
+
+  status-room : statusWords * n ≤ length zeros
+  unfolding repeated
+  status-room =
+      let room : 256 * 4 ≤ s .status = large-sizes s (after .opened .large) .status in
+      let few : n ≤ 256 = after .opened .fewCalls in
+      rw length-replicate (omega arith)
+
+  opening-waits : (c : ℕ) → c < n → waitCount (r₀ .status) c ≡ unfinishedEarlier (isBefore file) (λ i. false) c c
+  opening-waits c l =
+      ap (λ (status : List ℕ). waitCount status c) (after .opened .status) ∙ each-new _ zeros n c l status-room
+      ∙ count-same (namedIn (r₀ .plan)) (finishedIn zeros) c (isBefore file) (λ i. false) c (λ i less. base .row i c less l)
+      (λ i less. ap (λ (word : ℕ). eqb word finished) (unstarted i))
+
   -- "At the opening every call waits and no worker holds one."
   pub opening-matches : OpenedMatches s file workers (machineOpening (openedCalls s file workers) (r₀ .cells)) r₀
   unfolding repeated
@@ -141,7 +170,8 @@ module _ (s : Sizes) (file : List ℕ) (workers : ℕ) (after : AfterOpening s f
         sizes = refl;
         heldLength = ap (λ (h : Head). length (h .held)) (after .opened .head);
         cells = refl;
-        calls = λ c l. ap (λ (status : List ℕ). stateOf status c) (after .opened .status) ∙ repeated-at (s .status) _ 0;
+        calls = λ c l. ap (λ (status : List ℕ). stateOf status c) (after .opened .status) ∙ each-word _ zeros n c stateWord (omega arith) ∙ unstarted c;
+        waits = opening-waits;
         idle = λ w l e. ap (λ (h : Head). heldAt h w) (after .opened .head) ∙ repeated-at 8 w 0;
         holds = λ w c e. none-held e;
         sole = λ w u c e. none-held e;

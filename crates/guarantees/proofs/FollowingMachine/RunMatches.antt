@@ -12,10 +12,11 @@ use Rattle.block.specs.declared.Call.{Call}
 use Rattle.block.specs.declared.CallBody.the-variants.{InRange}
 use Rattle.schedule.specs.Calls.{Calls}
 use Rattle.schedule.specs.Tally as tally
+use Rattle.schedule.specs.Tally.{unfinishedEarlier}
 use Rattle.schedule.specs.declared.Move.{Move}
 use Rattle.schedule.specs.declared.Move.the-variants.{Begin, Step, Cancel}
-use Rattle.schedule.specs.Machine.{Activity, ready, active, ended, Machine}
-use Rattle.machine.specs.Run.{Run, sizesOf, largeEnough, heldAt, placeIn, countIn, regsIn, savedIn, rowIn, stateOf, statusWord, waiting, running, finished}
+use Rattle.schedule.specs.Machine.{Activity, ready, active, ended, isEnded, Machine}
+use Rattle.machine.specs.Run.{Run, sizesOf, largeEnough, heldAt, placeIn, countIn, regsIn, savedIn, rowIn, stateOf, statusWord, waitCount, waiting, running, finished}
 use Rattle.machine.specs.Step.{View, damaged, stepCall}
 use Rattle.machine.proofs.StepLaws.{Ranged}
 use Rattle.guarantees.proofs.CallsOfRun.ViewCalls.{Place, placeWithSaved, Receipt, broken, receipt, viewCalls, Tidy, runView}
@@ -96,9 +97,10 @@ module _ (file : List ℕ) (workers n : ℕ) (before : ℕ → ℕ → Bool) (r�
     pub first : r .head .«first_call» ≡ r₀ .head .«first_call»
     pub sizes : sizesOf r ≡ sizesOf r₀
     pub heldLength : length (r .head .held) ≡ maxWorkers
-    -- the cells, and each call
+    -- the cells, each call, and the number of calls that it waits for
     pub cells : r .cells ≡ M .cells
     pub calls : (c : ℕ) → c < n → StatusSays (r .status) c (M .call c)
+    pub waits : (c : ℕ) → c < n → waitCount (r .status) c ≡ unfinishedEarlier before (λ i. isEnded (M .call i)) c c
     -- each worker: it is free or holds a running call, which no other holds; and each running call is held
     pub idle : (w : ℕ) → w < workers → M .seat w ≡ tally.idle → heldAt (r .head) w ≡ 0
     pub holds : (w c : ℕ) → M .seat w ≡ tally.holds c → HoldsRunning M r w c

@@ -1,6 +1,6 @@
 -- STEP on a lent run follows the machine: place, count and record pass the tests, and what the step leaves is what the machine's call leaves.
 use mathlib.Core.Path.{_≡_, refl, sym, ap, subst, subst⁻¹, _∙_}
-use mathlib.Core.Bool.{Bool, false, _||_}
+use mathlib.Core.Bool.{Bool, false, not, _||_}
 use mathlib.Core.List.{List}
 use Prim.Native.Nat.{ℕ, _+_, _*_, _≤_, _<_}
 use native.Mathlib.Omega.{arith}
@@ -22,17 +22,20 @@ use Rattle.schedule.specs.Machine as schedule
 use Rattle.schedule.specs.Machine.{active, ended, isReady, isEnded, activity, Machine, settleCall, stepWorker}
 use Rattle.analysis.proofs.GatheredLaws.{if-false}
 use Rattle.machine.specs.Run.{Run, seatWords, registers, frameValues, withHeld, placeIn, countIn, withSeat, withRegs, savedIn, planWord, withReceipt}
+use Rattle.machine.specs.Waits.{waitsLowered}
 use Rattle.machine.specs.Step.{Local, Stepped, damaged, more, done, stepCall}
 use Rattle.machine.specs.Moves.{callKeyCount, ownEntries, viewOf, localOf, stepped, stepRecord, stepHeld, stepFor, stepOf}
 use Rattle.machine.specs.Answer.{answerNumber}
 use Rattle.machine.specs.declared.Head.{Head}
+use Rattle.machine.proofs.WaitLaws.{each-length, each-word}
 use Rattle.machine.proofs.StepLaws.{Ranged, ranged-count, StepLowers, step-lowers}
 use Rattle.guarantees.proofs.CallsOfRun.ViewCalls.{placeWithSaved, receipt, pointOf, runView}
 use Rattle.guarantees.proofs.FollowingMachine.RunMatches.{StatusSays, Base, callsIn, StepWhole, HoldsRunning, Matches}
-use Rattle.guarantees.proofs.FollowingMachine.BufferLaws.{receipt-here, receipt-there, status-length, seat-stays, seat-length, seat-own, regs-length, regs-own, regs-leave-old, step-elsewhere}
+use Rattle.guarantees.proofs.FollowingMachine.BufferLaws.{receipt-here, receipt-there, receipt-wait, status-length, seat-stays, seat-length, seat-own, regs-length, regs-own, regs-leave-old, step-elsewhere}
 use Rattle.guarantees.proofs.CallsOfRun.ViewFrame.{step-keeps}
-use Rattle.guarantees.proofs.FollowingMachine.ChangeMatches.{CallChange, change-matches}
-use Rattle.guarantees.proofs.FollowingMachine.Follows.{Follows, large}
+use Rattle.guarantees.proofs.FollowingMachine.WaitMatches.{waits-kept, waits-lowered, can-lower}
+use Rattle.guarantees.proofs.FollowingMachine.ChangeMatches.{stands-same, CallChange, change-matches}
+use Rattle.guarantees.proofs.FollowingMachine.Follows.{Follows, passes, large}
 use Rattle.guarantees.proofs.FollowingMachine.HeldMatches.{held-follows}
 use Rattle.guarantees.specs.RuleRun.{bodyCall}
 
@@ -94,6 +97,7 @@ module _ (file : List ℕ) (workers n : ℕ) (before : ℕ → ℕ → Bool) (r�
           frameLength = stored-length (l .regs) (r .frames) (frameValues * w);
           stands = subst (StatusSays (r .status) c) (k .runs) (m .calls c (k .call));
           others = λ d j x less. refl;
+          waits = waits-kept file workers n before r₀ base M r m c _ (r .status) (λ d. refl) (ap isEnded (k .runs));
           seated =
               record {
                 holds = refl;
@@ -107,23 +111,30 @@ module _ (file : List ℕ) (workers n : ℕ) (before : ℕ → ℕ → Bool) (r�
         }
 
     done-change : (outcome count : ℕ) (cells : List ℤ) → length cells ≡ length (M .cells)
-        → CallChange file workers n before r₀ base M r w c (ended (receipt outcome count)) 0 cells (withReceipt (r .status) c outcome count) (r .seats) (r .frames)
+        → CallChange file workers n before r₀ base M r w c (ended (receipt outcome count)) 0 cells
+        (waitsLowered (r .plan) c (r .head .calls) (withReceipt (r .status) c outcome count)) (r .seats) (r .frames)
     done-change outcome count cells size =
+        let received : List ℕ = withReceipt (r .status) c outcome count in
+        let status : List ℕ = waitsLowered (r .plan) c (r .head .calls) received in
+        let room : 256 * 4 ≤ length (r .status) = large file workers n before r₀ base M r m .status in
+        let few : n ≤ 256 = base .fewCalls in
+        let below : c < n = k .call in
         record {
           worker = k .worker;
           call = k .call;
           mine = mine;
           sole = λ u f. m .sole u w c f e;
           cellLength = size ∙ ap length (sym (m .cells));
-          statusLength = status-length (r .status) c outcome count;
+          statusLength = each-length _ received (r .head .calls) ∙ status-length (r .status) c outcome count;
           seatLength = refl;
           frameLength = refl;
           stands =
-              let room : 256 * 4 ≤ length (r .status) = large file workers n before r₀ base M r m .status in
-              let few : n ≤ 256 = base .fewCalls in
-              let below : c < n = k .call in
-              receipt-here (r .status) c outcome count (omega arith);
-          others = λ d j x less. receipt-there (r .status) c outcome count d j x less;
+              stands-same status received c (ended (receipt outcome count)) (each-word _ received (r .head .calls) c)
+              (receipt-here (r .status) c outcome count (omega arith));
+          others = λ d j x less. each-word _ received (r .head .calls) d j less ∙ receipt-there (r .status) c outcome count d j x (omega arith);
+          waits =
+              waits-lowered file workers n before r₀ base M r m c (ended (receipt outcome count)) received (receipt-wait (r .status) c outcome count)
+              (ap isEnded (k .runs)) refl (rw (status-length (r .status) c outcome count) (omega arith));
           seated = refl;
           elsewhere = λ u x. seat-stays (r .seats) (r .frames) u;
         }
@@ -165,10 +176,11 @@ module _ (file : List ℕ) (workers n : ℕ) (before : ℕ → ℕ → Bool) (r�
               (change-matches file workers n before r₀ base M r m w c _ (c + 1) cells (r .status) _ _ (more-change l cells (low .lowers .range) eight size));
         }
     stepped-matches whole (done outcome count cells) q low size =
-        record {
+        passes file workers n before r₀ _ _ _ (ap not (can-lower file workers n before r₀ base M r m c (ap isEnded (k .runs))))
+        (record {
           same = refl;
           run = change-matches file workers n before r₀ base M r m w c _ 0 cells _ (r .seats) (r .frames) (done-change outcome count cells size);
-        }
+        })
 
     -- The lent run's view, local state and cells are those of the machine.
     view-same : (call : Call) → callOf (drop (r₀ .head .«first_call» + callRecordBytes * c + headBytes) file) ≡ InRange call

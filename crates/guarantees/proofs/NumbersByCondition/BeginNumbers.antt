@@ -1,24 +1,23 @@
 -- The number of BEGIN: which answer it gives on a lent run, exactly, and that a refusal leaves the run as it was.
 use mathlib.Core.Path.{_≡_, refl, sym, ap, subst, subst⁻¹, _∙_}
-use mathlib.Core.Bool.{Bool, true, false, _&&_, _||_, not, false≢true}
+use mathlib.Core.Bool.{Bool, true, false, _&&_, _||_, not}
 use mathlib.Core.List.{List, [], _∷_}
-use Prim.Native.Nat.{ℕ, _%_, _≤_, _<_}
+use Prim.Native.Nat.{ℕ, _%_}
 use native.Mathlib.Omega.{arith}
 use borrow.Author.Tests.{ltb-false, le-ltb, lt-leb, leb-true, leb-false, le-leb, eqb-true, eqb-false, eq-eqb, ne-eqb, not-true, not-false}
 use lib.Dec.{eqb, leb, ltb}
 use Rattle.arith.specs.Choice.{if_then_else_}
 use Rattle.arith.proofs.ChoiceLaws.{if-all, neither}
-use Rattle.wire.specs.Rows.{inRow}
 use Rattle.block.specs.Limits.{maxCalls, maxCallKeys, maxKeys, maxWorkers}
 use Rattle.block.specs.Encoding.{All}
-use Rattle.machine.specs.Run.{Run, sizesOf, largeEnough, rowIn, stateOf, isState, waiting, finished}
+use Rattle.machine.specs.Run.{Run, sizesOf, largeEnough, stateOf, isState, waitCount, waiting, finished}
 use Rattle.footprint.specs.Plan.{entryCell, entryWrites}
 use Rattle.machine.specs.Step.{entriesAllowed, restorable}
-use Rattle.machine.specs.Moves.{Moved, stay, callKeyCount, ownEntries, earlierBroken, earlierFinished, beginCall, beginChecked, beginOf}
+use Rattle.machine.specs.Moves.{Moved, stay, callKeyCount, ownEntries, beginCall, beginChecked, beginBy, beginOf}
 use Rattle.machine.specs.declared.Answer.{Answer}
 use Rattle.machine.specs.declared.Answer.the-variants as answer
-use Rattle.guarantees.specs.Demand1.{Exactly, heldIn, CallFinished, EarlierConflicting, EntryIn, EntriesIn, Before21, Before22, Before23, Before24, Before25, BeginGives}
-use Rattle.guarantees.proofs.NumbersByCondition.ExactTests.{itself, ltb-exact, leb-exact, eqb-exact, differ-exact, both-exact, under-exact, TestsAll, all-exact}
+use Rattle.guarantees.specs.Demand1.{Exactly, heldIn, EntryIn, EntriesIn, Before21, Before22, Before23, Before24, Before25, BeginGives}
+use Rattle.guarantees.proofs.NumbersByCondition.ExactTests.{itself, ltb-exact, leb-exact, differ-exact, both-exact, under-exact}
 use Rattle.guarantees.proofs.AcceptedOpening.OpeningPassed.{large-sizes, sizes-large}
 
 -- ---- the tests
@@ -48,28 +47,6 @@ sized-exact r = (found, passes)
           workers = (omega arith, ltb-false maxWorkers (r .head .workers) (a .1));
         }
 
--- The states of a call's earlier conflicting calls.
-module _ (row status : List ℕ) where
-  states-exact : (n : ℕ) → TestsAll (not (earlierBroken row status n)) n (λ i. inRow row i ≡ true → stateOf status i ≤ finished)
-  unfolding earlierBroken
-  states-exact =
-      all-exact (λ n. not (earlierBroken row status n)) (λ i. not (inRow row i) || isState (stateOf status i))
-      (λ i. inRow row i ≡ true → stateOf status i ≤ finished) refl
-      (λ n. turned (inRow row n) (isState (stateOf status n)) (earlierBroken row status n))
-      (λ i. under-exact (inRow row i) (isState (stateOf status i)) itself (leb-exact (stateOf status i) finished))
-    where
-      turned : (a b c : Bool) → not ((a && not b) || c) ≡ ((not a || b) && not c)
-      turned true true c = refl
-      turned true false c = refl
-      turned false b c = refl
-
-  finished-exact : (n : ℕ) → TestsAll (earlierFinished row status n) n (λ i. inRow row i ≡ true → stateOf status i ≡ finished)
-  unfolding earlierFinished
-  finished-exact =
-      all-exact (earlierFinished row status) (λ i. not (inRow row i) || eqb (stateOf status i) finished)
-      (λ i. inRow row i ≡ true → stateOf status i ≡ finished) refl (λ n. refl)
-      (λ i. under-exact (inRow row i) (eqb (stateOf status i) finished) itself (eqb-exact (stateOf status i) finished))
-
 -- A call's entries.
 allowed-exact : (es : List ℕ) → Exactly (entriesAllowed es ≡ true) (All EntryIn es)
 unfolding entriesAllowed All
@@ -85,11 +62,6 @@ entries-exact r c =
     both-exact (leb (callKeyCount (r .plan) c) maxCallKeys) (entriesAllowed (ownEntries (r .plan) c)) (leb-exact (callKeyCount (r .plan) c) maxCallKeys)
     (allowed-exact (ownEntries (r .plan) c))
 
--- What a call keeps unless it is in a row fails only of one in it.
-in-row : {A : Type 0} (t : Bool) → ((t ≡ true → A) → ⊥) → t ≡ true
-in-row true h = refl
-in-row false h = absurd (h (λ e. absurd (false≢true e)))
-
 -- ---- BEGIN
 
 pub of-answer : {m m′ : Moved} → m ≡ m′ → m .answer ≡ m′ .answer
@@ -101,13 +73,14 @@ record BeginTold (r : Run) (w c : ℕ) (m : Moved) : Type 0 where
   gives : (m .answer ≡ answer.Damaged → ⊥) → BeginGives r w c (m .answer)
 
 module _ (r : Run) (w c : ℕ) where
-  -- BEGIN from each number on.
-  abbrev row : List ℕ
-  row = rowIn (r .plan) c
+  -- The number that the call carries.
+  abbrev number : ℕ
+  number = waitCount (r .status) c
 
+  -- BEGIN from each number on.
   abbrev from25 : Moved
   from25 =
-      if not (earlierFinished row (r .status) c)
+      if not (eqb number 0)
       then stay r answer.EarlierUnfinished
       else if not (restorable (callKeyCount (r .plan) c) (ownEntries (r .plan) c))
       then stay r answer.Damaged
@@ -117,7 +90,7 @@ module _ (r : Run) (w c : ℕ) where
   from24 =
       if not (eqb (stateOf (r .status) c) waiting)
       then stay r answer.NotWaiting
-      else if earlierBroken row (r .status) c
+      else if ltb c number
       then stay r answer.Damaged
       else from25
 
@@ -136,7 +109,7 @@ module _ (r : Run) (w c : ℕ) where
   from21 = if leb (r .head .workers) w then stay r answer.NoWorker else if ltb maxCalls (r .head .calls) then stay r answer.Damaged else from22
 
   begin-is : beginOf r w c ≡ (if unsized r then stay r answer.Damaged else from21)
-  unfolding beginOf beginChecked
+  unfolding beginBy beginChecked
   begin-is = refl
 
   begin-21 : Before21 r → beginOf r w c ≡ from21
@@ -152,24 +125,16 @@ module _ (r : Run) (w c : ℕ) where
   begin-24 b = begin-23 (b .so-far) ∙ rw (eq-eqb (heldIn r w) 0 (b .idle), le-leb (stateOf (r .status) c) finished (b .state))
 
   begin-25 : Before25 r w c → beginOf r w c ≡ from25
-  begin-25 b =
-      begin-24 (b .so-far)
-      ∙ rw (
-        eq-eqb (stateOf (r .status) c) waiting (b .waits),
-        not-true (earlierBroken row (r .status) c) (states-exact row (r .status) c .every .1 (λ i l m. b .states i (l, m))),
-      )
+  begin-25 b = begin-24 (b .so-far) ∙ rw (eq-eqb (stateOf (r .status) c) waiting (b .waits), le-ltb c number (b .number))
 
   given : (a : Answer) → BeginGives r w c a → beginOf r w c .answer ≡ a
-  given answer.Accepted (b, all, entries) =
-      of-answer (begin-25 b)
-      ∙ rw (finished-exact row (r .status) c .every .1 (λ i l m. all i (l, m)), entries-exact r c .1 entries)
+  given answer.Accepted (b, none, entries) = of-answer (begin-25 b) ∙ rw (eq-eqb number 0 none, entries-exact r c .1 entries)
   given answer.Damaged g = absurd g
   given answer.NoWorker (b, h) = of-answer (begin-21 b) ∙ rw (le-leb (r .head .workers) w h)
   given answer.NoCall (b, h) = of-answer (begin-22 b) ∙ rw (le-leb (r .head .calls) c h)
   given answer.WorkerBusy (b, h) = of-answer (begin-23 b) ∙ rw (ne-eqb (heldIn r w) 0 h)
   given answer.NotWaiting (b, h) = of-answer (begin-24 b) ∙ rw (ne-eqb (stateOf (r .status) c) waiting h)
-  given answer.EarlierUnfinished (b, u) =
-      of-answer (begin-25 b) ∙ rw (finished-exact row (r .status) c .one .1 (u .0, u .1 .0, λ f. u .2 (f (u .1 .1))))
+  given answer.EarlierUnfinished (b, some) = of-answer (begin-25 b) ∙ rw (ne-eqb number 0 some)
   given answer.WorkerIdle g = absurd g
   given answer.CallUnfinished g = absurd g
   given answer.SheetTooLong g = absurd g
@@ -183,32 +148,27 @@ module _ (r : Run) (w c : ℕ) where
 
   told-25 : Before25 r w c → BeginTold r w c from25
   told-25 b =
-      if-all (BeginTold r w c) (not (earlierFinished row (r .status) c))
-      (λ e. refused answer.EarlierUnfinished (b, unfinished (finished-exact row (r .status) c .one .0 (not-true (earlierFinished row (r .status) c) e))))
-      λ e.
+      if-all (BeginTold r w c) (not (eqb number 0)) (λ e. refused answer.EarlierUnfinished (b, eqb-false number 0 (not-true (eqb number 0) e))) λ e.
       if-all (BeginTold r w c) (not (restorable (callKeyCount (r .plan) c) (ownEntries (r .plan) c))) (λ f. damaged) λ f.
       record {
         unmoved = λ n. absurd (n refl);
         gives = λ d. (
           b,
-          (λ i l. finished-exact row (r .status) c .every .0 (not-false (earlierFinished row (r .status) c) e) i (l .0) (l .1)),
+          eqb-true number 0 (not-false (eqb number 0) e),
           entries-exact r c .0 (not-false (restorable (callKeyCount (r .plan) c) (ownEntries (r .plan) c)) f),
         );
       }
-    where
-      unfinished : (i : ℕ) × (i < c) × ((inRow row i ≡ true → CallFinished r i) → ⊥) → (i : ℕ) × EarlierConflicting r c i × (CallFinished r i → ⊥)
-      unfinished (i, l, h) = (i, (l, in-row (inRow row i) h), λ f. h (λ e. f))
 
   told-24 : Before24 r w c → BeginTold r w c from24
   told-24 b =
       if-all (BeginTold r w c) (not (eqb (stateOf (r .status) c) waiting))
       (λ e. refused answer.NotWaiting (b, eqb-false (stateOf (r .status) c) waiting (not-true (eqb (stateOf (r .status) c) waiting) e)))
       λ e.
-      if-all (BeginTold r w c) (earlierBroken row (r .status) c) (λ f. damaged) λ f.
+      if-all (BeginTold r w c) (ltb c number) (λ f. damaged) λ f.
       told-25 record {
         so-far = b;
         waits = eqb-true (stateOf (r .status) c) waiting (not-false (eqb (stateOf (r .status) c) waiting) e);
-        states = λ i l. states-exact row (r .status) c .every .0 (rw f) i (l .0) (l .1);
+        number = ltb-false c number f;
       }
 
   told-23 : Before23 r w c → BeginTold r w c from23

@@ -1,6 +1,6 @@
 -- The numbers of STEP and CANCEL: which answer each gives on a lent run, exactly, and that a refused move leaves the run as it was.
 use mathlib.Core.Path.{_≡_, refl, sym, ap, subst, subst⁻¹, _∙_}
-use mathlib.Core.Bool.{_||_}
+use mathlib.Core.Bool.{_||_, not}
 use mathlib.Core.List.{List}
 use Prim.Native.Nat.{ℕ, _+_, _-_, _*_, _≤_, _<_}
 use native.Mathlib.Omega.{arith}
@@ -17,6 +17,7 @@ use Rattle.block.specs.Record.{headBytes, callRecordBytes, callOf}
 use Rattle.block.specs.declared.CallBody.{CallBody}
 use Rattle.block.specs.declared.CallBody.the-variants.{InRange, OutOfRange}
 use Rattle.machine.specs.Run.{Run, placeIn, countIn, planWord}
+use Rattle.machine.specs.Waits.{waitsLowerable}
 use Rattle.machine.specs.Step.{Stepped, damaged, more, done, restorable, stepCall}
 use Rattle.machine.specs.Moves.{Moved, stay, callKeyCount, ownEntries, viewOf, localOf, Held, answered, holds, heldBy, stepped, stepRecord, stepHeld, stepFor, stepOf, cancelHeld, cancelFor, cancelOf, moveOf}
 use Rattle.machine.specs.declared.Answer.{Answer}
@@ -41,7 +42,7 @@ here r = record { stays = λ n. refl }
 moves : {r : Run} {m : Moved} → m .answer ≡ answer.Accepted → StaysDamaged r m
 moves e = record { stays = λ n. absurd (n e) }
 
-accepted-not-damaged : answer.Accepted ≡ answer.Damaged → ⊥
+pub accepted-not-damaged : answer.Accepted ≡ answer.Damaged → ⊥
 accepted-not-damaged e = let z : _≡_ {A = ℕ} 0 1 = cc in omega arith
 
 of-run : {m m′ : Moved} → m ≡ m′ → m .run ≡ m′ .run
@@ -137,7 +138,8 @@ module _ (block : List ℕ) (r : Run) (w : ℕ) where
   unfolding stepped
   stepped-stays c damaged = here r
   stepped-stays c (more l cells) = moves refl
-  stepped-stays c (done outcome count cells) = moves refl
+  stepped-stays c (done outcome count cells) =
+      if-all (StaysDamaged r) (not (waitsLowerable (r .plan) (r .status) c (r .head .calls))) (λ e. here r) λ e. moves refl
 
   record-stays : (c : ℕ) (b : CallBody) → StaysDamaged r (stepRecord block r w c b)
   unfolding stepRecord

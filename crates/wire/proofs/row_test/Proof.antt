@@ -1,25 +1,27 @@
--- `wire::row_test` meets its contract: the masked word is not 0 exactly when the bit is set, and no bit is set past the row.
+-- `wire::row_test` meets its contract: the bit of its word, and none past the row.
 use borrow.Author.Needs.{needs}
 use mathlib.Core.Path.{sym}
+use Rattle.wire.specs.Rows.{inRow}
 use Rattle.wire.proofs.RowLaws.{inRow-past}
-use Rattle.wire.proofs.MaskedBits.{test-by-mask}
 use Rattle.wire.proofs.row_test.Statement.{statement}
 use Rattle.wire.proofs.row_test.Tie as tie
 
 returns : tie.Need-returns
 returns c = sym (inRow-past (c .before .args .t1) (c .before .args .i) (search needs) (c .if1 .taken))
 
-mul-result : tie.Need-mul-result
-mul-result c = search needs
+mul-word-test : tie.Need-mul-word-test
+mul-word-test c = search needs
 
-array-read-result : tie.Need-array-read-result
-array-read-result c = search needs
+array-read-word-test : tie.Need-array-read-word-test
+array-read-word-test c = search needs
 
-mask-requires : tie.Need-mask-requires
-mask-requires c κs = search needs
+word-test-requires : tie.Need-word-test-requires
+word-test-requires c κs = search needs
 
 returns-2 : tie.Need-returns-2
-returns-2 c = test-by-mask (c .before .before .args .t1) (c .before .before .args .i) (c .mask .ensures)
+unfolding inRow
+returns-2 c = c .word-test .ensures
 
 pub row-test-spec : {M : Type 1} → statement M
-row-test-spec = tie.close (tie.spec returns mul-result array-read-result mask-requires returns-2)
+row-test-spec =
+    tie.close (tie.spec returns mul-word-test array-read-word-test word-test-requires returns-2)

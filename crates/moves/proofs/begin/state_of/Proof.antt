@@ -1,7 +1,7 @@
 -- `moves::begin::state_of` meets its contract: the state is the first of the call's words.
 use borrow.Author.Needs.{needs}
 use mathlib.Core.Path.{_∙_}
-use Rattle.moves.proofs.EarlierLaws.{state-at}
+use Rattle.moves.proofs.BeginLaws.{state-at}
 use Rattle.moves.proofs.begin.state_of.Statement.{statement}
 use Rattle.moves.proofs.begin.state_of.Tie as tie
 

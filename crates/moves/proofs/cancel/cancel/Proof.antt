@@ -2,7 +2,7 @@
 use borrow.Author.Needs.{needs}
 use native.Mathlib.Omega.{arith}
 use mathlib.Core.Path.{refl, sym, _∙_}
-use Rattle.moves.proofs.HeldLaws.{large-plan, large-frames, passed-large, passed-worker, held-refused, held-answered, held-call, held-known}
+use Rattle.moves.proofs.HeldLaws.{large-plan, large-frames, passed-large, passed-worker, held-refused, held-answered, held-call, held-below}
 use Rattle.moves.proofs.CancelLaws.{cancel-answered, cancel-holds}
 use Rattle.moves.proofs.cancel.cancel.Statement.{statement}
 use Rattle.moves.proofs.cancel.cancel.Tie as tie
@@ -51,7 +51,7 @@ cancel-held-requires c κs =
     let c10 = c9 .before in
     let passed = sym (c7 .enum-told .given .1) ∙ c9 .worker-tested .ensures in
     let large = sym (passed-large _ _ _ passed) ∙ c10 .large-enough .ensures in
-    (held-known (c .before .before .before .call .given .1) (c .before .before .before .before .before .held-call .ensures .1), (passed-worker _ _ _ passed, (large-plan _ large, large-frames _ large)))
+    (held-below _ (c .before .before .before .call .given .1) (c .before .before .before .before .before .held-call .ensures .1), (passed-worker _ _ _ passed, (large-plan _ large, large-frames _ large)))
 
 mul-next : tie.Need-mul-next
 mul-next c =

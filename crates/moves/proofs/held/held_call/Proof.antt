@@ -18,7 +18,7 @@ sub-t7 : tie.Need-sub-t7
 sub-t7 c = search needs
 
 returns-4 : tie.Need-returns-4
-returns-4 c = (held-holds _ _ (c .before .before .if1 .left) (c .before .if2 .left) (c .if3 .left), omega arith)
+returns-4 c = (held-holds _ _ (c .before .before .if1 .left) (c .before .if2 .left) (c .if3 .left), (omega arith, c .before .if2 .left))
 
 pub held-call-spec : {M : Type 1} → statement M
 held-call-spec =

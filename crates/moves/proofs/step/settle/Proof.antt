@@ -24,9 +24,8 @@ finish-requires c κs = search needs
 
 returns : tie.Need-returns
 returns c =
-    let c6 = c .before .before .before .before .before .before in
-    let a = c6 .args in
-    λ head keys own. settle-broken head (a .plan .now) keys (a .cells .now) (a .status .now) (a .seats .now) (a .frames .now) (a .worker) (a .call) own (a .turn) (c .enum-told .given .1)
+    let a = c .before .before .before .before .before .before .args in
+    λ head keys own called. settle-broken head (a .plan .now) keys (a .cells .now) (a .status .now) (a .seats .now) (a .frames .now) (a .worker) (a .call) own (a .turn) (c .enum-told .given .1)
 
 same-length : tie.Need-same-length
 same-length c = search needs
@@ -37,9 +36,8 @@ same-length-2 c = search needs
 returns-2 : tie.Need-returns-2
 returns-2 c =
     let c8 = c .before .before .before .before .before .before .before .before in
-    let c14 = c8 .before .before .before .before .before .before in
-    let a = c14 .args in
-    λ head keys own. settle-going head (a .plan .now) keys (a .cells .now) (a .status .now) (a .seats .now) (a .frames .now) (a .worker) (a .call) own (a .turn) (c8 .fate .given .1) (c .before .before .before .before .before .put-seat .ensures) (c .before .put-regs .ensures)
+    let a = c8 .before .before .before .before .before .before .args in
+    λ head keys own called. settle-going head (a .plan .now) keys (a .cells .now) (a .status .now) (a .seats .now) (a .frames .now) (a .worker) (a .call) own (a .turn) (c8 .fate .given .1) (c .before .before .before .before .before .put-seat .ensures) (c .before .put-regs .ensures)
 
 same-length-3 : tie.Need-same-length-3
 same-length-3 c = search needs
@@ -53,9 +51,8 @@ same-length-5 c = search needs
 returns-3 : tie.Need-returns-3
 returns-3 c =
     let c8 = c .before .before .before .before .before .before .before .before in
-    let c14 = c8 .before .before .before .before .before .before in
-    let a = c14 .args in
-    λ head keys own. settle-over head (a .plan .now) keys (a .cells .now) (a .status .now) (a .seats .now) (a .frames .now) (a .worker) (a .call) own (a .turn) (c8 .fate2 .given .1) (c .before .before .before .finish .ensures head keys (a .seats .now) own)
+    let a = c8 .before .before .before .before .before .before .args in
+    λ head keys own called. settle-over head (a .plan .now) keys (a .cells .now) (a .status .now) (a .seats .now) (a .frames .now) (a .worker) (a .call) own (a .turn) (c8 .fate2 .given .1) (c .before .before .before .finish .ensures head keys (a .seats .now) own called)
 
 pub settle-spec : {M : Type 1} → statement M
 settle-spec =

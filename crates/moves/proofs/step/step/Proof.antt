@@ -2,7 +2,7 @@
 use borrow.Author.Needs.{needs}
 use native.Mathlib.Omega.{arith}
 use mathlib.Core.Path.{refl, sym, _∙_}
-use Rattle.moves.proofs.HeldLaws.{large-plan, large-keys, large-frames, passed-large, passed-worker, held-refused, held-answered, held-call, held-known}
+use Rattle.moves.proofs.HeldLaws.{large-plan, large-keys, large-frames, passed-large, passed-worker, held-refused, held-answered, held-call, held-known, held-below}
 use Rattle.moves.proofs.LentRunLaws.{step-answered, step-holds}
 use Rattle.moves.proofs.step.step.Statement.{statement}
 use Rattle.moves.proofs.step.step.Tie as tie
@@ -53,7 +53,7 @@ step-held-requires c κs =
     let passed = sym (c8 .enum-told .given .1) ∙ c10 .worker-tested .ensures in
     let large = sym (passed-large _ _ _ passed) ∙ c11 .large-enough .ensures in
     record {
-      entries = record { plans = large-plan _ large; keyed = large-keys _ large; below = held-known (c .before .before .before .before .call .given .1) (c6 .held-call .ensures .1) };
+      entries = record { plans = large-plan _ large; keyed = large-keys _ large; below = held-below _ (c .before .before .before .before .call .given .1) (c6 .held-call .ensures .1) };
       framed = large-frames _ large;
       seated = passed-worker _ _ _ passed;
     }
@@ -67,7 +67,8 @@ settle-requires c κs =
     let c17 = c16 .before in
     let passed = sym (c14 .enum-told .given .1) ∙ c16 .worker-tested .ensures in
     let large = sym (passed-large _ _ _ passed) ∙ c17 .large-enough .ensures in
-    (held-known (c10 .call .given .1) (c12 .held-call .ensures .1), (passed-worker _ _ _ passed, (large-plan _ large, large-frames _ large)))
+    let known = held-known _ (c10 .call .given .1) (c12 .held-call .ensures .1) in
+    (known .0, (known .1, (passed-worker _ _ _ passed, (large-plan _ large, large-frames _ large))))
 
 mul-next : tie.Need-mul-next
 mul-next c =
@@ -115,7 +116,7 @@ returns-3 c =
     let a = c30 .args in
     step-holds (a .head) (a .block .now) (a .plan .now) (a .keys .now) (a .cells .now) (a .status .now) (a .seats .now) (a .frames .now) (a .worker)
     (held-call (a .head) (a .worker) (a .plan .now) (a .keys .now) (a .status .now) (a .cells .now) (a .seats .now) (a .frames .now) (c24 .large-enough .ensures) (c23 .worker-tested .ensures) (c21 .enum-told .given .1) refl _ (c19 .held-call .ensures .0) (c17 .call .given .1))
-    (c6 .settle .ensures (a .head) (a .keys .now) refl ∙ c12 .step-held .ensures (a .head) (a .status .now) refl)
+    (c6 .settle .ensures (a .head) (a .keys .now) refl refl ∙ c12 .step-held .ensures (a .head) (a .status .now) refl)
 
 pub step-spec : {M : Type 1} → statement M
 step-spec =

@@ -1,10 +1,10 @@
--- `moves::begin::row_of` meets its contract: the four words that are read are the call's row.
+-- `opening::row_of` meets its contract: the four words that are read are the call's row.
 use borrow.Author.Needs.{needs}
 use native.Mathlib.Omega.{arith}
 use Prim.Native.Nat.{_+_, _*_}
-use Rattle.moves.proofs.EarlierLaws.{four-words}
-use Rattle.moves.proofs.begin.row_of.Statement.{statement}
-use Rattle.moves.proofs.begin.row_of.Tie as tie
+use Rattle.opening.proofs.WaitsLaws.{four-words}
+use Rattle.opening.proofs.row_of.Statement.{statement}
+use Rattle.opening.proofs.row_of.Tie as tie
 
 mul-at : tie.Need-mul-at
 mul-at c = search needs
