@@ -48,6 +48,12 @@ pub(crate) fn moved(text: &str, passing: &[Move]) -> (Run, Vec<u8>) {
     (run, bytes)
 }
 
+/// A random block, of another shape at each index, and a number of workers.
+pub(crate) fn drawn(rng: &mut Rng, index: usize) -> (Vec<u8>, usize) {
+    let shape = [MIXED, TOUCHING, PAYING, CALCULATING][index % 4];
+    (Draft::random(rng, shape).bytes(), rng.between(1, 8))
+}
+
 /// The number that a move answers, 0 if it passes. A refused move changes
 /// nothing.
 pub(crate) fn answer(run: &Run, bytes: &[u8], chosen: Move) -> u16 {
@@ -139,9 +145,7 @@ fn a_refused_opening_leaves_all_zero() {
 fn an_undamaged_run_agrees_with_the_machine() {
     let mut rng = Rng::new(20);
     for index in 0..RUNS {
-        let shape = [MIXED, TOUCHING, PAYING, CALCULATING][index % 4];
-        let bytes = Draft::random(&mut rng, shape).bytes();
-        let workers = rng.between(1, 8);
+        let (bytes, workers) = drawn(&mut rng, index);
         let (answer, mut run) = open(&bytes, workers, Sizes::FIXED);
         let opened = machine::open(&bytes, workers);
         assert_eq!(answer.err(), opened.as_ref().err().copied());
@@ -159,9 +163,7 @@ fn an_undamaged_run_agrees_with_the_machine() {
 fn the_serial_run_agrees_with_the_machine() {
     let mut rng = Rng::new(21);
     for index in 0..RUNS {
-        let shape = [MIXED, TOUCHING, PAYING, CALCULATING][index % 4];
-        let bytes = Draft::random(&mut rng, shape).bytes();
-        let workers = rng.between(1, 8);
+        let (bytes, workers) = drawn(&mut rng, index);
         let Ok(opened) = machine::open(&bytes, workers) else {
             continue;
         };

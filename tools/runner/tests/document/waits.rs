@@ -1,7 +1,7 @@
 //! The waiting counts of lent runs: what the opening, BEGIN and a finish do with
 //! them, and that with good ones every answer is that of the row.
 
-use runner::generate::draft::{Draft, CALCULATING, MIXED, PAYING, TOUCHING};
+use runner::generate::draft::{Draft, MIXED};
 use runner::lent::{
     open, Run, Sizes, FINISHED, PLAN_WORDS, ROW, RUNNING, STATUS_WORDS, WAITING, WAITS,
 };
@@ -9,7 +9,7 @@ use runner::limits::MAX_CALLS;
 use runner::machine::{self, Machine, Move};
 use runner::rng::Rng;
 
-use crate::lent::{answer, begin, cancel, expect, lent, moved, same, step, Damage, P, RUNS};
+use crate::lent::{answer, begin, cancel, drawn, expect, lent, moved, same, step, Damage, P, RUNS};
 
 /// Of call 1 the row is 0, of call 3 it is 0 and 1, of call 4 it is 0, 1 and 3.
 /// Call 2 conflicts with none. Call 1 throws.
@@ -116,9 +116,7 @@ fn after_any_moves_every_count_and_every_answer_is_that_of_the_row() {
     let mut rng = Rng::new(101);
     let mut refused = 0;
     for index in 0..RUNS {
-        let shape = [MIXED, TOUCHING, PAYING, CALCULATING][index % 4];
-        let bytes = Draft::random(&mut rng, shape).bytes();
-        let workers = rng.between(1, 8);
+        let (bytes, workers) = drawn(&mut rng, index);
         let Ok(opened) = machine::open(&bytes, workers) else {
             continue;
         };
