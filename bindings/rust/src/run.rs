@@ -25,7 +25,8 @@ pub enum Outcome {
     Thrown = 3,
     /// A result outside 64 signed bits, or a zero divisor.
     OutOfRange = 4,
-    /// PAY of a negative amount, to no account, or above the contract's balance.
+    /// PAY of a negative amount, to no account or to account 0, or above the
+    /// contract's balance.
     NotPaid = 5,
 }
 

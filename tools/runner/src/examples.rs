@@ -1,5 +1,6 @@
-//! The examples of document 01, and those of document 003 over its instructions,
-//! in the order of the documents. The files of `examples` hold them.
+//! The examples of document 01, one of document 02, and those of document 003
+//! over the instructions, in the order of the documents. The files of `examples`
+//! hold them.
 
 use crate::assemble::assemble;
 
@@ -57,8 +58,8 @@ macro_rules! example {
     };
 }
 
-/// All of them, document 01's first.
-pub const EXAMPLES: [Example; 25] = [
+/// All of them.
+pub const EXAMPLES: [Example; 26] = [
     example!("p", "block P of document 01"),
     example!("p_refused", "BEGIN(1, 1) first on P, STEP on an idle worker", on "p"),
     example!("divisions", "-7 by 2, 7 by -2, -2^63 by -1, 1 by 0"),
@@ -68,6 +69,10 @@ pub const EXAMPLES: [Example; 25] = [
     example!("keys25", "a call of 25 keys"),
     example!("empty_code", "code of 0 instructions"),
     example!("no_calls", "a block of no calls"),
+    example!(
+        "account_0",
+        "document 02, M-101: payments to account 0, and what it sends"
+    ),
     example!("paper_ex5", "document 003, example 5, serially"),
     example!("paper_ex5_workers", "document 003, example 5, T2 ends before T1", on "paper_ex5"),
     example!("paper_ex6", "document 003, example 6, T1 T2 serially"),

@@ -20,7 +20,8 @@ pub enum Outcome {
     Thrown = 3,
     /// A result outside 64 signed bits, or a zero divisor.
     Arithmetic = 4,
-    /// PAY with a negative amount, to no account, or above the balance.
+    /// PAY with a negative amount, to no account or to account 0, or above the
+    /// balance.
     Payment = 5,
 }
 
@@ -211,7 +212,7 @@ pub(crate) fn holds(test: Test, x: i64, y: i64) -> bool {
 
 /// Pays from the contract's balance if the payment is good.
 fn pay(call: &Call, amount: i64, target: u32, cells: &mut Cells) -> bool {
-    let Some(account) = Account::named(target) else {
+    let Some(account) = Account::paid(target) else {
         return false;
     };
     let own = call.contract.balance();

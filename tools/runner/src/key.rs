@@ -1,7 +1,7 @@
 //! Addresses and the keys of cells.
 
 use crate::bytes::{u16_at, u32_at};
-use crate::limits::{BALANCE_FIELD, FIRST_CONTRACT};
+use crate::limits::{BALANCE_FIELD, FIRST_CONTRACT, WITHDRAWN_ACCOUNT};
 
 /// An account address, 0 to 32767.
 #[derive(Clone, Copy, Debug, PartialEq, Eq, PartialOrd, Ord)]
@@ -12,6 +12,12 @@ impl Account {
     pub fn named(number: u32) -> Option<Account> {
         let address = u16::try_from(number).ok()?;
         (address < FIRST_CONTRACT).then_some(Account(address))
+    }
+
+    /// The account that PAY to a number pays, if it pays one: any that the
+    /// number names but that of withdrawn warrants.
+    pub fn paid(number: u32) -> Option<Account> {
+        Account::named(number).filter(|account| account.0 != WITHDRAWN_ACCOUNT)
     }
 
     /// The address as a number.

@@ -1,6 +1,6 @@
-//! A reference runner for the warrant register, written from document 01 alone.
-//! It aims to be plainly right: every module follows one section of the
-//! document, and arithmetic is exact.
+//! A reference runner for the warrant register, written from documents 01 and 02
+//! alone. It aims to be plainly right: every module follows one section of the
+//! documents, and arithmetic is exact.
 #![warn(missing_docs)]
 
 pub mod assemble;

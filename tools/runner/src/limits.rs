@@ -1,4 +1,4 @@
-//! The limits and fixed sizes of document 01, each under one name.
+//! The limits and fixed sizes of documents 01 and 02, each under one name.
 
 /// Most bytes of a block file.
 pub const MAX_BLOCK_BYTES: usize = 65_536;
@@ -23,6 +23,8 @@ pub const MAX_BALANCE_SUM: i128 = i64::MAX as i128;
 
 /// The lowest contract address; all lower addresses are accounts.
 pub const FIRST_CONTRACT: u16 = 32_768;
+/// The account that marks withdrawn warrants: no payment goes there (M-101).
+pub const WITHDRAWN_ACCOUNT: u16 = 0;
 /// The field that holds the balance.
 pub const BALANCE_FIELD: u16 = 0;
 /// Registers of a running call.

@@ -150,7 +150,7 @@ pub fn instruction_uses(call: &Call, instruction: &Instruction) -> Vec<Use> {
         Instruction::Put { cell, .. } => vec![Use::write(cell_key(call, cell))],
         Instruction::Balance { .. } => vec![Use::read(call.contract.balance())],
         Instruction::Pay { target, .. } => {
-            let account = Account::named(call.source(target));
+            let account = Account::paid(call.source(target));
             let paid = account.map(|account| Use::write(account.balance()));
             let own = Use::change(call.contract.balance());
             [own].into_iter().chain(paid).collect()

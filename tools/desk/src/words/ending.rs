@@ -116,6 +116,8 @@ fn arithmetic_failure(operation: Operation, left: i64, right: i64) -> String {
 fn payment_failure(amount: i64, target: u32, balance: i64) -> String {
     if Account::named(target).is_none() {
         format!("{target} is no account; accounts are 0 to 32767")
+    } else if Account::paid(target).is_none() {
+        format!("account {target} marks withdrawn warrants, and no money goes there")
     } else if amount < 0 {
         format!("the amount is {amount}, below 0")
     } else {

@@ -117,4 +117,12 @@ fn failed_payments_have_their_reason() {
         "pay r0 const 32768",
         "pay r0 const 32768: 32768 is no account; accounts are 0 to 32767",
     );
+    for (amount, target) in [(0, "zero"), (5, "const 0"), (-1, "arg2")] {
+        fails(
+            &format!("set r0 {amount}\npay r0 {target}"),
+            &format!(
+                "pay r0 {target}: account 0 marks withdrawn warrants, and no money goes there"
+            ),
+        );
+    }
 }

@@ -3,7 +3,7 @@
 use crate::assemble::assemble;
 
 /// The blocks, as the assembler's text.
-const TEXTS: [&str; 8] = [
+const TEXTS: [&str; 9] = [
     // Quotients of all signs.
     "function 32768 0
         set r0 -7
@@ -79,6 +79,24 @@ const TEXTS: [&str; 8] = [
     call 5 32768 0 0 3 32767
     call 5 32768 0 0 2 32767
     call 5 32768 1 0
+    end",
+    // Account 0: not paid by an argument, the sender or with amount 0; it sends.
+    "function 32768 0
+        arg r0 arg1
+        pay r0 arg2
+    function 32768 1
+        pay r0 sender
+    function 40000 0
+        value r0
+        pay r0 zero
+    cell 0 0 0 0 2
+    cell 40000 0 0 0 1
+    call 5 32768 0 0 0 1
+    call 5 32768 0 0 0 0
+    call 5 40000 0 0
+    call 0 32768 1 1
+    call 0 40000 0 1
+    call 0 32768 0 2 2 1
     end",
     // A reader between two writers; two readers.
     "function 32768 0

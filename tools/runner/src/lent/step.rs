@@ -209,7 +209,7 @@ impl Stepping<'_> {
 
     /// Pays from the contract's balance, unless the payment is bad.
     fn pay(&mut self, amount: i64, target: Source) -> Result<bool, MoveRefusal> {
-        match Account::named(self.call.source(target)) {
+        match Account::paid(self.call.source(target)) {
             Some(account) if amount >= 0 => {
                 self.transfer(self.call.contract.balance(), account.balance(), amount)
             }

@@ -66,7 +66,7 @@ fn edge_blocks_are_all_reached() {
 
 #[test]
 fn programs_are_good_blocks() {
-    assert!((0..8).all(|turn| open(&programs::block(turn), MAX_WORKERS).is_ok()));
+    assert!((0..9).all(|turn| open(&programs::block(turn), MAX_WORKERS).is_ok()));
 }
 
 #[test]

@@ -1,5 +1,6 @@
-//! The sentences of document 01 as tests.
+//! The sentences of documents 01 and 02 as tests.
 
+mod account_0;
 mod assembler;
 mod console;
 mod damaged_waits;
