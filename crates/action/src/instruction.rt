@@ -178,12 +178,12 @@ pub(crate) fn bal(regs: [i64; 8], x: usize, balance: i64) -> [i64; 8]
     with_register(regs, x, balance)
 }
 
-// "PAY with 5 if the amount is negative, the target no account, or the contract's balance lower."
+// "PAY with 5 if the amount is negative, the target no account, or the contract's balance lower"; M-101: to account 0 too.
 fn pay_to(regs: [i64; 8], amount: i64, target: Payee) -> Action
     ensures { λ r. ⌜ r ≡ payAction regs amount target ⌝ }
 {
     match target {
-        Payee::NoAccount => end(regs, NOT_PAID),
+        Payee::Nobody => end(regs, NOT_PAID),
         Payee::To(_) => {
             if amount < 0 {
                 return end(regs, NOT_PAID);

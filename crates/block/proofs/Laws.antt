@@ -8,11 +8,11 @@ use lib.IntN.{ℤ, pos, negsuc}
 use lib.ListN.{length, take, drop, getD, length-drop, drop-of-length-le}
 use lib.Seq.{take-all, drop-length, length-take-le}
 use lib.Signed.{ltZ, nonNeg}
-use borrow.Author.Tests.{ltb-true, lt-ltb, le-ltb, le-leb, lt-leb}
+use borrow.Author.Tests.{ltb-true, lt-ltb, le-ltb, le-leb, lt-leb, eq-eqb, ne-eqb}
 use Rattle.wire.specs.Bytes.{readLe}
 use Rattle.wire.proofs.BytesLaws.{read-suc, read-one, read-taken}
 use Rattle.arith.specs.Exact.{signed}
-use Rattle.block.specs.Key.{firstContract, addressOf, addressNumber, payeeOf}
+use Rattle.block.specs.Key.{firstContract, withdrawn, addressOf, addressNumber, payeeOf}
 use Rattle.block.proofs.KeyLaws.{number-named, account-below, contract-above}
 use Rattle.block.proofs.EncodingLaws.{bytes-drop}
 use Rattle.block.specs.Encoding.{AreBytes}
@@ -22,7 +22,7 @@ use Rattle.block.specs.declared.address.Account.{Account}
 use Rattle.block.specs.declared.address.Contract.{Contract}
 use Rattle.block.specs.declared.address.Address.{Address}
 use Rattle.block.specs.declared.address.Address.the-variants.{OfAccount, OfContract}
-use Rattle.block.specs.declared.Payee.the-variants.{To, NoAccount}
+use Rattle.block.specs.declared.Payee.the-variants.{To, Nobody}
 use Rattle.block.specs.declared.CallBody.the-variants.{InRange, OutOfRange}
 
 -- The part from a position to the end is all that stands there.
@@ -82,19 +82,23 @@ pub high-named : (n field a : ℕ) {r : Address} {high : ℕ} → r ≡ addressO
     → high ≡ n * 2 ^ 48 + field * 2 ^ 32 + a
 high-named n field a e f = f ∙ ap (λ (k : ℕ). k * 2 ^ 48 + field * 2 ^ 32 + a) (ap addressNumber e ∙ number-named n)
 
--- The payee of a number, by the address that it names.
-pub payee-account : (n : ℕ) (account : Account) → addressOf n ≡ OfAccount account → To account ≡ payeeOf n
+-- Whom PAY pays by a number: nobody by that of withdrawn warrants, else by the address that it names.
+pub payee-withdrawn : (n : ℕ) → n ≡ withdrawn → Nobody ≡ payeeOf n
 unfolding payeeOf
-payee-account n account e =
+payee-withdrawn n zero′ = simp (eq-eqb n withdrawn zero′)
+
+pub payee-account : (n : ℕ) (account : Account) → (n ≡ withdrawn → ⊥) → addressOf n ≡ OfAccount account → To account ≡ payeeOf n
+unfolding payeeOf
+payee-account n account other e =
     let h = account-below n account e in
     let low : n < firstContract = omega (arith, h .0, h .1) in
-    simp (lt-ltb n firstContract low) (λ i. To (record { 0 = h .0 i }))
+    simp (ne-eqb n withdrawn other, lt-ltb n firstContract low) (λ i. To (record { 0 = h .0 i }))
 
-pub payee-none : (n : ℕ) → firstContract ≤ n → NoAccount ≡ payeeOf n
+pub payee-none : (n : ℕ) → firstContract ≤ n → Nobody ≡ payeeOf n
 unfolding payeeOf
-payee-none n high = simp (le-ltb n firstContract high)
+payee-none n high = simp (ne-eqb n withdrawn (λ e. omega arith), le-ltb n firstContract high)
 
-pub payee-contract : (n : ℕ) (contract : Contract) → addressOf n ≡ OfContract contract → NoAccount ≡ payeeOf n
+pub payee-contract : (n : ℕ) (contract : Contract) → addressOf n ≡ OfContract contract → Nobody ≡ payeeOf n
 payee-contract n contract e = let h = contract-above n contract e in payee-none n (omega (arith, h .0, h .1))
 
 -- A call's body, by its length and the addresses that it names.

@@ -54,9 +54,12 @@ PUT x field a = instr 11 x a 0 field
 abbrev pub BAL : ℕ → List ℕ
 BAL x = instr 12 x 0 0 0
 
--- PAY to a constant.
+-- PAY to a constant, and to what another source names.
 abbrev pub PAY : ℕ → (target : ℕ) → List ℕ
 PAY x target = instr 13 x 6 0 (target * 65536)
+
+abbrev pub PAYTO : ℕ → (source : ℕ) → List ℕ
+PAYTO x source = instr 13 x source 0 0
 
 abbrev pub JEQ : ℕ → ℕ → (to : ℕ) → List ℕ
 JEQ x y to = instr 14 x y 0 to

@@ -4,12 +4,14 @@ use mathlib.Core.List.{List, [], _∷_, map}
 use Prim.Native.Nat.{ℕ, _*_, _^_}
 use lib.IntN.{pos}
 use lib.ListN.{length}
+use Rattle.block.specs.Key.{payeeOf}
 use Rattle.block.specs.Record.{functionId}
 use Rattle.block.specs.Reader.{Read, accepted, refused, readBlock}
 use Rattle.block.specs.Encoding.{fileOf, blockFor}
 use Rattle.block.specs.Refusal.{numberOf, offsetOf}
 use Rattle.block.specs.Assemble.{text, joinedParts, instr, SET, JEQ, function, call, end}
-use Rattle.block.specs.Worked.{P, contentsP}
+use Rattle.block.specs.Worked.{P, contentsP, account0}
+use Rattle.block.specs.declared.Payee.the-variants.{To, Nobody}
 use Rattle.block.specs.Computing.{computing}
 
 -- A block's functions (contract and number), their codes' starts and lengths, its keys, the number of its calls and the first one's
@@ -40,9 +42,12 @@ pub record Read-P : Type 0 where
   pub sender : reads (call 32768 32768 0 (pos 0) ∷ end ∷ []) ≡ (5 ∷ 0 ∷ []) ∷ []
   pub contract : reads (call 32767 32767 0 (pos 0) ∷ end ∷ []) ≡ (5 ∷ 0 ∷ []) ∷ []
   pub behind : reads (end ∷ (0 ∷ []) ∷ []) ≡ (8 ∷ 4 ∷ []) ∷ []
+  -- M-101: whom PAY pays by a number; and that neither a PAY to account 0, nor its opening cell, nor a call that it sends is refused.
+  pub payees : map payeeOf (0 ∷ 1 ∷ 32767 ∷ 32768 ∷ 65536 ∷ 65537 ∷ []) ≡ Nobody ∷ To (record { 0 = 1 }) ∷ To (record { 0 = 32767 }) ∷ Nobody ∷ Nobody ∷ Nobody ∷ []
+  pub account-0 : outline (readBlock account0) ≡ (2147483648 ∷ 2147483649 ∷ 2147483650 ∷ 2147483651 ∷ 2621440000 ∷ []) ∷ (8 ∷ 32 ∷ 48 ∷ 72 ∷ 96 ∷ []) ∷ (2 ∷ 1 ∷ 2 ∷ 2 ∷ 3 ∷ []) ∷ (0 ∷ (32768 * 2 ^ 80) ∷ (40000 * 2 ^ 80) ∷ []) ∷ (9 ∷ 192 ∷ []) ∷ []
 
 pub read-p : Read-P
-unfolding computing text joinedParts P contentsP outline
+unfolding computing text joinedParts P contentsP account0 outline
 read-p =
     record {
       block-p = refl;
@@ -55,4 +60,6 @@ read-p =
       sender = refl;
       contract = refl;
       behind = refl;
+      payees = refl;
+      account-0 = refl;
     }

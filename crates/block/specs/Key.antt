@@ -8,7 +8,7 @@ use Rattle.block.specs.declared.address.Contract.{Contract}
 use Rattle.block.specs.declared.address.Address.{Address}
 use Rattle.block.specs.declared.address.Address.the-variants.{OfAccount, OfContract}
 use Rattle.block.specs.declared.Payee.{Payee}
-use Rattle.block.specs.declared.Payee.the-variants.{To, NoAccount}
+use Rattle.block.specs.declared.Payee.the-variants.{To, Nobody}
 
 -- "Account addresses are 0 to 32767, contract addresses 32768 to 65535. The two are never taken for each other."
 abbrev pub firstContract : ℕ
@@ -25,9 +25,14 @@ abbrev pub addressNumber : Address → ℕ
 addressNumber (OfAccount account) = account .0
 addressNumber (OfContract contract) = contract .0
 
--- PAY's target: all 32 bits name it, and only 0 to 32767 is an account.
+-- M-101: "From the new season account 0 marks withdrawn warrants, and no more money shall go there."
+abbrev pub withdrawn : ℕ
+withdrawn = 0
+
+-- Whom PAY pays: all 32 bits name the target, and only 0 to 32767 is an account. M-101: "PAY to account 0 ends with outcome 5, as for a target that is
+-- no account."
 unfoldable pub payeeOf : ℕ → Payee
-payeeOf n = if ltb n firstContract then To (record { 0 = n }) else NoAccount
+payeeOf n = if eqb n withdrawn then Nobody else if ltb n firstContract then To (record { 0 = n }) else Nobody
 
 -- "A key is address (16 bits), field (16), a (32), b (32), all unsigned, compared in that order": one number of 96 bits, so that
 -- keys compare as numbers.

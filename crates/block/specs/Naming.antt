@@ -1,4 +1,5 @@
--- What a call and its instructions name: the call's function, a source's number, the account that PAY names, the cell of GET and PUT.
+-- What a call and its instructions name: the call's function, a source's number, the account that PAY pays, the cell of GET and PUT.
+use mathlib.Core.Bool.{Bool, true, false}
 use mathlib.Core.List.{List, [], _∷_}
 use mathlib.Core.Option.{Option, none, some}
 use Prim.Native.Nat.{ℕ}
@@ -17,6 +18,11 @@ functionOf [] c = none
 functionOf (f ∷ fs) c =
     if eqb (functionId f) (callId c) then some f else functionOf fs c
 
+-- Whether it has.
+abbrev pub isKnown : Option Function → Bool
+isKnown none = false
+isKnown (some f) = true
+
 -- "Sources: 0 is zero, 1 to 4 an argument, 5 the sender, 6 the constant": the number a source gives in a call.
 unfoldable pub sourceValue : Call → Source → ℕ
 sourceValue c source.Zero = 0
@@ -24,7 +30,7 @@ sourceValue c (source.Argument k) = argument c k
 sourceValue c source.Sender = c .sender .0
 sourceValue c (source.Constant n) = n
 
--- The account that PAY's source names, if it names one.
+-- The account that PAY pays by its source, if it pays one.
 abbrev pub targetOf : Call → Source → Payee
 targetOf c s = payeeOf (sourceValue c s)
 

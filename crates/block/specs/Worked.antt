@@ -1,10 +1,10 @@
--- Document 01's block P, as bytes and as contents.
+-- Document 01's block P, as bytes and as contents; and a block of payments to account 0, for document 02's M-101.
 use mathlib.Core.List.{List, [], _∷_}
 use Prim.Native.Nat.{ℕ}
 use lib.IntN.{ℤ, pos}
 use Rattle.block.specs.Key.{keyOf}
 use Rattle.block.specs.Encoding.{Routine, Contents}
-use Rattle.block.specs.Assemble.{joinedParts, STOP, SET, GET, PUT, PAY, JEQ, function, cell, call, end}
+use Rattle.block.specs.Assemble.{joinedParts, STOP, SET, GET, PUT, PAY, PAYTO, JEQ, function, cell, callWith, call, end}
 use Rattle.block.specs.declared.Call.{Call}
 
 -- "Block P (document 003, example 1): contract 32768; f0: SET 0 1, PUT 0 field 1; f1: GET 0 field 1, JEQ 0 1 to 3, STOP, SET 2 1,
@@ -44,3 +44,25 @@ contentsP =
       cells = record { key = keyOf 5 0 0 0; value = pos 2 } ∷ [];
       calls = calls 0 (pos 0) ∷ calls 1 (pos 1) ∷ calls 2 (pos 1) ∷ [];
     }
+
+-- Account 0 is named by source 0, by the constant 0 with amount 0, by argument 1 and as the sender, and once more by source 0 in another contract, behind a
+-- PUT. Calls 0 to 4 pay it; call 5 is that of 4 sent by account 7. Then account 0, which opens with 5, sends: 3 with a payment to account 8; 2 to a function
+-- that pays account 0; and 3, of 2 that it has left.
+unfoldable pub account0 : List ℕ
+account0 =
+    joinedParts
+    (function 32768 0 (SET 0 (pos 1) ∷ PAYTO 0 0 ∷ [])
+    ∷ function 32768 1 (PAY 0 0 ∷ [])
+    ∷ function 32768 2 (SET 0 (pos 1) ∷ PAYTO 0 1 ∷ [])
+    ∷ function 32768 3 (SET 0 (pos 1) ∷ PAYTO 0 5 ∷ [])
+    ∷ function 40000 0 (SET 0 (pos 1) ∷ PUT 0 1 0 ∷ PAYTO 0 0 ∷ [])
+    ∷ cell 0 0 0 0 (pos 5)
+    ∷ cell 32768 0 0 0 (pos 9)
+    ∷ cell 40000 0 0 0 (pos 9)
+    ∷ call 7 32768 0 (pos 0)
+    ∷ call 7 40000 0 (pos 0)
+    ∷ call 7 32768 1 (pos 0)
+    ∷ callWith 7 32768 2 (pos 0) 0
+    ∷ call 0 32768 3 (pos 0)
+    ∷ call 7 32768 3 (pos 0)
+    ∷ callWith 0 32768 2 (pos 3) 8 ∷ call 0 40000 0 (pos 2) ∷ call 0 32768 1 (pos 3) ∷ end ∷ [])

@@ -11,10 +11,10 @@ pub use address::Account;
 pub use address::Address;
 pub use address::Contract;
 
-// Whom a number of 32 bits names as the target of PAY.
+// Whom PAY pays.
 pub enum Payee {
     To(Account),
-    NoAccount,
+    Nobody,
 }
 
 // Where an instruction takes a part of a key, or a target, from.

@@ -56,16 +56,22 @@ const ADDRESSES: u64 = 65536;
 
 const ID_BASE: u64 = 65536;
 
-// Whom a number names as the target of PAY: all its bits count.
+// M-101: "account 0 marks withdrawn warrants".
+const WITHDRAWN: u64 = 0;
+
+// Whom PAY pays where a number names its target: all its bits count.
 pub fn payee_of(n: u64) -> Payee
     ensures { λ r. ⌜ r ≡ payeeOf n ⌝ }
 {
+    if n == WITHDRAWN {
+        return Payee::Nobody;
+    }
     if ADDRESSES <= n {
-        return Payee::NoAccount;
+        return Payee::Nobody;
     }
     match address_of(n as u16) {
         Address::OfAccount(account) => Payee::To(account),
-        Address::OfContract(_) => Payee::NoAccount,
+        Address::OfContract(_) => Payee::Nobody,
     }
 }
 

@@ -18,7 +18,7 @@ use Rattle.block.specs.Key.{accountBalance, contractBalance}
 use Rattle.block.specs.Record.{Function}
 use Rattle.block.specs.declared.Call.{Call}
 use Rattle.block.specs.declared.Payee.{Payee}
-use Rattle.block.specs.declared.Payee.the-variants.{To, NoAccount}
+use Rattle.block.specs.declared.Payee.the-variants.{To, Nobody}
 use Rattle.block.specs.declared.Instr.{Instr}
 use Rattle.block.specs.declared.Instr.the-variants.{Stop, Throw, Set, Arg, Sender, Value, Add, Sub, Mul, Div, Get, Put, Bal, Pay, Jeq, Jlt}
 use Rattle.block.specs.Naming.{cellKey, targetOf}
@@ -87,7 +87,7 @@ module _ (Q : ℕ → Type 0) where
       transfer-alike : (m : ℤ) (payee : Payee) → σ (contractBalance (c .contract)) ≡ τ (contractBalance (c .contract))
           → Beside (transfer c p ρ n σ m payee) (transfer c p ρ n τ m payee)
       unfolding transfer
-      transfer-alike m NoAccount e = (refl, refl)
+      transfer-alike m Nobody e = (refl, refl)
       transfer-alike m (To account) e =
           go (nonNeg m) (ltZ (σ own) m) (ltZ (τ own) m) (ap (λ (x : ℤ). ltZ x m) e)
         where

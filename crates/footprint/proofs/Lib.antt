@@ -1,6 +1,6 @@
 -- To read: SetsExact, SafeSetsProof and TransactionExchange are the theorems of SetsInWords and SafeSets. Below them: SetLaws, SetAccessLaws and
--- ConflictLaws on sets, TransactionLaws, RuleLimit, FitLaws and AlikeLaws on the rule. AccessLaws is for the code that asks for the uses of an
--- instruction, here and in `moves`.
+-- ConflictLaws on sets, TransactionLaws, RuleLimit, FitLaws and AlikeLaws on the rule. WithdrawnLaws is for account 0, and AccessLaws for the code that
+-- asks for the uses of an instruction, here and in `moves`.
 pub mod SetLaws
 pub mod SetAccessLaws
 pub mod ConflictLaws
@@ -10,5 +10,6 @@ pub mod RuleLimit
 pub mod FitLaws
 mod AlikeLaws
 pub mod SafeSetsProof
+pub mod WithdrawnLaws
 mod TransactionExchange
 pub mod AccessLaws

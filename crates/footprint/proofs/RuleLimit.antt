@@ -16,12 +16,12 @@ use Rattle.arith.proofs.IntegerLaws.{signed-range}
 use Rattle.wire.specs.Bytes.{number, readLe}
 use Rattle.wire.proofs.BytesLaws.{number-lt}
 use Rattle.block.specs.Key.{firstContract, payeeOf, isBalance}
+use Rattle.block.proofs.KeyLaws.{payee-all}
 use Rattle.block.specs.Instruction.{instrBytes, decode}
 use Rattle.block.proofs.DecodeLaws.{Decodes}
 use Rattle.block.specs.Record.{Function, callBytes, argument, callOf}
 use Rattle.block.specs.declared.Call.{Call}
 use Rattle.block.specs.declared.CallBody.the-variants.{InRange, OutOfRange}
-use Rattle.block.specs.declared.Payee.the-variants.{To, NoAccount}
 use Rattle.block.specs.declared.Decoded.{Decoded}
 use Rattle.block.specs.declared.Decoded.the-variants.{Valid, Invalid}
 use Rattle.block.specs.declared.Instr.{Instr}
@@ -117,12 +117,9 @@ module _ (R : ℤ → Type 0) (K : State → Type 0) (fit : (z : ℤ) → mag z 
     → K (credit (debit σ (balanceKey a) m) (balanceKey b) m))
     (other : (σ : State) → K σ → (k : ℕ) (v : ℤ) → isBalance k ≡ false → R v → K (update σ k v)) (c : Call) (fits : CallBounded c) where
   pay-keeps : (n : ℕ) → PayKeeps c K (payeeOf n)
-  unfolding payeeOf
-  pay-keeps n = go (ltb n firstContract) refl
-    where
-      go : (b : Bool) → ltb n firstContract ≡ b → PayKeeps c K (if b then To (record { 0 = n }) else NoAccount)
-      go true e = λ σ m s l holds. move σ holds (c .contract .0) n (fits .ranges .contract) (omega (arith, ltb-true n firstContract e)) m s l
-      go false e = tt
+  pay-keeps n =
+      payee-all (PayKeeps c K) n
+      (λ other low σ m s l holds. move σ holds (c .contract .0) n (fits .ranges .contract) (omega (arith, low)) m s l) tt
 
   instr-keeps : (i : Instr) → InstrSound i → InstrKeeps c R K i
   instr-keeps Stop f = tt

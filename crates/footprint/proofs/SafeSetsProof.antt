@@ -16,7 +16,7 @@ use Rattle.block.specs.Key.{accountBalance, contractBalance}
 use Rattle.block.specs.Record.{Function}
 use Rattle.block.specs.declared.Call.{Call}
 use Rattle.block.specs.declared.Payee.{Payee}
-use Rattle.block.specs.declared.Payee.the-variants.{To, NoAccount}
+use Rattle.block.specs.declared.Payee.the-variants.{To, Nobody}
 use Rattle.block.specs.declared.Instr.{Instr}
 use Rattle.block.specs.declared.Instr.the-variants.{Stop, Throw, Set, Arg, Sender, Value, Add, Sub, Mul, Div, Get, Put, Bal, Pay, Jeq, Jlt}
 use Rattle.block.specs.Naming.{cellKey, targetOf, functionOf}
@@ -33,7 +33,7 @@ use Rattle.rule.specs.Rule.{State, update, credit, debit, stateWithinLimit}
 pub no-amount : (m : ℤ) → nonNeg m ≡ true → ltZ (pos 0) m ≡ false → m ≡ pos 0
 no-amount m s l = equal m (pos 0) (omega (arith, nonNeg-true m s, ltZ-false (pos 0) m l))
 
-minus-none : (x : ℤ) → x -ℤ pos 0 ≡ x
+pub minus-none : (x : ℤ) → x -ℤ pos 0 ≡ x
 minus-none x = equal (x -ℤ pos 0) x (omega (arith, diff x (pos 0)))
 
 plus-none : (x : ℤ) → x +ℤ pos 0 ≡ x
@@ -65,9 +65,9 @@ module _ (c : Call) (k : ℕ) (v : ℤ) where
   pay-frame : (payee : Payee) → eqb k (contractBalance (c .contract)) ≡ false → paidTo k payee ≡ false → PayKeeps c (Stays k v) payee
   unfolding paidTo
   pay-frame (To account) e f = λ σ m s l h. move-other σ (contractBalance (c .contract)) (accountBalance account) m k e f ∙ h
-  pay-frame NoAccount e f = tt
+  pay-frame Nobody e f = tt
 
-  instr-frame : (i : Instr) → writtenBy c k i ≡ false → InstrKeeps c anyValue (Stays k v) i
+  pub instr-frame : (i : Instr) → writtenBy c k i ≡ false → InstrKeeps c anyValue (Stays k v) i
   unfolding writtenBy
   instr-frame Stop e = tt
   instr-frame Throw e = tt

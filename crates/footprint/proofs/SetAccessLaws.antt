@@ -6,25 +6,24 @@ use mathlib.Core.List.{List, [], _∷_}
 use mathlib.Core.Option.{Option, none, some}
 use Prim.Native.Nat.{ℕ, zero, suc, _+_, _*_, _^_, _≤_, _<_}
 use native.Mathlib.Omega.{arith}
-use borrow.Author.Tests.{ltb-true}
-use lib.Dec.{eqb, ltb, lit<}
+use lib.Dec.{eqb, lit<}
 use lib.IntN.{pos}
 use lib.Signed.{ltZ}
 use lib.ListN.{length, take, drop}
 use lib.Seq.{getD-drop}
 use Rattle.block.specs.Encoding.{AreBytes}
 use Rattle.footprint.specs.SafeSets.{InRanges}
-use Rattle.arith.specs.Choice.{if_then_else_}
 use Rattle.arith.proofs.ChoiceLaws.{if-all}
 use Rattle.wire.specs.Bytes.{number}
 use Rattle.wire.proofs.BytesLaws.{number-lt}
 use Rattle.block.specs.Key.{firstContract, accountBalance, contractBalance, payeeOf}
+use Rattle.block.proofs.KeyLaws.{payee-all}
 use Rattle.block.specs.Instruction.{instrBytes, decode}
 use Rattle.block.proofs.DecodeLaws.{SourceFits, CellSourcesFit, InstrFits, InstrLawful, Decodes, decodes-map, decode-lawful}
 use Rattle.block.specs.Record.{Function, argument, codeAt}
 use Rattle.block.specs.declared.Call.{Call}
 use Rattle.block.specs.declared.Payee.{Payee}
-use Rattle.block.specs.declared.Payee.the-variants.{To, NoAccount}
+use Rattle.block.specs.declared.Payee.the-variants.{To, Nobody}
 use Rattle.block.specs.declared.Source.{Source}
 use Rattle.block.specs.declared.Source.the-variants as source
 use Rattle.block.specs.declared.Decoded.{Decoded}
@@ -42,7 +41,7 @@ use Rattle.footprint.specs.Uses.{Keyed, anyKey, Used}
 pay-few : (c : Call) (p : Payee) → length (payAccesses c p) ≤ 2
 unfolding payAccesses
 pay-few c (To account) = omega arith
-pay-few c NoAccount = omega arith
+pay-few c Nobody = omega arith
 
 -- An instruction has at most two accesses, and so has the entry.
 pub accesses-few : (c : Call) (i : Instr) → length (accesses c i) ≤ 2
@@ -86,12 +85,11 @@ module _ (c : Call) (K : ℕ → Type 0) (own : K (contractBalance (c .contract)
   keyed-joins e a p q = record { used = still-used (e .reads) (e .writes) (a .reads) (a .writes) (p .used); keyed = p .keyed }
 
   pay-keyed : (n : ℕ) → EachAccess (Keyed K) (payAccesses c (payeeOf n))
-  unfolding payeeOf payAccesses
-  pay-keyed n = go (ltb n firstContract) refl
-    where
-      go : (b : Bool) → ltb n firstContract ≡ b → EachAccess (Keyed K) (payAccesses c (if b then To (record { 0 = n }) else NoAccount))
-      go true e = (record { used = refl; keyed = own }, (record { used = refl; keyed = balance n (ltb-true n firstContract e) }, tt))
-      go false e = (record { used = refl; keyed = own }, tt)
+  unfolding payAccesses
+  pay-keyed n =
+      payee-all (λ (p : Payee). EachAccess (Keyed K) (payAccesses c p)) n
+      (λ other low. (record { used = refl; keyed = own }, (record { used = refl; keyed = balance n low }, tt)))
+      (record { used = refl; keyed = own }, tt)
 
   pub accesses-keyed : (i : Instr)
       → ((x field : ℕ) (a b : Source) → (i ≡ Get x field a b) ⊎ (i ≡ Put x field a b) → K (cellKey c field a b))

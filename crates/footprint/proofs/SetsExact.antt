@@ -15,7 +15,7 @@ use Rattle.block.specs.Instruction.{instrBytes, decode}
 use Rattle.block.specs.Record.{Function, codeAt}
 use Rattle.block.specs.declared.Call.{Call}
 use Rattle.block.specs.declared.Payee.{Payee}
-use Rattle.block.specs.declared.Payee.the-variants.{To, NoAccount}
+use Rattle.block.specs.declared.Payee.the-variants.{To, Nobody}
 use Rattle.block.specs.declared.Decoded.{Decoded}
 use Rattle.block.specs.declared.Decoded.the-variants.{Valid, Invalid}
 use Rattle.block.specs.declared.Instr.{Instr}
@@ -68,7 +68,7 @@ module _ (c : Call) (k : ℕ) where
   pay-read : (p : Payee) → member k (readSet (payAccesses c p)) ≡ eqb k (contractBalance (c .contract))
   unfolding payAccesses readSet member
   pay-read (To account) = or-false (eqb k (contractBalance (c .contract)))
-  pay-read NoAccount = or-false (eqb k (contractBalance (c .contract)))
+  pay-read Nobody = or-false (eqb k (contractBalance (c .contract)))
 
   instr-read : (i : Instr) → member k (readSet (accesses c i)) ≡ readBy c k i
   unfolding accesses readBy readSet member
@@ -118,7 +118,7 @@ module _ (c : Call) (k : ℕ) where
   unfolding payAccesses paidTo writeSet member
   pay-written (To account) =
       ap (λ (b : Bool). eqb k (contractBalance (c .contract)) || b) (or-false (eqb k (accountBalance account)))
-  pay-written NoAccount = refl
+  pay-written Nobody = refl
 
   instr-written : (i : Instr) → member k (writeSet (accesses c i)) ≡ writtenBy c k i
   unfolding accesses writtenBy writeSet member

@@ -1,10 +1,12 @@
 -- What holds of values and of a state at the entry of a transaction and is kept by each of its instructions holds of the state that it
 -- leaves.
-use mathlib.Core.Path.{_≡_, refl}
+use mathlib.Core.Path.{_≡_, refl, subst⁻¹}
 use mathlib.Core.Bool.{Bool, true, false}
 use mathlib.Core.List.{List, [], _∷_}
 use mathlib.Core.Option.{Option, none, some}
-use Prim.Native.Nat.{ℕ, zero, suc, _+_, _^_, _<_}
+use Prim.Native.Nat.{ℕ, zero, suc, _+_, _^_, _<_, _≤_}
+use native.Mathlib.Omega.{arith}
+use native.Mathlib.Decide.{ℕ-discrete}
 use borrow.Author.Tests.{ltb-true}
 use lib.Dec.{lit<}
 use lib.IntN.{ℤ, pos, negsuc, negℤ, _+ℤ_, _-ℤ_, _*ℤ_}
@@ -15,15 +17,16 @@ use Rattle.arith.proofs.ChoiceLaws.{if-all, neither}
 use Rattle.arith.specs.Exact.{fits64, checked, floorBy, divOf}
 use Rattle.arith.specs.declared.Checked.{Checked}
 use Rattle.block.specs.Key.{accountBalance, contractBalance}
+use Rattle.block.specs.Outcomes.{ended, balanceTooLow, thrown}
 use Rattle.block.specs.Record.{Function, argument}
 use Rattle.block.specs.declared.Call.{Call}
 use Rattle.block.specs.declared.Payee.{Payee}
-use Rattle.block.specs.declared.Payee.the-variants.{To, NoAccount}
+use Rattle.block.specs.declared.Payee.the-variants.{To, Nobody}
 use Rattle.block.specs.declared.Instr.{Instr}
 use Rattle.block.specs.declared.Instr.the-variants.{Stop, Throw, Set, Arg, Sender, Value, Add, Sub, Mul, Div, Get, Put, Bal, Pay, Jeq, Jlt}
 use Rattle.block.specs.Naming.{cellKey, targetOf}
 use Rattle.footprint.specs.SetsInWords.{someOf, instructionsOf}
-use Rattle.rule.specs.Rule.{State, update, credit, debit, Result, ends, fails, Course, before, over, assignChecked, transfer, execute, executeAt, runBody, settle, unbegun, runFunction, transactionBy}
+use Rattle.rule.specs.Rule.{State, update, credit, debit, Result, ends, fails, Course, before, over, assignChecked, transfer, execute, executeAt, runBody, Left, settle, unbegun, runFunction, transactionBy}
 
 -- What holds of everything in a list.
 abbrev pub Every : {A : Type 0} → (A → Type 0) → List A → Type 0
@@ -70,10 +73,14 @@ module _ (R : ℤ → Type 0) where
 abbrev pub anyValue : ℤ → Type 0
 anyValue z = Unit {0}
 
--- The one of states holds of the state in which a body ended.
+-- The one of states holds of the state in which a body ended; a body that fails has an outcome of its own.
 abbrev LeftWith : (State → Type 0) → Result → Type 0
 LeftWith K (ends σ n behind) = K σ
-LeftWith K (fails outcome n) = Unit {0}
+LeftWith K (fails outcome n) = thrown ≤ outcome
+
+-- What a transaction leaves of a state: one with the property if it ended with 0, else that state.
+abbrev pub EndsWith : (State → Type 0) → State → Left → Type 0
+EndsWith K σ l = (l .outcome ≡ ended → K (l .state)) × ((l .outcome ≡ ended → ⊥) → l .state ≡ σ)
 
 -- Where a body is, the one of values holds of each register, and the one of states of the state.
 abbrev AtWith : (ℤ → Type 0) → (State → Type 0) → Course → Type 0
@@ -85,7 +92,7 @@ abbrev pub PayKeeps : Call → (State → Type 0) → Payee → Type 0
 PayKeeps c K (To account) =
     (σ : State) (m : ℤ) → nonNeg m ≡ true → ltZ (σ (contractBalance (c .contract))) m ≡ false → K σ
     → K (credit (debit σ (contractBalance (c .contract)) m) (accountBalance account) m)
-PayKeeps c K NoAccount = Unit {0}
+PayKeeps c K Nobody = Unit {0}
 
 module _ (c : Call) (R : ℤ → Type 0) (K : State → Type 0) where
   -- What an instruction assigns to a register from call or state has the one, and what it changes keeps the other: only PUT and PAY change a
@@ -123,17 +130,17 @@ module _ (c : Call) (R : ℤ → Type 0) (fit : (z : ℤ) → mag z < 2 ^ 63 →
     checked-keeps : (x : ℕ) (z : ℤ) → At (assignChecked p ρ n σ x (checked z))
     unfolding assignChecked checked
     checked-keeps x z =
-        if-all (λ (r : Checked). At (assignChecked p ρ n σ x r)) (fits64 z) (λ e. assign-keeps x z (fit z (ltb-true (mag z) (2 ^ 63) e))) (λ e. tt)
+        if-all (λ (r : Checked). At (assignChecked p ρ n σ x r)) (fits64 z) (λ e. assign-keeps x z (fit z (ltb-true (mag z) (2 ^ 63) e))) (λ e. omega arith)
 
     div-keeps : (x : ℕ) (a b : ℤ) → At (assignChecked p ρ n σ x (divOf a b))
     unfolding assignChecked divOf
-    div-keeps x a (pos zero) = tt
+    div-keeps x a (pos zero) = omega arith
     div-keeps x a (pos (suc d)) = checked-keeps x (floorBy a (suc d))
     div-keeps x a (negsuc d) = checked-keeps x (floorBy (negℤ a) (suc d))
 
     transfer-keeps : (m : ℤ) (payee : Payee) → PayKeeps c K payee → At (transfer c p ρ n σ m payee)
     unfolding transfer
-    transfer-keeps m NoAccount q = tt
+    transfer-keeps m Nobody q = omega arith
     transfer-keeps m (To account) q = go (nonNeg m) (ltZ (σ (contractBalance (c .contract))) m) refl refl
       where
         after : State
@@ -141,14 +148,14 @@ module _ (c : Call) (R : ℤ → Type 0) (fit : (z : ℤ) → mag z < 2 ^ 63 →
 
         go : (s l : Bool) → nonNeg m ≡ s → ltZ (σ (contractBalance (c .contract))) m ≡ l
             → At (if s then (if l then over (fails 5 n) else before (p + 1) ρ n after) else over (fails 5 n))
-        go false l s e = tt
-        go true true s e = tt
+        go false l s e = omega arith
+        go true true s e = omega arith
         go true false s e = (all, q σ m s e holds)
 
     execute-keeps : (i : Instr) → InstrKeeps c R K i → At (execute c p ρ n σ i)
     unfolding execute
     execute-keeps Stop q = holds
-    execute-keeps Throw q = tt
+    execute-keeps Throw q = omega arith
     execute-keeps (Set x v) q = assign-keeps x v q
     execute-keeps (Arg x k) q = assign-keeps x (pos (argument c k)) q
     execute-keeps (Sender x) q = assign-keeps x (pos (c .sender .0)) q
@@ -180,28 +187,41 @@ module _ (c : Call) (R : ℤ → Type 0) (fit : (z : ℤ) → mag z < 2 ^ 63 →
         (at-keeps p ρ n σ (h .0) (h .1) (getElem? body p) (every-at (InstrKeeps c R K) body each p))
     run-keeps (suc turns) (over r) h = h
 
-  settle-keeps : (σ : State) → K σ → (r : Result) → LeftWith K r → K (settle σ r .state)
+  settle-ends : (σ : State) (r : Result) → LeftWith K r → EndsWith K σ (settle σ r)
   unfolding settle
-  settle-keeps σ holds (ends τ n behind) h = h
-  settle-keeps σ holds (fails outcome n) h = holds
+  settle-ends σ (ends τ n behind) h = (λ e. h, λ d. absurd (d refl))
+  settle-ends σ (fails outcome n) h = (λ e. absurd (omega (arith, e, h)), λ d. refl)
 
   -- "signed 64 bits, 0 at start"
   zeros : Every R (pos 0 ∷ pos 0 ∷ pos 0 ∷ pos 0 ∷ pos 0 ∷ pos 0 ∷ pos 0 ∷ pos 0 ∷ [])
   zeros = let z : R (pos 0) = fit (pos 0) (lit< tt) in (z, (z, (z, (z, (z, (z, (z, (z, tt))))))))
 
-  -- A transaction keeps what its entry and its instructions keep; where it does not begin, or fails, the state is as it was.
+  -- What the entry of a transaction makes and its instructions keep holds where it ended with 0; else the state is as it was.
+  pub transaction-ends : (block : List ℕ) (σ : State) (f : Option Function)
+      → ((g : Function) → f ≡ some g → ltZ (σ (accountBalance (c .sender))) (c .value) ≡ false
+      → K (credit (debit σ (accountBalance (c .sender)) (c .value)) (contractBalance (c .contract)) (c .value)))
+      → ((g : Function) → f ≡ some g → Every (InstrKeeps c R K) (instructionsOf block g))
+      → EndsWith K σ (transactionBy block c σ f)
+  unfolding transactionBy runFunction
+  transaction-ends block σ none entry each = (λ e. absurd (omega (arith, e)), λ d. refl)
+  transaction-ends block σ (some g) entry each = go (ltZ (σ (accountBalance (c .sender))) (c .value)) refl
+    where
+      go : (b : Bool) → ltZ (σ (accountBalance (c .sender))) (c .value) ≡ b
+          → EndsWith K σ (if b then unbegun σ balanceTooLow else runFunction block c σ g)
+      go true e = (λ o. absurd (omega (arith, o)), λ d. refl)
+      go false e =
+          settle-ends σ _
+          (run-keeps (instructionsOf block g) (each g refl) (length (instructionsOf block g) + 1) _ (zeros, entry g refl e))
+
+  -- So a transaction keeps what its entry and its instructions keep.
   pub transaction-keeps : (block : List ℕ) (σ : State) → K σ → (f : Option Function)
       → ((g : Function) → f ≡ some g → ltZ (σ (accountBalance (c .sender))) (c .value) ≡ false
       → K (credit (debit σ (accountBalance (c .sender)) (c .value)) (contractBalance (c .contract)) (c .value)))
       → ((g : Function) → f ≡ some g → Every (InstrKeeps c R K) (instructionsOf block g))
       → K (transactionBy block c σ f .state)
-  unfolding transactionBy runFunction
-  transaction-keeps block σ holds none entry each = holds
-  transaction-keeps block σ holds (some g) entry each = go (ltZ (σ (accountBalance (c .sender))) (c .value)) refl
+  transaction-keeps block σ holds f entry each =
+      go (transaction-ends block σ f entry each) (ℕ-discrete (transactionBy block c σ f .outcome) ended)
     where
-      go : (b : Bool) → ltZ (σ (accountBalance (c .sender))) (c .value) ≡ b
-          → K ((if b then unbegun σ 2 else runFunction block c σ g) .state)
-      go true e = holds
-      go false e =
-          settle-keeps σ holds _
-          (run-keeps (instructionsOf block g) (each g refl) (length (instructionsOf block g) + 1) _ (zeros, entry g refl e))
+      go : EndsWith K σ (transactionBy block c σ f) → Dec (transactionBy block c σ f .outcome ≡ ended) → K (transactionBy block c σ f .state)
+      go left (yes e) = left .0 e
+      go left (no d) = subst⁻¹ K (left .1 d) holds

@@ -9,7 +9,7 @@ use Rattle.arith.specs.Choice.{if_then_else_}
 use Rattle.block.specs.Key.{accountBalance, contractBalance}
 use Rattle.block.specs.declared.Call.{Call}
 use Rattle.block.specs.declared.Payee.{Payee}
-use Rattle.block.specs.declared.Payee.the-variants.{To, NoAccount}
+use Rattle.block.specs.declared.Payee.the-variants.{To, Nobody}
 use Rattle.block.specs.declared.Instr.{Instr}
 use Rattle.block.specs.declared.Instr.the-variants.{Stop, Throw, Set, Arg, Sender, Value, Add, Sub, Mul, Div, Get, Put, Bal, Pay, Jeq, Jlt}
 
@@ -35,10 +35,11 @@ entryAccesses c =
     then changing (accountBalance (c .sender)) ∷ writing (contractBalance (c .contract)) ∷ []
     else []
 
--- "PAY reads and writes it and writes the target's balance if the target is an account": it is the contract's balance.
+-- "PAY reads and writes it and writes the target's balance if the target is an account": it is the contract's balance. M-101, of account 0: "Its balance no
+-- longer enters the write set of that PAY."
 unfoldable pub payAccesses : Call → Payee → List Access
 payAccesses c (To account) = changing (contractBalance (c .contract)) ∷ writing (accountBalance account) ∷ []
-payAccesses c NoAccount = changing (contractBalance (c .contract)) ∷ []
+payAccesses c Nobody = changing (contractBalance (c .contract)) ∷ []
 
 -- "GET reads its key, PUT writes its key, BAL reads the contract's balance"; the others touch no cell.
 unfoldable pub accesses : Call → Instr → List Access

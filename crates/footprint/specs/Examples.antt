@@ -3,10 +3,11 @@ use mathlib.Core.Path.{_≡_, refl}
 use mathlib.Core.List.{List, [], _∷_, _++_, map}
 use Prim.Native.Nat.{ℕ, zero, suc, _+_, _*_, _^_}
 use lib.IntN.{pos}
+use lib.ListN.{getD, take, drop}
 use Rattle.block.specs.Reader.{Read, accepted, refused, readBlock}
 use Rattle.block.specs.Refusal.{numberOf, offsetOf}
 use Rattle.block.specs.Assemble.{joinedParts, GET, PUT, PAY, BAL, function, call, end}
-use Rattle.block.specs.Worked.{P}
+use Rattle.block.specs.Worked.{P, account0}
 use Rattle.footprint.specs.Access.{Access}
 use Rattle.footprint.specs.Sets.{readSet, writeSet}
 use Rattle.footprint.specs.Conflict.{rowFor}
@@ -41,6 +42,10 @@ rows file = rowsOf (analysis file (readBlock file))
 
 abbrev sets : List ℕ → List (List ℕ)
 sets file = setsAndTable (analysis file (readBlock file))
+
+-- The first word of a row.
+abbrev first : List ℕ → ℕ
+first row = getD row 0 0
 
 -- Keys: a balance, and a cell of contract 32768.
 abbrev balance : ℕ → ℕ
@@ -82,3 +87,34 @@ pub record Sets-P : Type 0 where
 pub sets-of-p : Sets-P
 unfolding computing joinedParts P gets keysBlock readers analysis firstWords rowsOf bothSets setsAndTable
 sets-of-p = record { rows-p = refl; sets-p = refl; rows-readers = refl; keys-24 = refl; keys-25 = refl }
+
+-- Balances: of the two contracts of the block of payments to account 0, and of account 0, whose key is 0.
+abbrev own : ℕ
+own = balance 32768
+
+abbrev own′ : ℕ
+own′ = balance 40000
+
+abbrev of0 : ℕ
+of0 = balance 0
+
+-- Two contracts pay one account, with the amount 0.
+unfoldable pub twoPay : ℕ → List ℕ
+twoPay target =
+    joinedParts
+    (function 32768 0 (PAY 0 target ∷ [])
+    ∷ function 40000 0 (PAY 0 target ∷ []) ∷ call 5 32768 0 (pos 0) ∷ call 5 40000 0 (pos 0) ∷ end ∷ [])
+
+-- M-101. Calls 0 to 4 pay account 0, and use the contract's balance alone, with the PUT of call 1; call 5 pays account 7, and 6 account 8. Calls 6 to 8 are
+-- sent by account 0 with a value, which reads and writes its balance.
+pub record Sets-account0 : Type 0 where
+  -- Two calls that pay account 0 and share nothing else do not wait for one another; any other account they share.
+  pub two-0 : map first (rows (twoPay 0)) ≡ 0 ∷ 0 ∷ []
+  pub two-1 : map first (rows (twoPay 1)) ≡ 0 ∷ 1 ∷ []
+  pub rows-0 : map first (rows account0) ≡ 0 ∷ 0 ∷ 1 ∷ 5 ∷ 13 ∷ 29 ∷ 61 ∷ 66 ∷ 253 ∷ []
+  pub sets-0 : take 10 (sets account0) ≡ (own ∷ []) ∷ (own ∷ []) ∷ (own′ ∷ []) ∷ ((own′ + 2 ^ 64) ∷ own′ ∷ []) ∷ (own ∷ []) ∷ (own ∷ []) ∷ (own ∷ []) ∷ (own ∷ []) ∷ (own ∷ []) ∷ (own ∷ []) ∷ []
+  pub sets-5 : take 8 (drop 10 (sets account0)) ≡ (own ∷ []) ∷ (own ∷ balance 7 ∷ []) ∷ (of0 ∷ own ∷ []) ∷ (of0 ∷ own ∷ balance 8 ∷ []) ∷ (of0 ∷ own′ ∷ []) ∷ (of0 ∷ own′ ∷ (own′ + 2 ^ 64) ∷ []) ∷ (of0 ∷ own ∷ []) ∷ (of0 ∷ own ∷ []) ∷ []
+
+pub sets-of-account0 : Sets-account0
+unfolding computing joinedParts account0 twoPay analysis firstWords rowsOf bothSets setsAndTable
+sets-of-account0 = record { two-0 = refl; two-1 = refl; rows-0 = refl; sets-0 = refl; sets-5 = refl }

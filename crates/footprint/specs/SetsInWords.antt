@@ -11,7 +11,7 @@ use Rattle.block.specs.Key.{accountBalance, contractBalance}
 use Rattle.block.specs.Record.{Function, codeAt}
 use Rattle.block.specs.declared.Call.{Call}
 use Rattle.block.specs.declared.Payee.{Payee}
-use Rattle.block.specs.declared.Payee.the-variants.{To, NoAccount}
+use Rattle.block.specs.declared.Payee.the-variants.{To, Nobody}
 use Rattle.block.specs.declared.Instr.{Instr}
 use Rattle.block.specs.declared.Instr.the-variants.{Stop, Throw, Set, Arg, Sender, Value, Add, Sub, Mul, Div, Get, Put, Bal, Pay, Jeq, Jlt}
 use Rattle.block.specs.Naming.{cellKey, targetOf, functionOf}
@@ -38,10 +38,10 @@ readBy c k (Pay x target) = eqb k (contractBalance (c .contract))
 readBy c k (Jeq x y to) = false
 readBy c k (Jlt x y to) = false
 
--- PAY "writes the target's balance if the target is an account"
+-- PAY "writes the target's balance if the target is an account", and M-101: not that of account 0, where nobody is paid
 unfoldable pub paidTo : ℕ → Payee → Bool
 paidTo k (To account) = eqb k (accountBalance account)
-paidTo k NoAccount = false
+paidTo k Nobody = false
 
 -- "PUT writes its key, .. PAY reads and writes" the contract's balance "and writes the target's balance if the target is an account."
 unfoldable pub writtenBy : Call → ℕ → Instr → Bool

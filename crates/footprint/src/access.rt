@@ -155,7 +155,7 @@ fn payee_uses(c: Call, target: Payee) -> Uses
     let own = balance_use(Address::OfContract(contract), true, true);
     match target {
         Payee::To(account) => two(own, balance_use(Address::OfAccount(account), false, true)),
-        Payee::NoAccount => one(own),
+        Payee::Nobody => one(own),
     }
 }
 

@@ -2,6 +2,7 @@
 pub mod ViewCalls
 pub mod ViewEntries
 pub mod ViewFrame
+pub mod ViewSpares
 pub mod ViewEnds
 pub mod ViewLawful
 pub mod ViewKeys

@@ -61,7 +61,7 @@ same-receipt : (q : CallCourse Place Receipt) (r r′ : Receipt) → q ≡ calls
 same-receipt q r r′ e e′ = cc
 
 -- A place of a list that has an element is within it.
-found-below : {A : Type 0} (l : List A) (i : ℕ) (x : A) → getElem? l i ≡ some x → i < length l
+pub found-below : {A : Type 0} (l : List A) (i : ℕ) (x : A) → getElem? l i ≡ some x → i < length l
 found-below [] i x e = absurd (Option·none-ne-some x e)
 found-below (y ∷ l) zero x e = omega arith
 found-below (y ∷ l) (suc i) x e = let h : i < length l = found-below l i x e in omega arith
@@ -104,7 +104,7 @@ module _ (s : Sizes) (file : List ℕ) (workers : ℕ) (bytes : AreBytes file) (
     es = setsAt file c
 
     -- What the opening has of it: its record, words and view; its ranges; and its sets, safe and with every key that it reads in the table.
-    opened : CallOpened file b (after .table) (s .keys) r₀ c x
+    pub opened : CallOpened file b (after .table) (s .keys) r₀ c x
     opened =
         let o = after .opened .calls c less in
         subst⁻¹ (CallOpened file b (after .table) (s .keys) r₀ c) (found-in (b .calls) c (bodyCall OutOfRange) (o .0) (o .1 .at)) (o .1)
@@ -112,7 +112,7 @@ module _ (s : Sizes) (file : List ℕ) (workers : ℕ) (bytes : AreBytes file) (
     abbrev record-bytes : List ℕ
     record-bytes = drop (b .firstCall + callRecordBytes * c + headBytes) file
 
-    fits : CallBounded x
+    pub fits : CallBounded x
     fits = read-call-bounded record-bytes (drop-bytes (b .firstCall + callRecordBytes * c + headBytes) file bytes) x (opened .body)
 
     safe : Safe (readSet es) (writeSet es) (ruleFor file c)
@@ -220,17 +220,17 @@ module _ (s : Sizes) (file : List ℕ) (workers : ℕ) (bytes : AreBytes file) (
   block-elsewhere : (k : ℕ) → member k (tableIn r₀) ≡ false → (openingState file k ≡ pos 0) × (closingState file k ≡ pos 0)
   block-elsewhere k out =
       let opens : openingState file k ≡ pos 0 = opening-elsewhere (b .cells) k (off-table (openingKeys b) (tableIn r₀) k (opening-listed k) out) in
-      (opens, lefts-keep file (b .functions) k (b .calls) each (openingState file) ∙ opens)
+      (opens, lefts-keep file (b .functions) (λ (σ : State). σ k ≡ pos 0) (b .calls) each (openingState file) opens)
     where
       opening-listed : (j : ℕ) → member j (openingKeys b) ≡ true → member j (tableIn r₀) ≡ true
       opening-listed =
           subst⁻¹ (λ (t : List ℕ). (j : ℕ) → member j (openingKeys b) ≡ true → member j t ≡ true) table-is (after .opened .openingListed)
 
-      each : (i : ℕ) (c : Call) → getElem? (b .calls) i ≡ some c → (σ : State) → transaction file (b .functions) c σ .state k ≡ σ k
-      each i c e σ =
+      each : (i : ℕ) (c : Call) → getElem? (b .calls) i ≡ some c → (σ : State) → σ k ≡ pos 0 → transaction file (b .functions) c σ .state k ≡ pos 0
+      each i c e σ none′ =
           let less : i < callCount file = found-below (b .calls) i c e in
-          subst (λ (y : Call). transaction file (b .functions) y σ .state k ≡ σ k) (found-in (b .calls) i (bodyCall OutOfRange) c e)
-          (keeps-elsewhere i less k out σ)
+          subst (λ (y : Call). transaction file (b .functions) y σ .state k ≡ pos 0) (found-in (b .calls) i (bodyCall OutOfRange) c e)
+          (keeps-elsewhere i less k out σ ∙ none′)
 
   bodies : (i : ℕ) (f : Function) → getElem? (b .functions) i ≡ some f → (p : ℕ) → p < f .size → InstrOf file f p
   bodies i f e p inside =

@@ -1,6 +1,7 @@
 -- The proofs of the statements in specs/: a room for each part of the way, then the theorems. Which rooms lead to which theorem:
 --   Demand1Proof          AcceptedOpening, NumbersByCondition, and of FollowingMachine the laws of buffers
 --   Demand2Proof          CallsOfRun, AcceptedOpening, FollowingMachine, SerialAndRule, RunAndTally
+--   WithdrawnProof        Demand2Proof, CallsOfRun, AcceptedOpening, FollowingMachine, SerialAndRule, RunAndTally
 --   Demand3Proof          those of Demand2Proof, ClosingSheet
 --   RegisterByTallyProof  Demand3Proof, ClosingSheet, RegisterOutput
 --   ClosedOpensProof      Demand2Proof, Demand3Proof, TheNextDay
@@ -18,6 +19,7 @@ mod RegisterOutput
 mod TheNextDay
 mod Demand1Proof
 mod Demand2Proof
+mod WithdrawnProof
 mod Demand3Proof
 mod RegisterByTallyProof
 mod ClosedOpensProof

@@ -24,7 +24,7 @@ use Rattle.block.proofs.DecodeLaws.{JumpsForward, Decodes, decode-forward}
 use Rattle.block.specs.Outcomes.{ended, unknownFunction, balanceTooLow, thrown, lastOutcome, maxCount}
 use Rattle.block.specs.declared.Call.{Call}
 use Rattle.block.specs.declared.Payee.{Payee}
-use Rattle.block.specs.declared.Payee.the-variants.{To, NoAccount}
+use Rattle.block.specs.declared.Payee.the-variants.{To, Nobody}
 use Rattle.block.specs.declared.Decoded.{Decoded}
 use Rattle.block.specs.declared.Decoded.the-variants.{Valid, Invalid}
 use Rattle.block.specs.declared.Instr.{Instr}
@@ -131,7 +131,7 @@ module _ (v : View) (place count n : ℕ) (regs : List ℤ) (behind : Leads v pl
   pay-fits c amount (To account) =
       does-fit (payAccesses c (To account)) _
       (if-all (NextFits v place count n (payAccesses c (To account))) (nonNeg amount) (λ e. (refl, refl, refl, omega arith)) (λ e. omega arith))
-  pay-fits c amount NoAccount = does-fit (payAccesses c NoAccount) _ (omega arith)
+  pay-fits c amount Nobody = does-fit (payAccesses c Nobody) _ (omega arith)
 
   entry-fits : (c : Call) → place ≡ 0 → Fits (entryAccesses c) (entryAction c regs)
   unfolding entryAccesses entryAction
@@ -169,53 +169,66 @@ module _ (v : View) (place count n : ℕ) (regs : List ℤ) (behind : Leads v pl
 
 -- ---- every place
 
--- What holds of a broken place, of an end, and of every action that fits, holds of what each place comes to.
+-- What holds of a broken place, of an end, of the entry's action and of that of each instruction that may stand there, holds of what each place
+-- comes to.
 module _ (v : View) (place count : ℕ) (regs : List ℤ) (P : (List ℤ → Performed) → Type 0) (breaks : P (λ cells. broken))
     (ends : (outcome : ℕ) → outcome ≤ lastOutcome → P (λ cells. ending outcome count))
-    (acts : (n : ℕ) (as′ : List Access) (a : Action) → ActionFits v place count n as′ regs a → P (λ cells. performAction v place n as′ a cells)) where
-  entry-all : place ≡ 0 → P (λ cells. stepEntry v place count regs cells)
+    (enters : place ≡ 0 → ¬ (place ≡ v .code)
+    → P (λ cells. performAction v place count (entryAccesses (v .call)) (entryAction (v .call) regs) cells))
+    (executes : ¬ (place ≡ 0) → ¬ (place ≡ v .code) → (i : Instr) → JumpsForward (place - 1) (v .code - 1) i
+    → P (λ cells. performAction v place (count + 1) (accesses (v .call) i) (instrAction (v .call) place regs i) cells)) where
+  entry-each : place ≡ 0 → P (λ cells. stepEntry v place count regs cells)
   unfolding stepEntry
-  entry-all e =
+  entry-each e =
       by-test
       (λ t. P (λ cells.
       if t
       then ending unknownFunction count
       else performAction v place count (entryAccesses (v .call)) (entryAction (v .call) regs) cells))
-      (eqb (v .code) 0) (λ h. ends unknownFunction (omega arith))
-      (λ h.
-      acts count (entryAccesses (v .call)) (entryAction (v .call) regs)
-      (entry-fits v place count count regs (entry-leads v place count (λ q. eqb-false (v .code) 0 h (sym q ∙ e)) e) (v .call) e))
+      (eqb (v .code) 0) (λ h. ends unknownFunction (omega arith)) (λ h. enters e (λ q. eqb-false (v .code) 0 h (sym q ∙ e)))
 
   module _ (some : ¬ (place ≡ 0)) (inside : ¬ (place ≡ v .code)) where
-    decoded-all : (d : Decoded) → Decodes (JumpsForward (place - 1) (v .code - 1)) d → P (λ cells. stepDecoded v place count regs cells d)
+    decoded-each : (d : Decoded) → Decodes (JumpsForward (place - 1) (v .code - 1)) d → P (λ cells. stepDecoded v place count regs cells d)
     unfolding stepDecoded
-    decoded-all (Valid i) j =
-        acts _ (accesses (v .call) i) (instrAction (v .call) place regs i)
-        (instr-fits v place count _ regs (next-leads v place count inside some) (jump-leads v place count inside some) (v .call) i j)
-    decoded-all Invalid j = breaks
+    decoded-each (Valid i) j = executes some inside i j
+    decoded-each Invalid j = breaks
 
-    instr-all : P (λ cells. stepInstr v place count regs cells)
+    instr-each : P (λ cells. stepInstr v place count regs cells)
     unfolding stepInstr
-    instr-all =
+    instr-each =
         let d : Decoded = decode (place - 1) (v .code - 1) (drop (v .start + instrBytes * (place - 1)) (v .block)) in
         by-test (λ t. P (λ cells. if t then stepDecoded v place count regs cells d else broken))
         (leb (v .start + instrBytes * (v .code - 1)) (length (v .block)))
-        (λ h. decoded-all d (decode-forward (place - 1) (v .code - 1) (drop (v .start + instrBytes * (place - 1)) (v .block))))
+        (λ h. decoded-each d (decode-forward (place - 1) (v .code - 1) (drop (v .start + instrBytes * (place - 1)) (v .block))))
         (λ h. breaks)
 
-  pub place-all : P (λ cells. stepPlace v place count regs cells)
+  pub place-each : P (λ cells. stepPlace v place count regs cells)
   unfolding stepPlace
-  place-all =
+  place-each =
       by-test
       (λ t. P (λ cells.
       if t
       then stepEntry v place count regs cells
       else if eqb place (v .code) then ending ended count else stepInstr v place count regs cells))
-      (eqb place 0) (λ e. entry-all (eqb-true place 0 e))
+      (eqb place 0) (λ e. entry-each (eqb-true place 0 e))
       (λ e.
       by-test (λ t. P (λ cells. if t then ending ended count else stepInstr v place count regs cells)) (eqb place (v .code))
       (λ h. ends ended (omega arith))
-      (λ h. instr-all (eqb-false place 0 e) (eqb-false place (v .code) h)))
+      (λ h. instr-each (eqb-false place 0 e) (eqb-false place (v .code) h)))
+
+-- The same of every action that fits.
+pub place-all : (v : View) (place count : ℕ) (regs : List ℤ) (P : (List ℤ → Performed) → Type 0) → P (λ cells. broken)
+    → ((outcome : ℕ) → outcome ≤ lastOutcome → P (λ cells. ending outcome count))
+    → ((n : ℕ) (as′ : List Access) (a : Action) → ActionFits v place count n as′ regs a → P (λ cells. performAction v place n as′ a cells))
+    → P (λ cells. stepPlace v place count regs cells)
+place-all v place count regs P breaks ends acts =
+    place-each v place count regs P breaks ends
+    (λ e inside.
+    acts count (entryAccesses (v .call)) (entryAction (v .call) regs)
+    (entry-fits v place count count regs (entry-leads v place count inside e) (v .call) e))
+    (λ some inside i j.
+    acts _ (accesses (v .call) i) (instrAction (v .call) place regs i)
+    (instr-fits v place count _ regs (next-leads v place count inside some) (jump-leads v place count inside some) (v .call) i j))
 
 -- ---- a step from a place in range
 

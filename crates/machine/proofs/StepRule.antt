@@ -5,7 +5,6 @@ use mathlib.Core.Bool.{Bool, true, false, _&&_, not, and-false}
 use mathlib.Core.List.{List, [], map}
 use Prim.Native.Nat.{ℕ, _+_, _^_, _≤_, _<_}
 use native.Mathlib.Omega.{arith}
-use borrow.Author.Tests.{ltb-true}
 use lib.IntN.{ℤ, pos}
 use lib.Dec.{ltb}
 use lib.ListN.{length, getD, set}
@@ -18,11 +17,12 @@ use Rattle.arith.specs.declared.Checked.{Checked}
 use Rattle.arith.specs.declared.Checked.the-variants as checked
 use Rattle.block.specs.Limits.{maxKeys}
 use Rattle.block.specs.Key.{firstContract, isBalance, payeeOf}
+use Rattle.block.proofs.KeyLaws.{payee-all}
 use Rattle.block.proofs.DecodeLaws.{CellSourcesFit, InstrFits}
 use Rattle.block.specs.Record.{argument}
 use Rattle.block.specs.declared.Call.{Call}
 use Rattle.block.specs.declared.Payee.{Payee}
-use Rattle.block.specs.declared.Payee.the-variants.{To, NoAccount}
+use Rattle.block.specs.declared.Payee.the-variants.{To}
 use Rattle.block.specs.declared.Source.{Source}
 use Rattle.block.specs.declared.Instr.{Instr}
 use Rattle.block.specs.declared.Instr.the-variants.{Stop, Throw, Set, Arg, Sender, Value, Add, Sub, Mul, Div, Get, Put, Bal, Pay, Jeq, Jlt}
@@ -229,15 +229,12 @@ module _ (v : View) (table : List ℕ) (es : List Access) (made : MadeOf v table
               (movedCells table cells (balanceKey a) (balanceKey target) amount)
               (transfer-now σ cells now a target small (omega arith) apart from to (p + 1) n ρ amount 5 s enough))
 
-      -- "PAY with 5 if the amount is negative, the target no account, or the contract's balance lower."
+      -- "PAY with 5 if the amount is negative, the target no account, or the contract's balance lower", and where it is account 0.
       pay-match : (amount : ℤ) (target : ℕ) → EachAccess (Covered es) (payAccesses c (payeeOf target)) → Pays amount (payeeOf target)
-      unfolding payeeOf payAccesses payAction transfer perform
-      pay-match amount target = go (ltb target firstContract) refl
-        where
-          go : (t : Bool) → ltb target firstContract ≡ t → EachAccess (Covered es) (payAccesses c (if t then account target else NoAccount))
-              → Pays amount (if t then account target else NoAccount)
-          go true e covered = pay-account amount target (ltb-true target firstContract e) (covered .0) (covered .1 .0)
-          go false e covered = end-match 5 refl
+      unfolding payAccesses payAction transfer perform
+      pay-match amount target =
+          payee-all (λ (p : Payee). EachAccess (Covered es) (payAccesses c p) → Pays amount p) target
+          (λ other low covered. pay-account amount target low (covered .0) (covered .1 .0)) (λ covered. end-match 5 refl)
 
       -- The cell of GET and PUT is no balance.
       cell-other : (field : ℕ) (a b : Source) → CellSourcesFit (2 ^ 16) field a b → isBalance (cellKey c field a b) ≡ false

@@ -15,7 +15,7 @@ use Rattle.arith.specs.declared.Checked.the-variants as checked
 use Rattle.block.specs.Record.{argument}
 use Rattle.block.specs.declared.Call.{Call}
 use Rattle.block.specs.declared.Payee.{Payee}
-use Rattle.block.specs.declared.Payee.the-variants.{To, NoAccount}
+use Rattle.block.specs.declared.Payee.the-variants.{To, Nobody}
 use Rattle.block.specs.declared.Instr.{Instr}
 use Rattle.block.specs.declared.Instr.the-variants.{Stop, Throw, Set, Arg, Sender, Value, Add, Sub, Mul, Div, Get, Put, Bal, Pay, Jeq, Jlt}
 use Rattle.block.specs.Naming.{targetOf}
@@ -43,9 +43,9 @@ checkedAction place regs x (checked.Value v) = assign place regs x v
 checkedAction place regs x checked.Overflow = doing regs (End noResult)
 checkedAction place regs x checked.ZeroDivisor = doing regs (End noResult)
 
--- "PAY with 5 if the amount is negative, the target no account, or the contract's balance lower."
+-- "PAY with 5 if the amount is negative, the target no account, or the contract's balance lower", and M-101: to account 0 "as for a target that is no account".
 unfoldable pub payAction : List ℤ → ℤ → Payee → Action
-payAction regs amount NoAccount = doing regs (End notPaid)
+payAction regs amount Nobody = doing regs (End notPaid)
 payAction regs amount (To account) = doing regs (if nonNeg amount then Transfer amount notPaid else End notPaid)
 
 -- A jump: to the instruction if the test holds, else on.

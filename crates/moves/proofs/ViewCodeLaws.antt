@@ -13,7 +13,7 @@ use Rattle.arith.specs.declared.Checked.{Checked}
 use Rattle.arith.specs.declared.Checked.the-variants as checked
 use Rattle.block.specs.declared.Call.{Call}
 use Rattle.block.specs.declared.Payee.{Payee}
-use Rattle.block.specs.declared.Payee.the-variants.{To, NoAccount}
+use Rattle.block.specs.declared.Payee.the-variants.{To, Nobody}
 use Rattle.block.specs.declared.Instr.{Instr}
 use Rattle.block.specs.declared.Instr.the-variants.{Stop, Throw, Set, Arg, Sender, Value, Add, Sub, Mul, Div, Get, Put, Bal, Pay, Jeq, Jlt}
 use Rattle.footprint.specs.Access.{Access, accesses, entryAccesses, payAccesses}
@@ -90,7 +90,7 @@ checked-fits place regs x checked.ZeroDivisor as′ = tt
 
 pay-fits : (c : Call) (regs : List ℤ) (amount : ℤ) (to : Payee) → NextHasAccesses (payAction regs amount to .next) (payAccesses c to)
 unfolding payAction payAccesses
-pay-fits c regs amount NoAccount = tt
+pay-fits c regs amount Nobody = tt
 pay-fits c regs amount (To account) = if-fits (nonNeg amount) _ _ _ (λ e. (e, omega arith)) (λ e. tt)
 
 pub instr-fits : (c : Call) (place : ℕ) (regs : List ℤ) (i : Instr) → NextHasAccesses (instrAction c place regs i .next) (accesses c i)

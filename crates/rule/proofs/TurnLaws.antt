@@ -16,7 +16,7 @@ use Rattle.wire.specs.Rows.{bit}
 use Rattle.block.specs.Key.{contractBalance}
 use Rattle.block.specs.declared.Call.{Call}
 use Rattle.block.specs.declared.Payee.{Payee}
-use Rattle.block.specs.declared.Payee.the-variants.{To, NoAccount}
+use Rattle.block.specs.declared.Payee.the-variants.{To, Nobody}
 use Rattle.block.specs.declared.Instr.{Instr}
 use Rattle.block.specs.declared.Instr.the-variants.{Stop, Throw, Set, Arg, Sender, Value, Add, Sub, Mul, Div, Get, Put, Bal, Pay, Jeq, Jlt}
 use Rattle.block.specs.Naming.{targetOf}
@@ -47,7 +47,7 @@ module _ (start : State) (c : Call) (p : ℕ) (ρ : List ℤ) (n : ℕ) (σ : St
 
   transfer-one : (amount : ℤ) (payee : Payee) → Ok (transfer c p ρ (n + 1) σ amount payee)
   unfolding transfer
-  transfer-one amount NoAccount = failed 5
+  transfer-one amount Nobody = failed 5
   transfer-one amount (To account) =
       if-all Ok (nonNeg amount) (λ e. if-all Ok (ltZ (σ (contractBalance (c .contract))) amount) (λ f. failed 5) (λ f. refl)) (λ e. failed 5)
 

@@ -19,7 +19,7 @@ use Rattle.block.specs.Instruction.{instrBytes, decode}
 use Rattle.block.specs.Record.{Function, argument, codeAt}
 use Rattle.block.specs.declared.Call.{Call}
 use Rattle.block.specs.declared.Payee.{Payee}
-use Rattle.block.specs.declared.Payee.the-variants.{To, NoAccount}
+use Rattle.block.specs.declared.Payee.the-variants.{To, Nobody}
 use Rattle.block.specs.declared.Decoded.{Decoded}
 use Rattle.block.specs.declared.Decoded.the-variants.{Valid, Invalid}
 use Rattle.block.specs.declared.Instr.{Instr}
@@ -75,9 +75,9 @@ assignChecked p ρ n σ x (checked.Value v) = assign p ρ n σ x v
 assignChecked p ρ n σ x checked.Overflow = over (fails noResult n)
 assignChecked p ρ n σ x checked.ZeroDivisor = over (fails noResult n)
 
--- B.transfer(amount): failure with 5 where the amount is negative, B no account, or the contract's balance lower.
+-- B.transfer(amount): failure with 5 where the amount is negative, B no account (or, by M-101, account 0: nobody is paid), or the contract's balance lower.
 unfoldable pub transfer : Call → ℕ → List ℤ → ℕ → State → ℤ → Payee → Course
-transfer c p ρ n σ amount NoAccount = over (fails notPaid n)
+transfer c p ρ n σ amount Nobody = over (fails notPaid n)
 transfer c p ρ n σ amount (To account) =
     if nonNeg amount
     then

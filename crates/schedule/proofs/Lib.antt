@@ -1,5 +1,5 @@
 -- To read: Confluence is the theorem of Confluent; CallExchange are laws of the order, CalculatorLaws and Example the instance; CountLaws is for the
--- numbers that calls carry. The others are the proof, in the order in which they build on each other.
+-- numbers that calls carry, KeptCell for what calls keep of a cell. The others are the proof, in the order in which they build on each other.
 pub mod RunLaws
 pub mod Expected
 pub mod RefusalLaws
@@ -9,5 +9,6 @@ pub mod Simulation
 pub mod Confluence
 pub mod CallExchange
 pub mod CountLaws
+pub mod KeptCell
 mod CalculatorLaws
 mod Example

@@ -74,13 +74,13 @@ opening-elsewhere (c ∷ cs) k out = go (eqb k (c .key)) out (opening-elsewhere 
     go false e later = later e
 
 -- What every transaction of a list of calls keeps, all of them keep.
-pub lefts-keep : (file : List ℕ) (functions : List Function) (k : ℕ) (calls : List Call)
-    → ((i : ℕ) (c : Call) → getElem? calls i ≡ some c → (σ : State) → transaction file functions c σ .state k ≡ σ k)
-    → (σ : State) → stateLeft σ (transactions file functions calls σ) k ≡ σ k
+pub lefts-keep : (file : List ℕ) (functions : List Function) (K : State → Type 0) (calls : List Call)
+    → ((i : ℕ) (c : Call) → getElem? calls i ≡ some c → (σ : State) → K σ → K (transaction file functions c σ .state))
+    → (σ : State) → K σ → K (stateLeft σ (transactions file functions calls σ))
 unfolding stateLeft transactions
-lefts-keep file functions k [] each σ = refl
-lefts-keep file functions k (c ∷ cs) each σ =
-    lefts-keep file functions k cs (λ i x h. each (suc i) x h) (transaction file functions c σ .state) ∙ each 0 c refl σ
+lefts-keep file functions K [] each σ holds = holds
+lefts-keep file functions K (c ∷ cs) each σ holds =
+    lefts-keep file functions K cs (λ i x h. each (suc i) x h) (transaction file functions c σ .state) (each 0 c refl σ holds)
 
 -- ---- the steps of a call
 
