@@ -58,6 +58,9 @@ isBalance k = eqb (fieldIn k) 0
 abbrev pub accountBalance : Account → ℕ
 accountBalance account = keyOf (account .0) 0 0 0
 
+abbrev pub balanceOf0 : ℕ
+balanceOf0 = accountBalance (record { 0 = withdrawn })
+
 abbrev pub contractBalance : Contract → ℕ
 contractBalance contract = keyOf (contract .0) 0 0 0
 

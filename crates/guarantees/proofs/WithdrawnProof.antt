@@ -19,7 +19,7 @@ use Rattle.arith.proofs.IntegerLaws.{diff, ltZ-false, le-ltZ, nonNeg-true}
 use Rattle.schedule.specs.declared.Move.{Move}
 use Rattle.schedule.specs.Calls.{Calls, Laws}
 use Rattle.schedule.proofs.KeptCell.{expected-keeps}
-use Rattle.block.specs.Key.{withdrawn, payeeOf, accountBalance, contractBalance}
+use Rattle.block.specs.Key.{withdrawn, payeeOf, accountBalance, balanceOf0, contractBalance}
 use Rattle.block.specs.Outcomes.{balanceTooLow}
 use Rattle.block.specs.Record.{Function, Block, headBytes, callRecordBytes}
 use Rattle.block.proofs.KeyLaws.{payee-all}
@@ -51,7 +51,7 @@ use Rattle.machine.specs.declared.Next.the-variants.{Go, Transfer}
 use Rattle.guarantees.specs.Agreement.{runAfterMoves}
 use Rattle.guarantees.specs.Demand2.{callOfBlock, ruleFor, openingState}
 use Rattle.guarantees.specs.RuleRun.{bodyCall}
-use Rattle.guarantees.specs.Withdrawn.{balanceOf0, sentBy0, PaysNobody, NoMoreTo0, WithdrawnHolds}
+use Rattle.guarantees.specs.Withdrawn.{sentBy0, PaysNobody, NoMoreTo0, WithdrawnHolds}
 use Rattle.guarantees.proofs.CallsOfRun.ViewCalls.{Place, placeWithSaved, anyEntry, runView}
 use Rattle.guarantees.proofs.CallsOfRun.ViewSpares.{Spares, step-spares}
 use Rattle.guarantees.proofs.AcceptedOpening.AfterOpening.{AfterOpening, after-opening}

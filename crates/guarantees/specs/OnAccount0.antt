@@ -4,13 +4,13 @@ use mathlib.Core.List.{List, [], _∷_, map}
 use Prim.Native.Nat.{ℕ}
 use lib.IntN.{ℤ, pos}
 use Rattle.block.specs.Assemble.{text, joinedParts}
+use Rattle.block.specs.Key.{balanceOf0}
 use Rattle.block.specs.Reader.{readBlock}
 use Rattle.block.specs.Worked.{account0}
 use Rattle.console.specs.Register.{registerOf}
 use Rattle.console.specs.Computing as console
 use Rattle.rule.specs.Rule.{Left, transactions, update, assignChecked, transfer, execute, executeAt, runBody, withInstr, bodyOf, settle, runFunction, transactionBy}
 use Rattle.guarantees.specs.OnP.{ruleOn, ruleReceipts}
-use Rattle.guarantees.specs.Withdrawn.{balanceOf0}
 
 -- Calls 0 and 1, which pay account 0 from two contracts, together; then the others in order. Call 7 is begun once while call 6 runs, for which it waits, as
 -- account 0 sends both.

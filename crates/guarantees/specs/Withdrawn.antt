@@ -9,7 +9,7 @@ use lib.IntN.{ℤ, pos, _-ℤ_}
 use lib.Signed.{ltZ}
 use Rattle.arith.specs.Choice.{if_then_else_}
 use Rattle.schedule.specs.declared.Move.{Move}
-use Rattle.block.specs.Key.{withdrawn, accountBalance, contractBalance}
+use Rattle.block.specs.Key.{withdrawn, balanceOf0, contractBalance}
 use Rattle.block.specs.Outcomes.{ended, notPaid}
 use Rattle.block.specs.Record.{Function}
 use Rattle.block.specs.declared.Call.{Call}
@@ -31,10 +31,6 @@ use Rattle.machine.specs.Step.{cellAt}
 use Rattle.machine.specs.declared.Next.the-variants.{End}
 use Rattle.guarantees.specs.Agreement.{openedIn, runAfterMoves}
 use Rattle.guarantees.specs.Demand2.{callOfBlock, ruleFor, openingState, closingState}
-
--- The key of its balance.
-abbrev pub balanceOf0 : ℕ
-balanceOf0 = accountBalance (record { 0 = withdrawn })
 
 -- A PAY in a call whose source names account 0, whatever source that is: in the rule, in a step, and in the sets.
 pub record PaysNobody (c : Call) (x : ℕ) (target : Source) : Type 0 where

@@ -26,15 +26,16 @@ use Rattle.guarantees.proofs.CallsOfRun.ViewCalls.{anyEntry, Proper}
 
 -- ---- what a lookup finds
 
--- The cell has a number of the table, and an entry with the flags that the access wants.
-pub record EntryFound (es : List ℕ) (a : Access) (n : ℕ) : Type 0 where
+-- The cell has a number of the table and the key, and an entry with the flags that the access wants.
+pub record EntryFound (keys es : List ℕ) (a : Access) (n : ℕ) : Type 0 where
   pub low : n < maxKeys
+  pub key : hasKey keys n (a .key) ≡ true
   pub read : a .reads ≡ true → anyEntry entryReads es n ≡ true
   pub written : a .writes ≡ true → anyEntry entryWrites es n ≡ true
 
-abbrev pub Finds : List ℕ → Access → Lookup → Type 0
-Finds es a (Cell n) = EntryFound es a n
-Finds es a NoCell = Unit {0}
+abbrev pub Finds : (keys es : List ℕ) → Access → Lookup → Type 0
+Finds keys es a (Cell n) = EntryFound keys es a n
+Finds keys es a NoCell = Unit {0}
 
 any-first : (test : ℕ → Bool) (e : ℕ) (es : List ℕ) → test e ≡ true → anyEntry test (e ∷ es) (entryCell e) ≡ true
 unfolding anyEntry
@@ -66,37 +67,39 @@ wanted : (want flag : Bool) → (not want || flag) ≡ true → want ≡ true �
 wanted true flag h w = h
 wanted false flag h w = absurd (false≢true w)
 
-later : (e : ℕ) (es : List ℕ) (a : Access) (k : Lookup) → Finds es a k → Finds (e ∷ es) a k
-later e es a (Cell n) f =
+later : (keys : List ℕ) (e : ℕ) (es : List ℕ) (a : Access) (k : Lookup) → Finds keys es a k → Finds keys (e ∷ es) a k
+later keys e es a (Cell n) f =
     record {
       low = f .low;
+      key = f .key;
       read = λ r. any-later entryReads e es n (f .read r);
       written = λ w. any-later entryWrites e es n (f .written w);
     }
-later e es a NoCell f = tt
+later keys e es a NoCell f = tt
 
-find-finds : (keys es : List ℕ) (a : Access) → Finds es a (findEntry keys es a)
+find-finds : (keys es : List ℕ) (a : Access) → Finds keys es a (findEntry keys es a)
 unfolding findEntry
 find-finds keys [] a = tt
 find-finds keys (e ∷ es) a =
-    if-all (Finds (e ∷ es) a) (not (ltb (entryCell e) maxKeys)) (λ h. tt) λ low.
-    if-all (Finds (e ∷ es) a) (hasKey keys (entryCell e) (a .key))
+    if-all (Finds keys (e ∷ es) a) (not (ltb (entryCell e) maxKeys)) (λ h. tt) λ low.
+    if-all (Finds keys (e ∷ es) a) (hasKey keys (entryCell e) (a .key))
     (λ h.
-    if-all (Finds (e ∷ es) a) ((not (a .reads) || entryReads e) && (not (a .writes) || entryWrites e))
+    if-all (Finds keys (e ∷ es) a) ((not (a .reads) || entryReads e) && (not (a .writes) || entryWrites e))
     (λ flags.
     let f = both (not (a .reads) || entryReads e) (not (a .writes) || entryWrites e) flags in
     record {
       low = ltb-true (entryCell e) maxKeys (not-false (ltb (entryCell e) maxKeys) low);
+      key = h;
       read = λ r. any-first entryReads e es (wanted (a .reads) (entryReads e) (f .0) r);
       written = λ w. any-first entryWrites e es (wanted (a .writes) (entryWrites e) (f .1) w);
     })
     (λ h. tt))
-    (λ h. later e es a (findEntry keys es a) (find-finds keys es a))
+    (λ h. later keys e es a (findEntry keys es a) (find-finds keys es a))
 
-pub lookup-finds : (v : View) (a : Access) → Finds (v .entries) a (lookup v a)
+pub lookup-finds : (v : View) (a : Access) → Finds (v .keys) (v .entries) a (lookup v a)
 unfolding lookup
 lookup-finds v a =
-    if-all (Finds (v .entries) a) (leb (v .count) maxCallKeys) (λ h. find-finds (v .keys) (v .entries) a) (λ h. tt)
+    if-all (Finds (v .keys) (v .entries) a) (leb (v .count) maxCallKeys) (λ h. find-finds (v .keys) (v .entries) a) (λ h. tt)
 
 -- ---- one cell set
 

@@ -9,7 +9,6 @@ use lib.Signed.{ltZ, leZ, nonNeg}
 use lib.Dec.{ltb}
 use lib.ListN.{length, set, length-set}
 use Rattle.arith.specs.Choice.{if_then_else_}
-use Rattle.arith.proofs.ChoiceLaws.{if-all}
 use Rattle.arith.specs.Balance.{largest}
 use Rattle.block.specs.Limits.{maxKeys}
 use Rattle.block.specs.Key.{isBalance}
@@ -24,6 +23,7 @@ use Rattle.machine.specs.declared.Next.the-variants.{Go, End, Load, Store, Tran
 use Rattle.machine.specs.declared.Lookup.{Lookup}
 use Rattle.machine.specs.declared.Lookup.the-variants.{Cell, NoCell}
 use Rattle.guarantees.proofs.CallsOfRun.ViewCalls.{pointOf, anyEntry, Proper}
+use Rattle.guarantees.proofs.CallsOfRun.ViewLeaves.{AfterStore, AfterTransfer, AfterNext, fitting-leaves}
 use Rattle.guarantees.proofs.CallsOfRun.ViewEntries.{Finds, lookup-finds, set-alike, set-outside, restored-frame, restored-alike}
 
 -- ---- the write set alone
@@ -34,80 +34,45 @@ pub record WriteSetOnly (es : List ℕ) (s t : List ℤ) : Type 0 where
   pub frame : (x : ℕ) → anyEntry entryWrites es x ≡ false → cellAt t x ≡ cellAt s x
 
 module _ (v : View) (l : Local) (s : List ℤ) where
-  -- What a step leaves of the cells s.
-  abbrev K : Stepped → Type 0
-  K r = WriteSetOnly (v .entries) s (pointOf s r .state)
+  abbrev K : List ℤ → Type 0
+  K t = WriteSetOnly (v .entries) s t
 
-  -- The same of what its place comes to.
-  abbrev C : Performed → Type 0
-  C x = K (concluded v (l .saved) s x)
-
-  unmoved : WriteSetOnly (v .entries) s s
+  unmoved : K s
   unmoved = record { room = refl; frame = λ x h. refl }
 
   -- One cell of the write set is set.
-  set-kept : (t : List ℤ) (n : ℕ) (z : ℤ) → anyEntry entryWrites (v .entries) n ≡ true → WriteSetOnly (v .entries) s t → WriteSetOnly (v .entries) s (set t n z)
+  set-kept : (t : List ℤ) (n : ℕ) (z : ℤ) → anyEntry entryWrites (v .entries) n ≡ true → K t → K (set t n z)
   set-kept t n z w k =
       record {
         room = length-set t n z ∙ k .room;
         frame = λ x h. set-outside (v .entries) t n z x w h ∙ k .frame x h;
       }
 
-  ending-keeps : (outcome n : ℕ) → C (ending outcome n)
-  unfolding concluded finish pointOf
-  ending-keeps outcome n =
-      if-all K (ltb outcome thrown) (λ h. unmoved) λ h.
-      if-all K (restorable (v .count) (v .entries))
-      (λ h. record { room = restored-length (v .entries) (l .saved) s; frame = restored-frame (v .entries) (l .saved) s }) (λ h. unmoved)
+  store-kept : (z : ℤ) (a : Access) → a .writes ≡ true → (k : Lookup) → Finds (v .keys) (v .entries) a k → AfterStore K s z k
+  store-kept z a w NoCell f = tt
+  store-kept z a w (Cell n) f = set-kept s n z (f .written w) unmoved
 
-  load-keeps : (place count : ℕ) (regs : List ℤ) (x : ℕ) (a : Access) (k : Lookup) → C (loadCell place count regs x a s k)
-  unfolding loadCell concluded pointOf
-  load-keeps place count regs x a NoCell = unmoved
-  load-keeps place count regs x a (Cell n) = if-all C (isBalance (a .key) && not (nonNeg (cellAt s n))) (λ h. unmoved) (λ h. unmoved)
+  transfer-kept : (amount : ℤ) (a to : Access) → a .writes ≡ true → to .writes ≡ true → (k k′ : Lookup) → Finds (v .keys) (v .entries) a k
+      → Finds (v .keys) (v .entries) to k′ → AfterTransfer K s amount k k′
+  transfer-kept amount a to w w′ NoCell k′ f f′ = tt
+  transfer-kept amount a to w w′ (Cell n) NoCell f f′ = tt
+  transfer-kept amount a to w w′ (Cell n) (Cell m) f f′ =
+      set-kept (set s n (cellAt s n -ℤ amount)) m (cellAt s m +ℤ amount) (f′ .written w′)
+      (set-kept s n (cellAt s n -ℤ amount) (f .written w) unmoved)
 
-  store-keeps : (place count : ℕ) (regs : List ℤ) (z : ℤ) (a : Access) (k : Lookup) → Finds (v .entries) a k → a .writes ≡ true
-      → C (storeCell place count regs z s k)
-  unfolding storeCell concluded pointOf
-  store-keeps place count regs z a NoCell f w = unmoved
-  store-keeps place count regs z a (Cell n) f w = set-kept s n z (f .written w) unmoved
-
-  deposit-keeps : (place count : ℕ) (regs : List ℤ) (amount : ℤ) (n : ℕ) → anyEntry entryWrites (v .entries) n ≡ true
-      → (a : Access) (k : Lookup) → Finds (v .entries) a k → a .writes ≡ true → C (depositCell place count regs amount n s k)
-  unfolding depositCell concluded pointOf
-  deposit-keeps place count regs amount n first a NoCell f w = unmoved
-  deposit-keeps place count regs amount n first a (Cell m) f w =
-      if-all C (nonNeg (cellAt s m) && leZ (cellAt s m +ℤ amount) largest)
-      (λ h.
-      set-kept (set s n (cellAt s n -ℤ amount)) m (cellAt s m +ℤ amount) (f .written w)
-      (set-kept s n (cellAt s n -ℤ amount) first unmoved))
-      (λ h. unmoved)
-
-  transfer-keeps : (place count : ℕ) (regs : List ℤ) (amount : ℤ) (short : ℕ) (to : Access) → to .writes ≡ true
-      → (a : Access) (k : Lookup) → Finds (v .entries) a k → a .writes ≡ true → C (transferCells v place count regs amount short to s k)
-  unfolding transferCells concluded pointOf
-  transfer-keeps place count regs amount short to w′ a NoCell f w = unmoved
-  transfer-keeps place count regs amount short to w′ a (Cell n) f w =
-      if-all C (not (nonNeg (cellAt s n))) (λ h. unmoved) λ h.
-      if-all C (ltZ (cellAt s n) amount) (λ h. ending-keeps short count)
-      (λ h. deposit-keeps place count regs amount n (f .written w) to (lookup v to) (lookup-finds v to) w′)
-
-  perform-keeps : (place before count : ℕ) (as′ : List Access) (regs : List ℤ) (next : Next) → NextFits v place before count as′ next
-      → C (perform v place count as′ regs next s)
-  unfolding perform concluded pointOf
-  perform-keeps place before count as′ regs (Go to) f = unmoved
-  perform-keeps place before count as′ regs (End outcome) f = ending-keeps outcome count
-  perform-keeps place before count as′ regs (Load x) f = load-keeps place count regs x (accessAt as′ 0) (lookup v (accessAt as′ 0))
-  perform-keeps place before count as′ regs (Store z) f =
-      store-keeps place count regs z (accessAt as′ 0) (lookup v (accessAt as′ 0)) (lookup-finds v (accessAt as′ 0)) f
-  perform-keeps place before count as′ regs (Transfer amount short) f =
-      transfer-keeps place count regs amount short (accessAt as′ 1) (f .2) (accessAt as′ 0) (lookup v (accessAt as′ 0))
-      (lookup-finds v (accessAt as′ 0)) (f .1)
+  next-kept : (as′ : List Access) (next : Next) (place before count : ℕ) → NextFits v place before count as′ next → AfterNext K s v as′ next
+  next-kept as′ (Go to) place before count f = tt
+  next-kept as′ (End outcome) place before count f = tt
+  next-kept as′ (Load x) place before count f = tt
+  next-kept as′ (Store z) place before count f = store-kept z (accessAt as′ 0) f (lookup v (accessAt as′ 0)) (lookup-finds v (accessAt as′ 0))
+  next-kept as′ (Transfer amount short) place before count f =
+      transfer-kept amount (accessAt as′ 0) (accessAt as′ 1) (f .1) (f .2) (lookup v (accessAt as′ 0)) (lookup v (accessAt as′ 1))
+      (lookup-finds v (accessAt as′ 0)) (lookup-finds v (accessAt as′ 1))
 
   pub step-keeps : WriteSetOnly (v .entries) s (pointOf s (stepCall v l s) .state)
-  unfolding stepCall concluded pointOf
   step-keeps =
-      place-all v (l .place) (l .count) (l .regs) (λ f. C (f s)) unmoved (λ outcome few. ending-keeps outcome (l .count))
-      (λ n as′ a f. perform-keeps (l .place) (l .count) n as′ (a .regs) (a .next) (f .next))
+      fitting-leaves v l s K unmoved
+      (record { room = restored-length (v .entries) (l .saved) s; frame = restored-frame (v .entries) (l .saved) s }) next-kept
 
 -- ---- the cells that the call reads or writes
 
@@ -174,21 +139,21 @@ module _ (v : View) (proper : Proper (v .entries)) (l : Local) (s s′ : List �
       (λ x m. restored-alike (v .entries) proper (l .saved) s s′ x room room′ (same x m)))
       like-damaged)
 
-  load-like : (place count : ℕ) (regs : List ℤ) (x : ℕ) (a : Access) (k : Lookup) → Finds (v .entries) a k → a .reads ≡ true
+  load-like : (place count : ℕ) (regs : List ℤ) (x : ℕ) (a : Access) (k : Lookup) → Finds (v .keys) (v .entries) a k → a .reads ≡ true
       → C′ (loadCell place count regs x a s k) (loadCell place count regs x a s′ k)
   unfolding loadCell
   load-like place count regs x a NoCell f r = like-broken
   load-like place count regs x a (Cell n) f r =
       rw (at-read n (f .read r)) (like-test (isBalance (a .key) && not (nonNeg (cellAt s′ n))) _ _ _ _ like-broken (like-onward _ count _ s s′ same))
 
-  store-like : (place count : ℕ) (regs : List ℤ) (z : ℤ) (a : Access) (k : Lookup) → Finds (v .entries) a k
+  store-like : (place count : ℕ) (regs : List ℤ) (z : ℤ) (a : Access) (k : Lookup) → Finds (v .keys) (v .entries) a k
       → C′ (storeCell place count regs z s k) (storeCell place count regs z s′ k)
   unfolding storeCell
   store-like place count regs z a NoCell f = like-broken
   store-like place count regs z a (Cell n) f = like-onward _ count _ (set s n z) (set s′ n z) (set-same s s′ n z (f .low) refl refl same)
 
   deposit-like : (place count : ℕ) (regs : List ℤ) (amount : ℤ) (n : ℕ) → n < maxKeys → anyEntry entryReads (v .entries) n ≡ true
-      → (a : Access) (k : Lookup) → Finds (v .entries) a k → a .writes ≡ true
+      → (a : Access) (k : Lookup) → Finds (v .keys) (v .entries) a k → a .writes ≡ true
       → C′ (depositCell place count regs amount n s k) (depositCell place count regs amount n s′ k)
   unfolding depositCell
   deposit-like place count regs amount n low r a NoCell f w = like-broken
@@ -203,7 +168,7 @@ module _ (v : View) (proper : Proper (v .entries)) (l : Local) (s s′ : List �
       like-broken)
 
   transfer-like : (place count : ℕ) (regs : List ℤ) (amount : ℤ) (short : ℕ) (to : Access) → to .writes ≡ true
-      → (a : Access) (k : Lookup) → Finds (v .entries) a k → a .reads ≡ true
+      → (a : Access) (k : Lookup) → Finds (v .keys) (v .entries) a k → a .reads ≡ true
       → C′ (transferCells v place count regs amount short to s k) (transferCells v place count regs amount short to s′ k)
   unfolding transferCells
   transfer-like place count regs amount short to w a NoCell f r = like-broken
