@@ -1,18 +1,19 @@
 //! The closing sheet of a lent run.
 
 use super::{Run, EXECUTED, FINISHED, KEY_WORDS, OUTCOME};
-use crate::emit;
 use crate::key::Key;
 use crate::limits::{
     BALANCE_FIELD, CELL_BYTES, HEAD_BYTES, MAX_CALLS, MAX_INSTRUCTIONS, MAX_KEYS, RECEIPT_BYTES,
 };
 use crate::refusal::SheetRefusal;
+use crate::sheet::Sheet;
 
 /// The highest outcome.
 const LAST_OUTCOME: u64 = 5;
 
 impl Run {
-    /// Writes the closing sheet to the front of a buffer and answers its length.
+    /// Writes the closing sheet to the front of a buffer and answers the offset
+    /// behind its last record.
     /// 20 for the sizes, the number of calls and their states; 27; 20 for the
     /// number of cells and the balances, since 28 asks which cells are not zero;
     /// 28; 20 for the receipts, which are used first when they are written. A
@@ -26,17 +27,16 @@ impl Run {
         if output.len() < length {
             return Err(SheetRefusal::OutputShort);
         }
-        let mut sheet = Vec::new();
+        let mut sheet = Sheet::default();
         for (key, value) in &cells {
-            emit::cell(&mut sheet, key, *value);
+            sheet.cell(key, *value);
         }
         for call in 0..calls {
             let (outcome, count) = self.receipt(call)?;
-            emit::receipt(&mut sheet, outcome, count);
+            sheet.receipt(outcome, count);
         }
-        emit::end(&mut sheet);
-        output[..length].copy_from_slice(&sheet);
-        Ok(length)
+        sheet.end();
+        sheet.store(output)
     }
 
     /// The number of calls, which are all finished.

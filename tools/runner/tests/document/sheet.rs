@@ -1,11 +1,12 @@
-//! The closing sheet: 27, 28, its bytes and the bytes behind it; of a lent run
-//! also 20 and its place among them.
+//! The closing sheet: 27, 28, its bytes and the bytes behind it, the offsets of
+//! its records (document 02, M-102); of a lent run also 20 and its place among
+//! them.
 
 use runner::lent::{self, Run, Sizes};
 use runner::limits::MAX_SHEET_BYTES;
 use runner::machine::Machine;
 use runner::refusal::SheetRefusal;
-use runner::sheet::write;
+use runner::sheet::{closing, write};
 
 use crate::{block, opened};
 
@@ -52,6 +53,50 @@ fn a_sheet_of_the_outputs_length_fits() {
     assert_eq!(write(&machine, &mut longer), Ok(36));
     assert_eq!(longer[..36], sheet);
     assert_eq!(longer[36..], [9; 28]);
+}
+
+/// The offsets of the sheet of a text whose calls are run one after another, and
+/// what the sheet answers. Each record is found at its offset by its head alone,
+/// and the next one behind its head and body.
+fn offsets(text: &str) -> (Vec<usize>, usize) {
+    let opened = opened(text);
+    let mut machine = Machine::new(&opened);
+    for call in 0.. {
+        if machine.begin(0, call).is_err() {
+            break;
+        }
+        while machine.step(0).is_ok() {}
+    }
+    let sheet = closing(&machine).unwrap();
+    let mut output = [7; 256];
+    let end = write(&machine, &mut output).unwrap();
+    assert_eq!(output[..end], *sheet.bytes());
+    assert_eq!(output[end..], [7; 256][end..]);
+    let mut at = 0;
+    for offset in sheet.offsets() {
+        assert_eq!(at, *offset);
+        at += 4 + usize::from(u16::from_le_bytes([output[at], output[at + 1]]));
+    }
+    assert_eq!(at, end);
+    assert_eq!(output[end - 4..end], [0, 0, 4, 0]);
+    (sheet.offsets().to_vec(), end)
+}
+
+#[test]
+fn the_offset_of_a_record_is_the_sum_of_those_before() {
+    assert_eq!(offsets(TEXT), (vec![0, 24, 32], 36));
+    assert_eq!(offsets("end"), (vec![0], 4));
+    let calls = "function 32768 0\nstop\ncall 5 32768 0 0\ncall 6 32768 0 0\nend";
+    assert_eq!(offsets(calls), (vec![0, 8, 16], 20));
+    let cells = "cell 5 0 0 0 2\ncell 32768 0 0 0 1\ncell 32768 1 0 7 -5\nend";
+    assert_eq!(offsets(cells), (vec![0, 24, 48, 72], 76));
+}
+
+#[test]
+fn a_cell_that_is_zero_takes_no_place() {
+    let text = "function 32768 0\nset r1 0\nput r1 1 zero zero\ncell 5 0 0 0 2\n\
+                cell 32768 1 0 0 9\ncell 32768 2 0 0 3\ncall 5 32768 0 0\nend";
+    assert_eq!(offsets(text), (vec![0, 24, 48, 56], 60));
 }
 
 #[test]
