@@ -164,7 +164,8 @@ uint64_t zumbiqa_serial_run(const uint8_t *block, size_t block_length,
                             uint64_t *seats, size_t seats_length,
                             int64_t *frames, size_t frames_length);
 
-/* The closing sheet, written to the front of the output; the length is that of the sheet, and bytes behind it are unchanged. */
+/* The closing sheet, written to the front of the output; the length is that of the sheet, the offset behind its last record, and bytes behind it
+ * are unchanged. */
 uint64_t zumbiqa_sheet(const uint64_t *head, size_t head_length,
                        const uint64_t *plan, size_t plan_length,
                        const uint64_t *keys, size_t keys_length,

@@ -108,7 +108,8 @@ impl Words<'_> {
 
 impl View<'_> {
     /// Writes the closing sheet to the front of an output and answers its
-    /// length. Bytes behind it are unchanged.
+    /// length, the offset behind its last record. Bytes behind it are
+    /// unchanged.
     pub fn sheet(&self, output: &mut [u8]) -> Result<usize, Answer> {
         let (number, length) = ffi::sheet(self, output);
         Answer::told(number)?;

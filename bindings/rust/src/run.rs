@@ -136,7 +136,8 @@ impl<'b> Run<'b> {
     }
 
     /// Writes the closing sheet to the front of an output and answers its
-    /// length. A refused sheet changes no byte.
+    /// length, the offset behind its last record. A refused sheet changes no
+    /// byte.
     pub fn sheet_into(&self, output: &mut [u8]) -> Result<usize, Answer> {
         self.view().sheet(output)
     }

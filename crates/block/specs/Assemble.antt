@@ -1,5 +1,5 @@
 -- Blocks and texts from their parts, for the worked examples of this crate and those above it.
-use mathlib.Core.List.{List, [], _∷_, _++_}
+use mathlib.Core.List.{List, [], _∷_, _++_, flatten}
 use Prim.Native.Nat.{ℕ, zero, suc, _+_, _*_}
 use Prim.Native.Char.{code}
 use Prim.Native.String as string
@@ -13,11 +13,6 @@ use Rattle.block.specs.Record.{recordOf}
 unfoldable pub text : String → List ℕ
 text string.[] = []
 text (string._∷_ c s) = code c ∷ text s
-
--- The parts, one behind the other.
-unfoldable pub joinedParts : List (List ℕ) → List ℕ
-joinedParts [] = []
-joinedParts (p ∷ ps) = p ++ joinedParts ps
 
 -- The same part several times.
 unfoldable pub times : ℕ → List ℕ → List ℕ
@@ -66,7 +61,7 @@ JEQ x y to = instr 14 x y 0 to
 
 -- The records of a block.
 abbrev pub function : (contract number : ℕ) → List (List ℕ) → List ℕ
-function contract number instrs = recordOf 1 (bytesOf 2 contract ++ bytesOf 2 number ++ joinedParts instrs)
+function contract number instrs = recordOf 1 (bytesOf 2 contract ++ bytesOf 2 number ++ flatten instrs)
 
 abbrev pub cell : (address field a b : ℕ) → ℤ → List ℕ
 cell address field a b value =

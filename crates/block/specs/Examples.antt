@@ -1,6 +1,6 @@
 -- What the reader makes of block P, and some refusals, computed.
 use mathlib.Core.Path.{_≡_, refl}
-use mathlib.Core.List.{List, [], _∷_, map}
+use mathlib.Core.List.{List, [], _∷_, map, flatten}
 use Prim.Native.Nat.{ℕ, _*_, _^_}
 use lib.IntN.{pos}
 use lib.ListN.{length}
@@ -9,7 +9,7 @@ use Rattle.block.specs.Record.{functionId}
 use Rattle.block.specs.Reader.{Read, accepted, refused, readBlock}
 use Rattle.block.specs.Encoding.{fileOf, blockFor}
 use Rattle.block.specs.Refusal.{numberOf, offsetOf}
-use Rattle.block.specs.Assemble.{text, joinedParts, instr, SET, JEQ, function, call, end}
+use Rattle.block.specs.Assemble.{text, instr, SET, JEQ, function, call, end}
 use Rattle.block.specs.Worked.{P, contentsP, account0}
 use Rattle.block.specs.declared.Payee.the-variants.{To, Nobody}
 use Rattle.block.specs.Computing.{computing}
@@ -25,7 +25,7 @@ outline (accepted b) =
     ∷ map (λ c. c .key) (b .cells) ∷ (length (b .calls) ∷ b .firstCall ∷ []) ∷ []
 
 abbrev reads : List (List ℕ) → List (List ℕ)
-reads parts = outline (readBlock (joinedParts parts))
+reads parts = outline (readBlock (flatten parts))
 
 pub record Read-P : Type 0 where
   pub block-p : outline (readBlock P) ≡ (2147483648 ∷ 2147483649 ∷ 2147483650 ∷ []) ∷ (8 ∷ 32 ∷ 80 ∷ []) ∷ (2 ∷ 5 ∷ 2 ∷ []) ∷ ((5 * 2 ^ 80) ∷ []) ∷ (3 ∷ 120 ∷ []) ∷ []
@@ -47,7 +47,7 @@ pub record Read-P : Type 0 where
   pub account-0 : outline (readBlock account0) ≡ (2147483648 ∷ 2147483649 ∷ 2147483650 ∷ 2147483651 ∷ 2621440000 ∷ []) ∷ (8 ∷ 32 ∷ 48 ∷ 72 ∷ 96 ∷ []) ∷ (2 ∷ 1 ∷ 2 ∷ 2 ∷ 3 ∷ []) ∷ (0 ∷ (32768 * 2 ^ 80) ∷ (40000 * 2 ^ 80) ∷ []) ∷ (9 ∷ 192 ∷ []) ∷ []
 
 pub read-p : Read-P
-unfolding computing text joinedParts P contentsP account0 outline
+unfolding computing text P contentsP account0 outline
 read-p =
     record {
       block-p = refl;

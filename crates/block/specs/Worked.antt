@@ -1,17 +1,17 @@
 -- Document 01's block P, as bytes and as contents; and a block of payments to account 0, for document 02's M-101.
-use mathlib.Core.List.{List, [], _∷_}
+use mathlib.Core.List.{List, [], _∷_, flatten}
 use Prim.Native.Nat.{ℕ}
 use lib.IntN.{ℤ, pos}
 use Rattle.block.specs.Key.{keyOf}
 use Rattle.block.specs.Encoding.{Routine, Contents}
-use Rattle.block.specs.Assemble.{joinedParts, STOP, SET, GET, PUT, PAY, PAYTO, JEQ, function, cell, callWith, call, end}
+use Rattle.block.specs.Assemble.{STOP, SET, GET, PUT, PAY, PAYTO, JEQ, function, cell, callWith, call, end}
 use Rattle.block.specs.declared.Call.{Call}
 
 -- "Block P (document 003, example 1): contract 32768; f0: SET 0 1, PUT 0 field 1; f1: GET 0 field 1, JEQ 0 1 to 3, STOP, SET 2 1,
 -- PAY 2 to constant 7; f2: SET 0 1, PAY 0 to constant 7. Account 5 opens with 2 and calls f0 value 0, f1 value 1, f2 value 1."
 unfoldable pub P : List ℕ
 P =
-    joinedParts
+    flatten
     (function 32768 0 (SET 0 (pos 1) ∷ PUT 0 1 0 ∷ [])
     ∷ function 32768 1 (GET 0 1 0 ∷ JEQ 0 1 3 ∷ STOP ∷ SET 2 (pos 1) ∷ PAY 2 7 ∷ [])
     ∷ function 32768 2 (SET 0 (pos 1) ∷ PAY 0 7 ∷ [])
@@ -20,7 +20,7 @@ P =
 
 -- The same in parts: a function of the contract, and a call from account 5.
 abbrev routine : ℕ → List (List ℕ) → Routine
-routine number instrs = record { contract = record { 0 = 32768 }; number = number; code = joinedParts instrs }
+routine number instrs = record { contract = record { 0 = 32768 }; number = number; code = flatten instrs }
 
 abbrev calls : ℕ → ℤ → Call
 calls number value =
@@ -50,7 +50,7 @@ contentsP =
 -- that pays account 0; and 3, of 2 that it has left.
 unfoldable pub account0 : List ℕ
 account0 =
-    joinedParts
+    flatten
     (function 32768 0 (SET 0 (pos 1) ∷ PAYTO 0 0 ∷ [])
     ∷ function 32768 1 (PAY 0 0 ∷ [])
     ∷ function 32768 2 (SET 0 (pos 1) ∷ PAYTO 0 1 ∷ [])

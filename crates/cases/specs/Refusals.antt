@@ -1,6 +1,6 @@
 -- One block and more for each refusal of an input, with its offset, and two faults at once for their order.
 use mathlib.Core.Path.{_≡_, refl}
-use mathlib.Core.List.{List, [], _∷_, _++_}
+use mathlib.Core.List.{List, [], _∷_, _++_, flatten}
 use Prim.Native.Nat.{ℕ, zero, suc, _-_, _^_}
 use lib.IntN.{pos, negsuc}
 use Rattle.wire.specs.Bytes.{repeated}
@@ -10,7 +10,7 @@ use Rattle.machine.specs.Run.{Sizes, fixedSizes}
 use Rattle.machine.specs.Opening.{Opened, openingOf}
 use Rattle.console.specs.Computing as console
 use Rattle.block.specs.Record.{recordOf}
-use Rattle.block.specs.Assemble.{joinedParts, times, instr, SET, THROW, JEQ, function, cell, call, callWith, end}
+use Rattle.block.specs.Assemble.{times, instr, SET, THROW, JEQ, function, cell, call, callWith, end}
 use Rattle.footprint.specs.Examples.{gets, keysBlock}
 
 -- The number and offset that answer an opening.
@@ -18,7 +18,7 @@ abbrev told : Opened → List ℕ
 told o = verdictNumber (o .answer) ∷ verdictOffset (o .answer) ∷ []
 
 abbrev refusal : List (List ℕ) → List ℕ
-refusal parts = told (openingOf fixedSizes (joinedParts parts) maxWorkers)
+refusal parts = told (openingOf fixedSizes (flatten parts) maxWorkers)
 
 -- n functions without code, and n calls whose first arguments differ.
 unfoldable pub functions : ℕ → List ℕ
@@ -113,7 +113,7 @@ pub record Refusals : Type 0 where
   pub order-8-11 : refusal (function 32768 0 (gets 25) ∷ call 5 32768 0 (pos 0) ∷ end ∷ (0 ∷ []) ∷ []) ≡ 8 ∷ 246 ∷ []
 
 pub refusals : Refusals
-unfolding console.computing joinedParts times functions calls gets keysBlock
+unfolding console.computing times functions calls gets keysBlock
 refusals =
     record {
       accepted = refl;

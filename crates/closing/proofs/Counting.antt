@@ -1,6 +1,6 @@
--- A test of every number below a bound, by a loop that counts down: one law, and each test of the sheet as an instance.
+-- A test of every number below a bound, by a loop that counts down: one law, and each test of the calls of a sheet as an instance.
 use mathlib.Core.Path.{_≡_, refl, sym, ap, _∙_}
-use mathlib.Core.Bool.{Bool, true, false, _&&_, _||_, not}
+use mathlib.Core.Bool.{Bool, true, false, _&&_, not}
 use mathlib.Core.List.{List}
 use Prim.Native.Nat.{ℕ, suc, _-_, _<_, _≤_}
 use native.Mathlib.Omega.{arith}
@@ -10,8 +10,7 @@ use lib.IntN.{ℤ, pos, negsuc}
 use lib.Signed.{ltZ, nonNeg}
 use Rattle.machine.specs.Run.{statusWord, stateOf, isState, finished}
 use Rattle.block.specs.Outcomes.{lastOutcome, maxCount}
-use Rattle.machine.specs.Step.{cellAt}
-use Rattle.sheet.specs.Sheet.{statesAllowed, allFinished, receiptsAllowed, balancesAllowed, fieldOf}
+use Rattle.sheet.specs.Sheet.{statesAllowed, allFinished, receiptsAllowed}
 
 -- The first `left` of them answer as all do: the others hold.
 pub record Down (f : ℕ → Bool) (all left : ℕ) : Type 0 where
@@ -36,7 +35,7 @@ module _ (f p : ℕ → Bool) (turn : (n : ℕ) → f (suc n) ≡ (p n && f n)) 
   pub down-all : f 0 ≡ true → (left : ℕ) → Down f all left → left ≤ 0 → true ≡ f all
   down-all z left d h = let e : left ≡ 0 = omega arith in sym (d .same ∙ ap f e ∙ z)
 
--- ---- the four tests
+-- ---- the three tests
 
 module _ (status : List ℕ) where
   pub states-none : statesAllowed status 0 ≡ true
@@ -66,19 +65,6 @@ module _ (status : List ℕ) where
   pub allowed-turn : (n : ℕ) → receiptsAllowed status (suc n) ≡ (receiptAllowed n && receiptsAllowed status n)
   unfolding receiptsAllowed
   allowed-turn n = refl
-
-module _ (keys : List ℕ) (cells : List ℤ) where
-  -- Whether a cell is no balance, or one that is not below zero.
-  abbrev pub balanceAllowed : ℕ → Bool
-  balanceAllowed n = not (eqb (fieldOf keys n) 0) || nonNeg (cellAt cells n)
-
-  pub balances-none : balancesAllowed keys cells 0 ≡ true
-  unfolding balancesAllowed
-  balances-none = refl
-
-  pub balances-turn : (n : ℕ) → balancesAllowed keys cells (suc n) ≡ (balanceAllowed n && balancesAllowed keys cells n)
-  unfolding balancesAllowed
-  balances-turn n = refl
 
 -- A number is not below zero where it is not less than zero.
 pub not-less : (z : ℤ) → not (ltZ z (pos 0)) ≡ nonNeg z

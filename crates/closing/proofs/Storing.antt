@@ -1,13 +1,14 @@
--- Records stored one behind the other: the parts of a record, and a loop over records.
-use mathlib.Core.Path.{_≡_, refl, sym, ap, ap₂, _∙_}
-use mathlib.Core.List.{List, [], _++_}
-use Prim.Native.Nat.{ℕ, suc, _+_, _-_, _/_, _^_, _≤_, _<_}
+-- The parts of a record, stored one behind the other.
+use mathlib.Core.Path.{_≡_, sym, ap, ap₂, _∙_}
+use mathlib.Core.List.{List, [], _∷_, _++_, flatten}
+use Prim.Native.Nat.{ℕ, _+_, _*_, _/_, _%_, _^_, _<_}
 use native.Mathlib.Omega.{arith}
 use lib.ListN.{length, length-append}
 use Rattle.wire.specs.Bytes.{bytesOf, stored}
-use Rattle.wire.proofs.BytesLaws.{bytesOf-length, stored-append, stored-length}
-use Rattle.block.specs.Record.{recordOf, endKind}
-use Rattle.sheet.specs.Sheet.{keyBytes}
+use Rattle.wire.proofs.BytesLaws.{bytesOf-length, stored-append}
+use Rattle.block.specs.Record.{recordOf}
+use Rattle.sheet.specs.Sheet.{keyBytes, lengths}
+use Rattle.sheet.proofs.RecordLists.{joined-one, lengths-none, lengths-one}
 
 -- What is stored behind a list that was stored is stored with it.
 pub stored-joined : (s : List ℕ) (i : ℕ) (xs ys : List ℕ) {t u : List ℕ} {j : ℕ} → j ≡ i + length xs → t ≡ stored s i xs → u ≡ stored t j ys → u ≡ stored s i (xs ++ ys)
@@ -21,15 +22,19 @@ record-behind s at kind size body e p q =
     stored-joined s at (bytesOf 2 size ++ bytesOf 2 kind) body (omega arith) p q
     ∙ ap (λ (n : ℕ). stored s at (bytesOf 2 n ++ bytesOf 2 kind ++ body)) (sym e)
 
--- Nothing stored changes nothing, and takes no place.
-pub stored-nothing : (s : List ℕ) (at : ℕ) {xs : List ℕ} → xs ≡ [] → s ≡ stored s at xs
-unfolding stored
-stored-nothing s at e = sym (ap (stored s at) e)
+-- A head is one number of four bytes.
+pub head-number : (size kind : ℕ) → size < 2 ^ 16 → kind < 2 ^ 16 → bytesOf 4 (size + 65536 * kind) ≡ bytesOf 2 size ++ bytesOf 2 kind
+unfolding bytesOf
+head-number size kind s k =
+    let n : ℕ = size + 65536 * kind in
+    let q : ℕ = size / 256 in
+    let up : n / 256 ≡ q + 256 * kind = omega arith in
+    let low : n % 256 ≡ size % 256 = omega arith in
+    let high : n / 256 % 256 ≡ q % 256 = ap (λ (m : ℕ). m % 256) up ∙ omega arith in
+    let rest : n / 256 / 256 ≡ kind = ap (λ (m : ℕ). m / 256) up ∙ omega arith in
+    λ i. low i ∷ high i ∷ bytesOf 2 (rest i)
 
-pub place-same : (at : ℕ) {xs : List ℕ} → xs ≡ [] → at ≡ at + length xs
-place-same at e = omega (arith, ap length e)
-
--- The parts of a key and of a sheet, one behind the other.
+-- The parts of a key, one behind the other.
 pub key-behind : (s : List ℕ) (at high low : ℕ) {s₁ s₂ s₃ s₄ : List ℕ} → s₁ ≡ stored s at (bytesOf 2 (high / 2 ^ 48)) → s₂ ≡ stored s₁ (at + 2) (bytesOf 2 (high / 2 ^ 32))
     → s₃ ≡ stored s₂ (at + 4) (bytesOf 4 high) → s₄ ≡ stored s₃ (at + 8) (bytesOf 4 low) → s₄ ≡ stored s at (keyBytes high low)
 key-behind s at high low p q r u =
@@ -41,57 +46,14 @@ key-behind s at high low p q r u =
     let k : at + 8 ≡ at + length (a ++ b ++ c) = simp (length-append, bytesOf-length) in
     stored-joined s at (a ++ b ++ c) (bytesOf 4 low) k (stored-joined s at (a ++ b) c j (stored-joined s at a b i p q) r) u
 
--- A record without a body is its head.
-end-record : recordOf endKind [] ≡ bytesOf 2 0 ++ bytesOf 2 endKind
-unfolding bytesOf
-end-record = refl
+-- ---- records of a list
 
-pub sheet-behind : (s cs rs : List ℕ) {s₁ s₂ s₃ : List ℕ} {i j : ℕ} → s₁ ≡ stored s 0 cs → i ≡ length cs → s₂ ≡ stored s₁ i rs → j ≡ i + length rs
-    → s₃ ≡ stored s₂ j (bytesOf 2 0 ++ bytesOf 2 endKind) → s₃ ≡ stored s 0 (cs ++ rs ++ recordOf endKind [])
-sheet-behind s cs rs {j = j} p e q f u =
-    let k : j ≡ 0 + length (cs ++ rs) = omega (arith, e, f, length-append cs rs) in
-    stored-joined s 0 (cs ++ rs) (recordOf endKind []) k (stored-joined s 0 cs rs (omega arith) p q) (u ∙ ap (stored _ j) (sym end-record))
+-- No record stored changes nothing and takes no place.
+pub nothing-stored : (s : List ℕ) (at : ℕ) {rs : List (List ℕ)} → rs ≡ [] → (s ≡ stored s at (flatten rs)) × (at ≡ at + lengths rs)
+unfolding stored flatten
+nothing-stored s at e = (sym (ap (λ (l : List (List ℕ)). stored s at (flatten l)) e), omega (arith, ap lengths e, lengths-none))
 
--- A loop that stores one part after the other: what is left, stored from its place on, makes of the output what all make.
-pub record Storing (parts : ℕ → ℕ → List ℕ) (count : ℕ) (output₀ : List ℕ) (start : ℕ) (output : List ℕ) (at n : ℕ) : Type 0 where
-  pub within : n ≤ count
-  pub kept : length output ≡ length output₀
-  pub same : stored output at (parts (count - n) n) ≡ stored output₀ start (parts count 0)
-  pub place : at + length (parts (count - n) n) ≡ start + length (parts count 0)
-
-module _ (parts : ℕ → ℕ → List ℕ) (part : ℕ → List ℕ) (none : (n : ℕ) → parts 0 n ≡ []) (turn : (left n : ℕ) → parts (suc left) n ≡ part n ++ parts left (n + 1))
-    (count : ℕ) (output₀ : List ℕ) (start : ℕ) where
-  pub storing-none : Storing parts count output₀ start output₀ start 0
-  storing-none =
-      let e : count - 0 ≡ count = omega arith in
-      record {
-        within = omega arith;
-        kept = refl;
-        same = ap (λ (k : ℕ). stored output₀ start (parts k 0)) e;
-        place = ap (λ (k : ℕ). start + length (parts k 0)) e;
-      }
-
-  pub storing-more : (output : List ℕ) (at n : ℕ) → Storing parts count output₀ start output at n → n < count → {next : List ℕ} {to : ℕ}
-      → next ≡ stored output at (part n) → to ≡ at + length (part n) → Storing parts count output₀ start next to (n + 1)
-  storing-more output at n h l {next} {to} p q =
-      let e : count - n ≡ suc (count - (n + 1)) = omega arith in
-      let rest = parts (count - (n + 1)) (n + 1) in
-      let all : parts (count - n) n ≡ part n ++ rest = ap (λ (k : ℕ). parts k n) e ∙ turn (count - (n + 1)) n in
-      record {
-        within = omega arith;
-        kept = ap length p ∙ stored-length (part n) output at ∙ h .kept;
-        same =
-            ap₂ (λ (s : List ℕ) (k : ℕ). stored s k rest) p q
-            ∙ sym (stored-append (part n) rest output at)
-            ∙ ap (stored output at) (sym all)
-            ∙ h .same;
-        place = omega (arith, q, h .place, ap length all, length-append (part n) rest);
-      }
-
-  pub storing-all : (output : List ℕ) (at n : ℕ) → Storing parts count output₀ start output at n → count ≤ n
-      → (output ≡ stored output₀ start (parts count 0)) × (at ≡ start + length (parts count 0))
-  unfolding stored
-  storing-all output at n h l =
-      let e : count - n ≡ 0 = omega arith in
-      let all : parts (count - n) n ≡ [] = ap (λ (k : ℕ). parts k n) e ∙ none n in
-      (sym (ap (stored output at) all) ∙ h .same, omega (arith, h .place, ap length all))
+-- One record of 24 bytes stored.
+pub one-stored : (s : List ℕ) (at : ℕ) {rs : List (List ℕ)} {r : List ℕ} → rs ≡ r ∷ [] → length r ≡ 24 → {t : List ℕ} → t ≡ stored s at r
+    → (t ≡ stored s at (flatten rs)) × (at + 4 + 20 ≡ at + lengths rs)
+one-stored s at {r = r} e size p = (p ∙ ap (stored s at) (sym (ap flatten e ∙ joined-one r)), omega (arith, ap lengths e, lengths-one r))

@@ -1,3 +1,4 @@
--- Answered is the contract of `sheet`; Length says what its functions store.
-pub mod Length
+-- Answered is the contract of `sheet`; Carried says what its writer carries from record to record; Found what the test of the cells finds.
+pub mod Carried
+pub mod Found
 pub mod Answered

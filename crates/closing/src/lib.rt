@@ -10,11 +10,17 @@ use machine::Head;
 use machine::layout::large_enough;
 use sheet::Closing;
 use tests::all_finished;
-use tests::balances_allowed;
+use tests::cells_found;
 use tests::states_allowed;
 use write::write_sheet;
 ghost use Rattle.sheet.specs.Sheet.{sheetOf};
 ghost use Rattle.closing.specs.Answered.{ClosedAs};
+
+// What a look at the cells finds: a balance below zero, or how many of them have a record.
+enum Found {
+    BelowZero,
+    Records(usize),
+}
 
 // The closing sheet: 20 for the sizes, the number of calls and their states; 27 for a call unfinished; 20 for the number of cells and
 // the balances; 28; 20 for the receipts.
@@ -64,8 +70,8 @@ pub fn sheet(
     if MAX_KEYS < count {
         return Closing::Refused(Answer::Damaged);
     }
-    if !balances_allowed(keys, cells, count) {
-        return Closing::Refused(Answer::Damaged);
+    match cells_found(keys, cells, count) {
+        Found::BelowZero => Closing::Refused(Answer::Damaged),
+        Found::Records(records) => write_sheet(keys, cells, status, count, calls, records, output),
     }
-    write_sheet(keys, cells, status, count, calls, output)
 }

@@ -1,4 +1,5 @@
-// The records of a closing sheet, each stored at its place of the output.
+// The records of a closing sheet. One offset is carried from record to record: where the next one stands, counted from the output's
+// first byte. A record is stored there, and the offset behind it is carried on.
 use crate::tests::status_word;
 use block::record::ADDRESS_BASE;
 use block::record::CELL_BYTES;
@@ -12,22 +13,25 @@ use footprint::layout::KEY_WORDS;
 use machine::layout::COUNT_WORD;
 use machine::layout::OUTCOME_WORD;
 ghost use mathlib.Core.Path.{_≡_};
-ghost use mathlib.Core.List.{_++_};
+ghost use mathlib.Core.List.{_++_, flatten};
 ghost use Prim.Native.Nat.{_+_, _*_, _≤_, _<_, _^_};
 ghost use lib.ListN.{length};
 ghost use Rattle.wire.specs.Bytes.{bytesOf, stored};
 ghost use Rattle.block.specs.Limits.{maxCalls, maxKeys};
 ghost use Rattle.block.specs.Record.{recordOf, cellKind};
-ghost use Rattle.sheet.specs.Sheet.{keyBytes, cellRecords, receiptRecords};
-ghost use Rattle.closing.specs.Length.{sheetCellRecord, receiptRecord, sheetParts};
+ghost use Rattle.sheet.specs.Sheet.{keyBytes, recordsAt, receiptAt, recordsFor, lengths, offsetBehind};
 
-// The head of a record: "length (2 bytes, of the body), kind (2)".
+// The kind's place in a head that is read as one number.
+const KIND_BASE: usize = 65536;
+
+// The head of a record: "length (2 bytes, of the body), kind (2)", stored as one number of four bytes.
 fn put_head(output: &mut [u8], at: usize, size: usize, kind: usize)
     requires { ⌜ at < 2 ^ 32 ⌝ }
+    requires { ⌜ size < 2 ^ 16 ⌝ }
+    requires { ⌜ kind < 2 ^ 16 ⌝ }
     ensures { λ r. ⌜ now (output .exit) ≡ stored (now (output .entry)) at (bytesOf 2 size ++ bytesOf 2 kind) ⌝ }
 {
-    wire::put16(output, at, size as u64);
-    wire::put16(output, at + 2, kind as u64);
+    wire::put32(output, at, (size + KIND_BASE * kind) as u64);
 }
 
 // A cell's key from its two words: address 2, field 2, a 4, b 4.
@@ -42,7 +46,7 @@ fn put_key(output: &mut [u8], at: usize, high: u64, low: u64)
 }
 
 // The record of a cell whose value has these bits.
-fn put_cell(output: &mut [u8], at: usize, high: u64, low: u64, bits: u64)
+fn put_cell_record(output: &mut [u8], at: usize, high: u64, low: u64, bits: u64)
     requires { ⌜ at + 24 < 2 ^ 32 ⌝ }
     ensures { λ r. ⌜ now (output .exit) ≡ stored (now (output .entry)) at (recordOf cellKind (keyBytes high low ++ bytesOf 8 bits)) ⌝ }
 {
@@ -51,69 +55,41 @@ fn put_cell(output: &mut [u8], at: usize, high: u64, low: u64, bits: u64)
     wire::put64(output, at + 16, bits);
 }
 
-// That record unless the value is zero, and the place behind it.
-fn put_nonzero(output: &mut [u8], at: usize, high: u64, low: u64, bits: u64) -> usize
+// "Kind 2 records of all non-zero cells": the record of cell n at the offset that is carried there, and the offset behind it; of a cell
+// that is zero there is no record, and the offset stays.
+fn put_cell(keys: &[u64], cells: &[i64], n: usize, at: usize, output: &mut [u8]) -> usize
+    requires { ⌜ n < maxKeys ⌝ }
     requires { ⌜ at + 24 < 2 ^ 32 ⌝ }
-    ensures { λ r. ⌜ now (output .exit) ≡ stored (now (output .entry)) at (sheetCellRecord high low bits) ⌝ }
-    ensures { λ r. ⌜ r ≡ at + length (sheetCellRecord high low bits) ⌝ }
+    ensures { λ r. ⌜ now (output .exit) ≡ stored (now (output .entry)) at (flatten (recordsAt (now (keys .entry)) (now (cells .entry)) n)) ⌝ }
+    ensures { λ r. ⌜ r ≡ at + lengths (recordsAt (now (keys .entry)) (now (cells .entry)) n) ⌝ }
 {
-    if bits != 0 {
-        put_cell(output, at, high, low, bits);
-        return at + HEAD_BYTES + CELL_BYTES;
+    let bits = arith::unsigned64(wire::value(cells, n));
+    if bits == 0 {
+        return at;
     }
-    at
+    let high = wire::word(keys, KEY_WORDS * n);
+    let low = wire::word(keys, KEY_WORDS * n + 1);
+    put_cell_record(output, at, high, low, bits);
+    at + HEAD_BYTES + CELL_BYTES
 }
 
-// "Kind 2 records of all non-zero cells by key", from the front on, and the place behind them.
-fn put_cells(keys: &[u64], cells: &[i64], count: usize, output: &mut [u8]) -> usize
-    requires { ⌜ count ≤ maxKeys ⌝ }
-    ensures { λ r. ⌜ now (output .exit) ≡ stored (now (output .entry)) 0 (cellRecords (now (keys .entry)) (now (cells .entry)) count 0) ⌝ }
-    ensures { λ r. ⌜ r ≡ length (cellRecords (now (keys .entry)) (now (cells .entry)) count 0) ⌝ }
-    ensures { λ r. ⌜ r ≤ 24 * count ⌝ }
-{
-    let mut at = 0;
-    let mut n = 0;
-    while n < count {
-        let bits = arith::unsigned64(wire::value(cells, n));
-        let high = wire::word(keys, KEY_WORDS * n);
-        let low = wire::word(keys, KEY_WORDS * n + 1);
-        at = put_nonzero(output, at, high, low, bits);
-        n += 1;
-    }
-    at
-}
-
-// The record of a receipt.
-fn put_receipt(output: &mut [u8], at: usize, outcome: u64, count: u64)
+// "kind 5 receipts .. (outcome 2, count 2)": that of a call, likewise.
+fn put_receipt(status: &[u64], call: usize, at: usize, output: &mut [u8]) -> usize
+    requires { ⌜ call < maxCalls ⌝ }
     requires { ⌜ at + 8 < 2 ^ 32 ⌝ }
-    ensures { λ r. ⌜ now (output .exit) ≡ stored (now (output .entry)) at (receiptRecord outcome count) ⌝ }
+    ensures { λ r. ⌜ now (output .exit) ≡ stored (now (output .entry)) at (receiptAt (now (status .entry)) call) ⌝ }
+    ensures { λ r. ⌜ r ≡ at + length (receiptAt (now (status .entry)) call) ⌝ }
 {
+    let outcome = status_word(status, call, OUTCOME_WORD);
+    let count = status_word(status, call, COUNT_WORD);
     put_head(output, at, RECEIPT_BYTES, RECEIPT_KIND);
     wire::put16(output, at + 4, outcome);
     wire::put16(output, at + 6, count);
+    at + HEAD_BYTES + RECEIPT_BYTES
 }
 
-// "kind 5 receipts in block order (outcome 2, count 2)", from a place on, and the place behind them.
-fn put_receipts(status: &[u64], calls: usize, start: usize, output: &mut [u8]) -> usize
-    requires { ⌜ calls ≤ maxCalls ⌝ }
-    requires { ⌜ start ≤ 24 * maxKeys ⌝ }
-    ensures { λ r. ⌜ now (output .exit) ≡ stored (now (output .entry)) start (receiptRecords (now (status .entry)) calls 0) ⌝ }
-    ensures { λ r. ⌜ r ≡ start + length (receiptRecords (now (status .entry)) calls 0) ⌝ }
-    ensures { λ r. ⌜ r ≤ start + 8 * calls ⌝ }
-{
-    let mut at = start;
-    let mut call = 0;
-    while call < calls {
-        let outcome = status_word(status, call, OUTCOME_WORD);
-        let count = status_word(status, call, COUNT_WORD);
-        put_receipt(output, at, outcome, count);
-        at += HEAD_BYTES + RECEIPT_BYTES;
-        call += 1;
-    }
-    at
-}
-
-// "Kind 2 records .., kind 5 receipts .., kind 4."
+// "Kind 2 records .., kind 5 receipts .., kind 4.", stored one behind the other from the output's first byte on, and the offset behind the
+// last. At record k the offset is "the sum of all earlier records' lengths, heads included": `Carried`, which both loops keep.
 pub(crate) fn put_sheet(
     keys: &[u64],
     cells: &[i64],
@@ -121,13 +97,25 @@ pub(crate) fn put_sheet(
     count: usize,
     calls: usize,
     output: &mut [u8],
-)
+) -> usize
     requires { ⌜ count ≤ maxKeys ⌝ }
     requires { ⌜ calls ≤ maxCalls ⌝ }
-    ensures { λ r. ⌜ now (output .exit)
-        ≡ stored (now (output .entry)) 0 (sheetParts (now (keys .entry)) (now (cells .entry)) (now (status .entry)) count calls) ⌝ }
+    ensures { λ r. ⌜ now (output .exit) ≡ stored (now (output .entry)) 0
+        (flatten (recordsFor (now (keys .entry)) (now (cells .entry)) (now (status .entry)) count calls)) ⌝ }
+    ensures { λ r. ⌜ r ≡ offsetBehind (recordsFor (now (keys .entry)) (now (cells .entry)) (now (status .entry)) count calls) ⌝ }
 {
-    let receipts = put_cells(keys, cells, count, output);
-    let end = put_receipts(status, calls, receipts, output);
-    put_head(output, end, 0, END_KIND);
+    let mut at = 0;
+    let mut n = 0;
+    while n < count {
+        at = put_cell(keys, cells, n, at, output);
+        n += 1;
+    }
+    let mut call = 0;
+    while call < calls {
+        at = put_receipt(status, call, at, output);
+        call += 1;
+    }
+    put_head(output, at, 0, END_KIND);
+    at += HEAD_BYTES;
+    at
 }

@@ -1,4 +1,5 @@
-// The tests of a closing sheet. Each loop counts down, as its definition does.
+// The tests of a closing sheet. The loops over the calls count down, as their definitions do.
+use crate::Found;
 use block::outcomes::LAST_OUTCOME;
 use block::outcomes::MAX_COUNT;
 use block::record::FIELD_BASE;
@@ -17,7 +18,8 @@ ghost use lib.Signed.{nonNeg};
 ghost use Rattle.block.specs.Limits.{maxCalls, maxKeys};
 ghost use Rattle.machine.specs.Run.{statusWord, statusWords};
 ghost use Rattle.block.specs.Outcomes.{lastOutcome, maxCount};
-ghost use Rattle.sheet.specs.Sheet.{statesAllowed, allFinished, receiptsAllowed, balancesAllowed};
+ghost use Rattle.sheet.specs.Sheet.{statesAllowed, allFinished, receiptsAllowed};
+ghost use Rattle.closing.specs.Found.{foundIn};
 
 // A word of a call's status.
 pub(crate) fn status_word(status: &[u64], call: usize, k: usize) -> u64
@@ -92,18 +94,23 @@ fn balance_allowed(high: u64, value: i64) -> bool
     !arith::less(value, 0)
 }
 
-// Whether no balance is below zero.
-pub(crate) fn balances_allowed(keys: &[u64], cells: &[i64], count: usize) -> bool
+// One look at each cell, for 20 and for 28: how many of the cells have a record, or that a balance is below zero.
+pub(crate) fn cells_found(keys: &[u64], cells: &[i64], count: usize) -> Found
     requires { ⌜ count ≤ maxKeys ⌝ }
-    ensures { λ r. ⌜ r ≡ balancesAllowed (now (keys .entry)) (now (cells .entry)) count ⌝ }
+    ensures { λ r. ⌜ r ≡ foundIn (now (keys .entry)) (now (cells .entry)) count ⌝ }
 {
-    let mut left = count;
-    while 0 < left {
-        left -= 1;
-        let high = wire::word(keys, KEY_WORDS * left);
-        if !balance_allowed(high, wire::value(cells, left)) {
-            return false;
+    let mut records = 0;
+    let mut n = 0;
+    while n < count {
+        let value = wire::value(cells, n);
+        let high = wire::word(keys, KEY_WORDS * n);
+        if !balance_allowed(high, value) {
+            return Found::BelowZero;
         }
+        if arith::unsigned64(value) != 0 {
+            records += 1;
+        }
+        n += 1;
     }
-    true
+    Found::Records(records)
 }

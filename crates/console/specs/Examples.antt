@@ -3,9 +3,9 @@ use mathlib.Core.Path.{_≡_, refl}
 use mathlib.Core.List.{List, [], _++_}
 use Prim.Native.Nat.{ℕ}
 use lib.ListN.{take}
-use Rattle.block.specs.Assemble.{text, joinedParts}
+use Rattle.block.specs.Assemble.{text}
 use Rattle.block.specs.Worked.{P}
-use Rattle.sheet.specs.Examples.{sheetP}
+use Rattle.sheet.specs.Examples.{recordsP, sheetP}
 use Rattle.console.specs.Register.{registerOf}
 use Rattle.console.specs.SheetBytes.{writtenSheet}
 use Rattle.console.specs.Computing.{computing}
@@ -31,7 +31,7 @@ pub record Lines : Type 0 where
   pub refused-block : registerOf [] movesP ≡ text "e 2 0\n"
 
 pub lines : Lines
-unfolding computing text joinedParts P movesP printedP
+unfolding computing text P movesP printedP
 lines =
     record {
       printed = refl;
@@ -53,7 +53,7 @@ pub record Sheets : Type 0 where
   pub refused-block : writtenSheet [] movesP ≡ []
 
 pub sheets : Sheets
-unfolding computing text joinedParts P movesP sheetP
+unfolding computing text P movesP recordsP sheetP
 sheets =
     record {
       whole = refl;

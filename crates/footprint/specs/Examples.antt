@@ -1,12 +1,12 @@
 -- The sets and rows of block P, and of other small blocks, computed.
 use mathlib.Core.Path.{_≡_, refl}
-use mathlib.Core.List.{List, [], _∷_, _++_, map}
+use mathlib.Core.List.{List, [], _∷_, _++_, map, flatten}
 use Prim.Native.Nat.{ℕ, zero, suc, _+_, _*_, _^_}
 use lib.IntN.{pos}
 use lib.ListN.{getD, take, drop}
 use Rattle.block.specs.Reader.{Read, accepted, refused, readBlock}
 use Rattle.block.specs.Refusal.{numberOf, offsetOf}
-use Rattle.block.specs.Assemble.{joinedParts, GET, PUT, PAY, BAL, function, call, end}
+use Rattle.block.specs.Assemble.{GET, PUT, PAY, BAL, function, call, end}
 use Rattle.block.specs.Worked.{P, account0}
 use Rattle.footprint.specs.Access.{Access}
 use Rattle.footprint.specs.Sets.{readSet, writeSet}
@@ -60,12 +60,12 @@ gets zero = []
 gets (suc n) = gets n ++ (GET 0 (suc n) 1 ∷ [])
 
 unfoldable pub keysBlock : ℕ → List ℕ
-keysBlock n = joinedParts (function 32768 0 (gets n) ∷ call 5 32768 0 (pos 0) ∷ end ∷ [])
+keysBlock n = flatten (function 32768 0 (gets n) ∷ call 5 32768 0 (pos 0) ∷ end ∷ [])
 
 -- Two calls without a value that store into cells of their own, and a third that reads both and its contract's balance.
 unfoldable pub readers : List ℕ
 readers =
-    joinedParts
+    flatten
     (function 32768 0 (PUT 0 1 0 ∷ [])
     ∷ function 32768 1 (PUT 0 2 0 ∷ [])
     ∷ function 32768 2 (GET 0 1 0 ∷ GET 0 2 0 ∷ BAL 0 ∷ [])
@@ -85,7 +85,7 @@ pub record Sets-P : Type 0 where
   pub keys-25 : rows (keysBlock 25) ≡ (11 ∷ 208 ∷ []) ∷ []
 
 pub sets-of-p : Sets-P
-unfolding computing joinedParts P gets keysBlock readers analysis firstWords rowsOf bothSets setsAndTable
+unfolding computing P gets keysBlock readers analysis firstWords rowsOf bothSets setsAndTable
 sets-of-p = record { rows-p = refl; sets-p = refl; rows-readers = refl; keys-24 = refl; keys-25 = refl }
 
 -- Balances: of the two contracts of the block of payments to account 0, and of account 0, whose key is 0.
@@ -101,7 +101,7 @@ of0 = balance 0
 -- Two contracts pay one account, with the amount 0.
 unfoldable pub twoPay : ℕ → List ℕ
 twoPay target =
-    joinedParts
+    flatten
     (function 32768 0 (PAY 0 target ∷ [])
     ∷ function 40000 0 (PAY 0 target ∷ []) ∷ call 5 32768 0 (pos 0) ∷ call 5 40000 0 (pos 0) ∷ end ∷ [])
 
@@ -116,5 +116,5 @@ pub record Sets-account0 : Type 0 where
   pub sets-5 : take 8 (drop 10 (sets account0)) ≡ (own ∷ []) ∷ (own ∷ balance 7 ∷ []) ∷ (of0 ∷ own ∷ []) ∷ (of0 ∷ own ∷ balance 8 ∷ []) ∷ (of0 ∷ own′ ∷ []) ∷ (of0 ∷ own′ ∷ (own′ + 2 ^ 64) ∷ []) ∷ (of0 ∷ own ∷ []) ∷ (of0 ∷ own ∷ []) ∷ []
 
 pub sets-of-account0 : Sets-account0
-unfolding computing joinedParts account0 twoPay analysis firstWords rowsOf bothSets setsAndTable
+unfolding computing account0 twoPay analysis firstWords rowsOf bothSets setsAndTable
 sets-of-account0 = record { two-0 = refl; two-1 = refl; rows-0 = refl; sets-0 = refl; sets-5 = refl }

@@ -1,13 +1,13 @@
 -- The blocks and moves of document 01's examples, besides block P.
-use mathlib.Core.List.{List, [], _∷_}
+use mathlib.Core.List.{List, [], _∷_, flatten}
 use Prim.Native.Nat.{ℕ, _-_, _^_}
 use lib.IntN.{ℤ, pos, negℤ}
-use Rattle.block.specs.Assemble.{text, joinedParts, THROW, SET, MUL, DIV, PUT, function, cell, call, end}
+use Rattle.block.specs.Assemble.{text, THROW, SET, MUL, DIV, PUT, function, cell, call, end}
 
 -- Divisions: -7 by 2 into field 1, 7 by -2 into field 2, -2^63 by -1, and 1 by 0. -2^63 is -2^31 times 2^16 times 2^16.
 unfoldable pub divisionsBlock : List ℕ
 divisionsBlock =
-    joinedParts
+    flatten
     (function 32768 0 (SET 0 (negℤ (pos 7)) ∷ SET 1 (pos 2) ∷ DIV 2 0 1 ∷ PUT 2 1 0 ∷ [])
     ∷ function 32768 1 (SET 0 (pos 7) ∷ SET 1 (negℤ (pos 2)) ∷ DIV 2 0 1 ∷ PUT 2 2 0 ∷ [])
     ∷ function 32768 2
@@ -27,9 +27,9 @@ divisionText = text "k 32768 1 0 0 -4\nk 32768 2 0 0 -4\nt 0 0 4\nt 1 0 4\nt 2 4
 
 -- Account 5 opens with 2 and calls a function of no instruction with the given value.
 unfoldable pub valueCall : ℤ → List ℕ
-valueCall value = joinedParts (function 32768 0 [] ∷ cell 5 0 0 0 (pos 2) ∷ call 5 32768 0 value ∷ end ∷ [])
+valueCall value = flatten (function 32768 0 [] ∷ cell 5 0 0 0 (pos 2) ∷ call 5 32768 0 value ∷ end ∷ [])
 
 -- A cell of 9, and a call that stores 0 there and throws.
 unfoldable pub putThenThrow : List ℕ
 putThenThrow =
-    joinedParts (function 32768 0 (PUT 0 1 0 ∷ THROW ∷ []) ∷ cell 32768 1 0 0 (pos 9) ∷ call 5 32768 0 (pos 0) ∷ end ∷ [])
+    flatten (function 32768 0 (PUT 0 1 0 ∷ THROW ∷ []) ∷ cell 32768 1 0 0 (pos 9) ∷ call 5 32768 0 (pos 0) ∷ end ∷ [])

@@ -29,7 +29,7 @@ use Rattle.machine.specs.Step.{done, cellAt}
 use Rattle.machine.specs.Moves.{callKeyCount, ownEntries, beginOf, stepped, stepOf, cancelOf, moveOf}
 use Rattle.machine.specs.declared.Answer.{Answer}
 use Rattle.machine.specs.declared.Answer.the-variants as answer
-use Rattle.sheet.specs.Sheet.{sheetBytes, fieldOf, filled, sheetOf}
+use Rattle.sheet.specs.Sheet.{sheetRecords, sheetBytes, fieldOf, filled, sheetOf}
 use Rattle.sheet.specs.declared.Closing.the-variants.{Refused}
 
 -- Both ways.
@@ -281,7 +281,7 @@ pub record Demand1 : Type 0 where
   -- The same of the sheet.
   pub refuses : (r : Run) (output : List ℕ) (a : Answer) → (a ≡ answer.Damaged → ⊥)
       → Exactly (sheetOf r output .answer ≡ Refused a) (SheetRefuses r output a)
-  pub writes : (r : Run) (output : List ℕ) → Exactly (sheetOf r output ≡ filled output (sheetBytes r)) (Writable r output)
+  pub writes : (r : Run) (output : List ℕ) → Exactly (sheetOf r output ≡ filled output (sheetRecords r)) (Writable r output)
   -- "a refused opening leaves the lent buffers zero, a refused move or sheet leaves them unchanged."
   pub cleared : (s : Sizes) (file : List ℕ) (workers : ℕ) (why : Refusal) → openingOf s file workers .answer ≡ verdict.Refused why
       → Cleared s (openingOf s file workers .run)

@@ -15,7 +15,7 @@ use Rattle.machine.specs.Waits.{countedWaits}
 use Rattle.machine.specs.Moves.{localOf, beginOf, moveOf, answersOf}
 use Rattle.machine.specs.ByRow.{beginByRow}
 use Rattle.machine.specs.declared.Answer.the-variants.{Accepted, CallUnfinished}
-use Rattle.sheet.specs.Sheet.{sheetBytes, unwritten, written, sheetOf}
+use Rattle.sheet.specs.Sheet.{sheetRecords, unwritten, written, sheetOf}
 use Rattle.guarantees.specs.BlockTally.{isBefore, stepsIn, tallyAfter, tallyAnswers}
 use Rattle.guarantees.specs.Agreement.{stateNumber, seatNumber, openedIn, runAfterMoves, stepsSince, mayWrite, serialRunOfFile, finishedAlone, serialPointAfter, SameSheet}
 use Rattle.analysis.specs.LayoutOfBlock.{callCount}
@@ -48,7 +48,7 @@ pub record Closes (s : Sizes) (file : List ℕ) (workers : ℕ) (ms : List Move)
   pub receipts : (call : ℕ) → call < callCount file → SameReceipt (runAfterMoves s file workers ms) (serialRunOfFile s file workers) call
   pub sheet : SameSheet (runAfterMoves s file workers ms) (serialRunOfFile s file workers)
   -- It is written, or, where the output is too short, refused by 28: "20 .. (none after an opening and moves alone ..)".
-  pub written : (output : List ℕ) → sheetOf (runAfterMoves s file workers ms) output ≡ written output (sheetBytes (serialRunOfFile s file workers))
+  pub written : (output : List ℕ) → sheetOf (runAfterMoves s file workers ms) output ≡ written output (sheetRecords (serialRunOfFile s file workers))
 
 -- What holds "after every list of begin, step and cancel moves from that opening, refused ones included, in whatever order".
 pub record Demand3 (s : Sizes) (file : List ℕ) (workers : ℕ) (ms : List Move) : Type 0 where

@@ -11,7 +11,7 @@ use Rattle.machine.specs.Opening.{openedForEight}
 use Rattle.machine.specs.Moves.{beginOf, stepOf}
 use Rattle.console.specs.Register.{registerOf}
 use Rattle.console.specs.Computing as console
-use Rattle.block.specs.Assemble.{text, joinedParts}
+use Rattle.block.specs.Assemble.{text}
 use Rattle.block.specs.Worked.{P}
 use Rattle.console.specs.Examples.{movesP, printedP}
 use Rattle.guarantees.specs.Blocks.{divisionsBlock, divisionMoves, divisionText, valueCall, putThenThrow}
@@ -40,7 +40,7 @@ pub record Starred : Type 0 where
   pub thrown : registerOf putThenThrow (text "b 0 0\ns 0\ns 0\ns 0\n") ≡ text "k 32768 1 0 0 9\nt 0 3 2\n"
 
 pub starred : Starred
-unfolding console.computing text joinedParts P movesP printedP divisionsBlock divisionMoves divisionText valueCall putThenThrow
+unfolding console.computing text P movesP printedP divisionsBlock divisionMoves divisionText valueCall putThenThrow
 starred =
     record {
       row-1-0 = refl;

@@ -3,7 +3,7 @@ use mathlib.Core.Path.{_≡_, refl}
 use mathlib.Core.List.{List, [], _∷_, map}
 use Prim.Native.Nat.{ℕ}
 use lib.IntN.{ℤ, pos}
-use Rattle.block.specs.Assemble.{text, joinedParts}
+use Rattle.block.specs.Assemble.{text}
 use Rattle.block.specs.Key.{balanceOf0}
 use Rattle.block.specs.Reader.{readBlock}
 use Rattle.block.specs.Worked.{account0}
@@ -31,5 +31,5 @@ pub record OnAccount0 : Type 0 where
   pub rule-left : leftIn0 (ruleOn account0 (readBlock account0)) ≡ pos 5 ∷ pos 5 ∷ pos 5 ∷ pos 5 ∷ pos 5 ∷ pos 5 ∷ pos 2 ∷ pos 2 ∷ pos 2 ∷ []
 
 pub onAccount0 : OnAccount0
-unfolding console.computing text joinedParts account0 moves0 printed0 leftIn0 ruleOn ruleReceipts transactions update assignChecked transfer execute executeAt runBody withInstr bodyOf settle runFunction transactionBy
+unfolding console.computing text account0 moves0 printed0 leftIn0 ruleOn ruleReceipts transactions update assignChecked transfer execute executeAt runBody withInstr bodyOf settle runFunction transactionBy
 onAccount0 = record { printed = refl; rule-receipts = refl; rule-left = refl }

@@ -1,7 +1,7 @@
 -- Document 01's unstarred examples and the rows of its 'Plausible errors', computed from the definitions.
 use mathlib.Core.Path.{_≡_, refl}
 use mathlib.Core.Bool.{true, false}
-use mathlib.Core.List.{List, [], _∷_}
+use mathlib.Core.List.{List, [], _∷_, flatten}
 use Prim.Native.Nat.{ℕ}
 use lib.IntN.{pos, negsuc}
 use Rattle.arith.specs.Exact.{divOf}
@@ -14,12 +14,12 @@ use Rattle.sheet.specs.Sheet.{sheetBytes}
 use Rattle.machine.specs.Run.{fixedSizes}
 use Rattle.console.specs.Register.{registerOf}
 use Rattle.console.specs.Computing as console
-use Rattle.block.specs.Assemble.{text, joinedParts, SET, PUT, THROW, function, cell, call, end}
+use Rattle.block.specs.Assemble.{text, SET, PUT, THROW, function, cell, call, end}
 use Rattle.block.specs.Worked.{P}
 use Rattle.guarantees.specs.Joint.{waits}
 
 unfoldable pub noCalls : List ℕ
-noCalls = joinedParts (cell 5 0 0 0 (pos 2) ∷ cell 32768 0 0 0 (pos 1) ∷ cell 32768 1 0 7 (negsuc 4) ∷ end ∷ [])
+noCalls = flatten (cell 5 0 0 0 (pos 2) ∷ cell 32768 0 0 0 (pos 1) ∷ cell 32768 1 0 7 (negsuc 4) ∷ end ∷ [])
 
 pub record Unstarred : Type 0 where
   -- "24 keys accepted, 25 refused 11"
@@ -31,13 +31,13 @@ pub record Unstarred : Type 0 where
   pub no-calls : sheetBytes (openedForEight noCalls) ≡ noCalls
 
 pub unstarred : Unstarred
-unfolding console.computing text joinedParts gets keysBlock noCalls
+unfolding console.computing text gets keysBlock noCalls
 unstarred = record { keys-24 = refl; keys-25 = refl; no-code = refl; no-calls = refl }
 
 -- Two calls that store 3 and 4 in cells of their own and then throw.
 unfoldable pub twoAborts : List ℕ
 twoAborts =
-    joinedParts
+    flatten
     (function 32768 0 (SET 0 (pos 3) ∷ PUT 0 1 0 ∷ THROW ∷ [])
     ∷ function 32768 1 (SET 0 (pos 4) ∷ PUT 0 2 0 ∷ THROW ∷ [])
     ∷ cell 32768 1 0 0 (pos 8)
@@ -61,7 +61,7 @@ pub record PlausibleErrors : Type 0 where
   pub division-6 : divOf (negsuc 6) (pos 0) ≡ ZeroDivisor
 
 pub plausibleErrors : PlausibleErrors
-unfolding console.computing text joinedParts P twoAborts
+unfolding console.computing text P twoAborts
 plausibleErrors =
     record {
       write-sets-only = refl;

@@ -4,7 +4,7 @@ use mathlib.Core.List.{List, [], _∷_, map}
 use Prim.Native.Nat.{ℕ}
 use lib.ListN.{length, set, take}
 use Rattle.wire.specs.Bytes.{repeated, below}
-use Rattle.block.specs.Assemble.{text, joinedParts}
+use Rattle.block.specs.Assemble.{text}
 use Rattle.block.specs.Worked.{P}
 use Rattle.machine.specs.Run.{fixedSizes}
 use Rattle.machine.specs.Moves.{beginOf, stepOf, cancelOf}
@@ -73,7 +73,7 @@ pub record Exported : Type 0 where
   pub sizes : map sizeOf (below 10) ≡ 12 ∷ 8192 ∷ 2048 ∷ 1024 ∷ 1024 ∷ 128 ∷ 256 ∷ 26628 ∷ 65536 ∷ 0 ∷ []
 
 pub exported : Exported
-unfolding computing text joinedParts P openedP startP begunP damagedP ranP
+unfolding computing text P openedP startP begunP damagedP ranP
 exported =
     record {
       opened = refl;

@@ -238,7 +238,7 @@ pub extern "C" fn zumbiqa_serial_run(
     answer_number(answer)
 }
 
-// The closing sheet: 0, or the number of its refusal. The length is that of the written sheet.
+// The closing sheet: 0, or the number of its refusal. The length is that of the written sheet, the offset behind its last record.
 #[no_mangle]
 pub extern "C" fn zumbiqa_sheet(
     head: &[u64],

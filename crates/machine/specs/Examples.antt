@@ -1,12 +1,12 @@
 -- The answers 20 to 26 of the three moves, computed on block P's run and on damaged ones.
 use mathlib.Core.Path.{_≡_, refl}
-use mathlib.Core.List.{List, [], _∷_, _++_, map}
+use mathlib.Core.List.{List, [], _∷_, _++_, map, flatten}
 use Prim.Native.Nat.{ℕ, _+_, _-_, _^_}
 use lib.IntN.{pos, negsuc}
 use lib.ListN.{take, set}
 use Rattle.wire.specs.Bytes.{below}
 use Rattle.schedule.specs.declared.Move.the-variants.{Begin, Step, Cancel}
-use Rattle.block.specs.Assemble.{text, joinedParts, STOP, THROW, SET, PUT, function, cell, call, end}
+use Rattle.block.specs.Assemble.{text, STOP, THROW, SET, PUT, function, cell, call, end}
 use Rattle.block.specs.Worked.{P, account0}
 use Rattle.machine.specs.Answer.{answerNumber}
 use Rattle.machine.specs.Run.{Run, statusWord, outcomeWord, countWord, waitCount}
@@ -50,7 +50,7 @@ atPay = runAfter P one (Begin 0 1 ∷ Step 0 ∷ Step 0 ∷ Step 0 ∷ Step 0 �
 -- A call before the THROW behind its PUT, and one that waits for it.
 unfoldable pub thrower : List ℕ
 thrower =
-    joinedParts
+    flatten
     (function 32768 0 (PUT 0 1 0 ∷ THROW ∷ []) ∷ cell 32768 1 0 0 (pos 9) ∷ call 5 32768 0 (pos 0) ∷ call 5 32768 0 (pos 0) ∷ end ∷ [])
 
 unfoldable pub atThrow : Run
@@ -59,7 +59,7 @@ atThrow = runAfter thrower (openedForEight thrower) (Begin 0 0 ∷ Step 0 ∷ St
 -- Calls that end by STOP, behind an instruction, by THROW and in a code of none; of an unknown function; and of an account without the value.
 unfoldable pub endings : List ℕ
 endings =
-    joinedParts
+    flatten
     (function 32768 0 (STOP ∷ [])
     ∷ function 32768 1 (SET 0 (pos 1) ∷ [])
     ∷ function 32768 2 (THROW ∷ [])
@@ -96,7 +96,7 @@ pub record Moves-P : Type 0 where
   pub stepped : map (serialSteps endings (openedForEight endings)) (0 ∷ 1 ∷ 2 ∷ 3 ∷ 4 ∷ 5 ∷ []) ≡ 2 ∷ 3 ∷ 2 ∷ 2 ∷ 1 ∷ 1 ∷ []
 
 pub moves-of-p : Moves-P
-unfolding computing text joinedParts P thrower endings startP begunP atPut atThrow
+unfolding computing text P thrower endings startP begunP atPut atThrow
 moves-of-p = record { answered = refl; cancelled = refl; restored-head = refl; restored-cells = refl; restored-status = refl; left-seat = refl; left-frame = refl; thrown = refl; receipt = refl; stepped = refl }
 
 pub record Damaged : Type 0 where
@@ -130,7 +130,7 @@ pub record Damaged : Type 0 where
   pub cancel-entries : cancels (planAt 2 25 begunP ∷ planAt 3 0 begunP ∷ planAt 3 4098 begunP ∷ frameAt 8 (negsuc 4) begunP ∷ []) ≡ 20 ∷ 20 ∷ 20 ∷ 0 ∷ []
 
 pub damaged : Damaged
-unfolding computing text joinedParts P thrower startP begunP atPut atEnd one second atPay atThrow tooShort
+unfolding computing text P thrower startP begunP atPut atEnd one second atPay atThrow tooShort
 damaged =
     record {
       begin-sizes = refl;
@@ -187,7 +187,7 @@ pub record Carried : Type 0 where
   pub onward-unread : steps P (statusAt 7 0 atPut ∷ statusAt 3 9 atPut ∷ []) ++ cancels (statusAt 7 0 atEnd ∷ statusAt 3 9 atEnd ∷ []) ≡ 0 ∷ 0 ∷ 0 ∷ 0 ∷ []
 
 pub carried-counts : Carried
-unfolding computing text joinedParts P thrower startP begunP atPut atEnd one second second′ atPay atThrow
+unfolding computing text P thrower startP begunP atPut atEnd one second second′ atPay atThrow
 carried-counts =
     record {
       opened = refl;
@@ -244,7 +244,7 @@ pub record Account0 : Type 0 where
   pub sent : take 6 (before7 .cells) ++ take 6 (runAfter account0 before7 (Step 0 ∷ []) .cells) ≡ pos 3 ∷ pos 0 ∷ pos 0 ∷ pos 9 ∷ pos 11 ∷ pos 1 ∷ pos 5 ∷ pos 0 ∷ pos 0 ∷ pos 9 ∷ pos 9 ∷ pos 0 ∷ []
 
 pub payments-to-0 : Account0
-unfolding computing text joinedParts account0 start0 closed0 before0 before7
+unfolding computing text account0 start0 closed0 before0 before7
 payments-to-0 =
     record {
       outcomes = refl;

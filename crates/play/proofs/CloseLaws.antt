@@ -1,13 +1,13 @@
 -- How long the text of a close can be: a line for each cell and each receipt.
-use mathlib.Core.Path.{_≡_, refl, sym, ap, subst, _∙_}
+use mathlib.Core.Path.{_≡_, refl, sym, ap, ap₂, subst, subst⁻¹, _∙_}
 use mathlib.Core.Bool.{Bool, true, false, _||_, not}
-use mathlib.Core.List.{List, [], _∷_, _++_, append-assoc}
+use mathlib.Core.List.{List, [], _∷_, _++_, append-assoc, flatten}
 use Prim.Native.Nat.{ℕ, zero, suc, _+_, _*_, _/_, _^_, _≤_, _<_}
 use native.Mathlib.Omega.{arith}
 use lib.Dec.{eqb, ltb}
 use lib.IntN.{ℤ}
 use lib.ListN.{length, getD, drop, length-append}
-use lib.Seq.{drop-append-seam, take-append-seam}
+use lib.Seq.{drop-append-seam}
 use borrow.Author.Tests.{ltb-false}
 use Rattle.block.proofs.ContentsLaws.{head-length, head-kind, head-behind}
 use Rattle.text.proofs.TextSizes.{line-fits}
@@ -15,7 +15,7 @@ use Rattle.arith.specs.Choice.{if_then_else_}
 use Rattle.arith.proofs.ChoiceLaws.{if-all, neither}
 use Rattle.arith.specs.Exact.{unsigned}
 use Rattle.wire.specs.Bytes.{number, readLe, bytesOf, repeated}
-use Rattle.wire.proofs.BytesLaws.{stored-inside, read-first, bytesOf-lt}
+use Rattle.wire.proofs.BytesLaws.{read-first, bytesOf-lt}
 use Rattle.block.specs.Limits.{maxCalls, maxKeys}
 use Rattle.block.specs.Record.{recordOf, headBytes, cellBytes, receiptBytes, cellKind, receiptKind, endKind}
 use Rattle.machine.specs.Run.{Run, sizesOf, largeEnough, statusWord}
@@ -23,7 +23,8 @@ use Rattle.machine.specs.Step.{cellAt}
 use Rattle.machine.specs.Answer.{answerNumber}
 use Rattle.machine.specs.declared.Answer.{Answer}
 use Rattle.text.specs.Lines.{refusedText}
-use Rattle.sheet.specs.Sheet.{Closed, keyHigh, keyLow, keyBytes, cellRecords, receiptRecords, sheetBytes, statesAllowed, allFinished, balancesAllowed, receiptsAllowed, unwritten, writtenIf, sheetOf, maxSheet}
+use Rattle.sheet.specs.Sheet.{Closed, keyHigh, keyLow, keyBytes, cellRecords, receiptRecords, sheetRecords, sheetBytes, statesAllowed, allFinished, balancesAllowed, receiptsAllowed, unwritten, writtenIf, sheetOf, maxSheet}
+use Rattle.sheet.proofs.RecordLists.{joined-one, joined-append, front-whole}
 use Rattle.console.specs.Text.{cellLine, receiptLine, recordsText, sheetText}
 use Rattle.console.specs.Register.{closingText, closeRun}
 use Rattle.play.specs.Printed.{maxRecordText, maxCloseText}
@@ -116,20 +117,20 @@ cell-lt high low bits =
     both-lt (keyBytes high low) (bytesOf 8 bits) key (bytesOf-lt 8 bits)
 
 module _ (status : List ℕ) where
-  receipts-text : (left c turns call : ℕ) → length (recordsText turns call (receiptRecords status left c ++ recordOf endKind [])) ≤ maxRecordText * left
-  unfolding receiptRecords
+  receipts-text : (left c turns call : ℕ) → length (recordsText turns call (flatten (receiptRecords status left c) ++ recordOf endKind [])) ≤ maxRecordText * left
+  unfolding receiptRecords flatten
   receipts-text zero c turns call = end-none turns call
   receipts-text (suc left) c turns call =
       let body : List ℕ = bytesOf 2 (statusWord status c 1) ++ bytesOf 2 (statusWord status c 2) in
-      let more : List ℕ = receiptRecords status left (c + 1) in
+      let more : List ℕ = flatten (receiptRecords status left (c + 1)) in
       let bound : length (recordsText turns call (recordOf receiptKind body ++ (more ++ recordOf endKind []))) ≤ maxRecordText + maxRecordText * left =
       receipt-front turns call body (more ++ recordOf endKind []) (maxRecordText * left) (receipt-size (statusWord status c 1) (statusWord status c 2)) (receipt-lt (statusWord status c 1) (statusWord status c 2)) (λ t. receipts-text left (c + 1) t (call + 1)) in
       rw (append-assoc (recordOf receiptKind body) more (recordOf endKind [])) (omega arith)
 
 module _ (keys : List ℕ) (cells : List ℤ) (rest : List ℕ) (n : ℕ) where
   cells-text : (left at turns call : ℕ) → ((t : ℕ) → length (recordsText t call rest) ≤ n)
-      → length (recordsText turns call (cellRecords keys cells left at ++ rest)) ≤ maxRecordText * left + n
-  unfolding cellRecords
+      → length (recordsText turns call (flatten (cellRecords keys cells left at) ++ rest)) ≤ maxRecordText * left + n
+  unfolding cellRecords flatten
   cells-text zero at turns call small = omega (arith, small turns)
   cells-text (suc left) at turns call small = go (eqb bits 0) (λ t. cells-text left (at + 1) t call small)
     where
@@ -139,11 +140,14 @@ module _ (keys : List ℕ) (cells : List ℤ) (rest : List ℕ) (n : ℕ) where
       own : List ℕ
       own = recordOf cellKind (keyBytes (keyHigh keys at) (keyLow keys at) ++ bytesOf 8 bits)
 
+      later : List (List ℕ)
+      later = cellRecords keys cells left (at + 1)
+
       more : List ℕ
-      more = cellRecords keys cells left (at + 1)
+      more = flatten later
 
       go : (zero-cell : Bool) → ((t : ℕ) → length (recordsText t call (more ++ rest)) ≤ maxRecordText * left + n)
-          → length (recordsText turns call (((if zero-cell then [] else own) ++ more) ++ rest)) ≤ maxRecordText * suc left + n
+          → length (recordsText turns call (flatten ((if zero-cell then [] else (own ∷ [])) ++ later) ++ rest)) ≤ maxRecordText * suc left + n
       go true ih = omega (arith, ih turns)
       go false ih =
           let bound : length (recordsText turns call (own ++ (more ++ rest))) ≤ maxRecordText + (maxRecordText * left + n) =
@@ -152,15 +156,19 @@ module _ (keys : List ℕ) (cells : List ℤ) (rest : List ℕ) (n : ℕ) where
           rw (append-assoc own more rest) (omega (arith, bound))
 
 sheet-short : (r : Run) → r .head .calls ≤ maxCalls → r .head .cells ≤ maxKeys → length (sheetText (sheetBytes r)) ≤ maxCloseText
-unfolding sheetBytes
+unfolding sheetRecords
 sheet-short r calls cells =
-    let first : List ℕ = cellRecords (r .keys) (r .cells) (r .head .cells) 0 in
-    let second : List ℕ = receiptRecords (r .status) (r .head .calls) 0 in
+    let cs : List (List ℕ) = cellRecords (r .keys) (r .cells) (r .head .cells) 0 in
+    let rs : List (List ℕ) = receiptRecords (r .status) (r .head .calls) 0 in
+    let first : List ℕ = flatten cs in
+    let second : List ℕ = flatten rs in
     let end : List ℕ = recordOf endKind [] in
-    let bound : length (recordsText (length ((first ++ second) ++ end)) 0 (first ++ (second ++ end))) ≤ maxRecordText * r .head .cells + maxRecordText * r .head .calls =
-    cells-text (r .keys) (r .cells) (second ++ end) (maxRecordText * r .head .calls) (r .head .cells) 0 (length ((first ++ second) ++ end)) 0
+    let parts : sheetBytes r ≡ first ++ (second ++ end) =
+    joined-append (cs ++ rs) (end ∷ []) ∙ ap₂ (λ (s t : List ℕ). s ++ t) (joined-append cs rs) (joined-one end) ∙ append-assoc first second end in
+    let bound : length (recordsText (length (first ++ (second ++ end))) 0 (first ++ (second ++ end))) ≤ maxRecordText * r .head .cells + maxRecordText * r .head .calls =
+    cells-text (r .keys) (r .cells) (second ++ end) (maxRecordText * r .head .calls) (r .head .cells) 0 (length (first ++ (second ++ end))) 0
     (λ t. receipts-text (r .status) (r .head .calls) 0 t 0) in
-    rw (append-assoc first second end) (omega (arith, rw (append-assoc first second end) at bound))
+    subst⁻¹ (λ (s : List ℕ). length (sheetText s) ≤ maxCloseText) parts (omega (arith, bound))
 
 -- ---- the close
 
@@ -175,15 +183,11 @@ none-short : (out : List ℕ) (a : Answer) → Short (unwritten out a)
 unfolding closingText
 none-short out a = refused-short 0 (answerNumber a)
 
-written-short : (receipts : Bool) (out bytes : List ℕ) → length (sheetText bytes) ≤ maxCloseText → Short (writtenIf receipts out bytes)
+written-short : (receipts : Bool) (out : List ℕ) (rs : List (List ℕ)) → length (sheetText (flatten rs)) ≤ maxCloseText → Short (writtenIf receipts out rs)
 unfolding writtenIf closingText
-written-short receipts out bytes short =
-    if-all Short (ltb (length out) (length bytes)) (λ e. none-short out _) (λ e.
-    if-all Short receipts
-    (λ f.
-    let fits : 0 + length bytes ≤ length out = omega (arith, ltb-false (length out) (length bytes) e) in
-    rw (stored-inside bytes out 0 fits, take-append-seam bytes (drop (0 + length bytes) out)) short)
-    (λ f. none-short out _))
+written-short receipts out rs short =
+    if-all Short (ltb (length out) (length (flatten rs))) (λ e. none-short out _) (λ e.
+    if-all Short receipts (λ f. rw (front-whole rs out (ltb-false (length out) (length (flatten rs)) e)) short) (λ f. none-short out _))
 
 pub close-short : (r : Run) → length (closeRun r) ≤ maxCloseText
 unfolding sheetOf
@@ -194,5 +198,5 @@ close-short r =
     if-all Short (not (allFinished (r .status) (r .head .calls))) (λ e. none-short out _) (λ e.
     if-all Short (ltb maxKeys (r .head .cells)) (λ e. none-short out _) (λ keys.
     if-all Short (not (balancesAllowed (r .keys) (r .cells) (r .head .cells))) (λ e. none-short out _) (λ e.
-    written-short (receiptsAllowed (r .status) (r .head .calls)) out (sheetBytes r)
+    written-short (receiptsAllowed (r .status) (r .head .calls)) out (sheetRecords r)
     (sheet-short r (ltb-false _ _ (neither (not (largeEnough (sizesOf r))) (ltb maxCalls (r .head .calls)) few .1)) (ltb-false _ _ keys)))))))

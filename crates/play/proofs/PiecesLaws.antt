@@ -1,12 +1,11 @@
 -- The texts of an input's pieces are what REGISTER prints of the whole, however the input is cut.
 use mathlib.Core.Path.{_≡_, refl, sym, ap, _∙_}
 use mathlib.Core.Bool.{Bool}
-use mathlib.Core.List.{List, [], _∷_, _++_, append-assoc, append-nil}
+use mathlib.Core.List.{List, [], _∷_, _++_, append-assoc, append-nil, flatten}
 use Prim.Native.Nat.{ℕ}
 use lib.Seq.{take-all}
 use Rattle.arith.specs.Choice.{if_then_else_}
 use Rattle.arith.proofs.ChoiceLaws.{by-test}
-use Rattle.block.specs.Assemble.{joinedParts}
 use Rattle.block.specs.Limits.{maxWorkers}
 use Rattle.machine.specs.Run.{Run, fixedSizes}
 use Rattle.machine.specs.Opening.{openingOf}
@@ -53,15 +52,15 @@ abbrev whole : List ℕ → Session → List ℕ → List ℕ
 whole block s xs = printed (playEnd block (playBytes block s xs))
 
 pieces-whole : (block text : List ℕ) (number : ℕ) (line : Line) (run : Run) (ps : List (List ℕ))
-    → whole block (said text number line run) (joinedParts ps) ≡ text ++ piecesText block number line run ps
-unfolding joinedParts playBytes piecesText
+    → whole block (said text number line run) (flatten ps) ≡ text ++ piecesText block number line run ps
+unfolding flatten playBytes piecesText
 pieces-whole block text number line run [] =
     let e : Session = playEnd block (freshSession number line run) in
     ap printed (end-said block text number line run) ∙ append-assoc text (e .output) (closeRun (e .run))
 pieces-whole block text number line run (p ∷ ps) =
     let t : Session = playBytes block (freshSession number line run) p in
-    ap (λ (s : Session). printed (playEnd block s)) (chunks block (said text number line run) p (joinedParts ps))
-    ∙ ap (λ (s : Session). whole block s (joinedParts ps)) (bytes-said block text number line run p)
+    ap (λ (s : Session). printed (playEnd block s)) (chunks block (said text number line run) p (flatten ps))
+    ∙ ap (λ (s : Session). whole block s (flatten ps)) (bytes-said block text number line run p)
     ∙ pieces-whole block (text ++ t .output) (t .number) (t .line) (t .run) ps
     ∙ append-assoc text (t .output) (piecesText block (t .number) (t .line) (t .run) ps)
 
@@ -69,6 +68,6 @@ pub register-in-pieces : RegisterInPieces
 unfolding registerOf registerOpened playInput
 register-in-pieces file ps short accepted =
     let run : Run = openingOf fixedSizes file maxWorkers .run in
-    ap (registerOpened file (joinedParts ps) run) accepted
-    ∙ ap (whole file (freshSession 1 Empty run)) (take-all maxInput (joinedParts ps) short)
+    ap (registerOpened file (flatten ps) run) accepted
+    ∙ ap (whole file (freshSession 1 Empty run)) (take-all maxInput (flatten ps) short)
     ∙ pieces-whole file [] 1 Empty run ps

@@ -1,10 +1,9 @@
 -- REGISTER on an input that comes in pieces: the texts that the pieces make, one after another, then those of the input's end and of the
 -- sheet. Each is what `play_chunk`, `play_end`, `sheet` and `sheet_text` store.
 use mathlib.Core.Path.{_≡_}
-use mathlib.Core.List.{List, [], _∷_, _++_}
+use mathlib.Core.List.{List, [], _∷_, _++_, flatten}
 use Prim.Native.Nat.{ℕ, _≤_}
 use lib.ListN.{length}
-use Rattle.block.specs.Assemble.{joinedParts}
 use Rattle.block.specs.Limits.{maxWorkers}
 use Rattle.block.specs.declared.Verdict.the-variants as verdict
 use Rattle.machine.specs.Run.{Run, fixedSizes}
@@ -27,5 +26,5 @@ piecesText block number line run (p ∷ ps) =
 -- However the input is cut, the texts of its pieces are what REGISTER prints of the whole.
 abbrev pub RegisterInPieces : Type 0
 RegisterInPieces =
-    (file : List ℕ) (ps : List (List ℕ)) → length (joinedParts ps) ≤ maxInput → openingOf fixedSizes file maxWorkers .answer ≡ verdict.Accepted
-    → registerOf file (joinedParts ps) ≡ piecesText file 1 Empty (openingOf fixedSizes file maxWorkers .run) ps
+    (file : List ℕ) (ps : List (List ℕ)) → length (flatten ps) ≤ maxInput → openingOf fixedSizes file maxWorkers .answer ≡ verdict.Accepted
+    → registerOf file (flatten ps) ≡ piecesText file 1 Empty (openingOf fixedSizes file maxWorkers .run) ps

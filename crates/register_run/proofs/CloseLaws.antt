@@ -18,9 +18,10 @@ use Rattle.wire.specs.Decimal.{decimal, textLine}
 use Rattle.machine.specs.Run.{Run, sizesOf, largeEnough}
 use Rattle.machine.specs.Answer.{answerNumber}
 use Rattle.machine.specs.declared.Answer.{Answer}
-use Rattle.sheet.specs.Sheet.{Closed, sheetBytes, statesAllowed, allFinished, balancesAllowed, receiptsAllowed, writtenIf, sheetOf, maxSheet}
+use Rattle.sheet.specs.Sheet.{Closed, sheetRecords, sheetBytes, statesAllowed, allFinished, balancesAllowed, receiptsAllowed, writtenIf, sheetOf, maxSheet}
 use Rattle.sheet.specs.declared.Closing.{Closing}
 use Rattle.sheet.specs.declared.Closing.the-variants as closing
+use Rattle.sheet.proofs.RecordLists.{behind-whole}
 use Rattle.console.specs.Register.{closingText}
 use Rattle.console.specs.SheetBytes.{closingBytes}
 use Rattle.console.specs.Text.{sheetText}
@@ -74,7 +75,7 @@ sheet-fits r out =
     if-all (Fitting out) (ltb maxKeys (r .head .cells)) (λ e. tt) (λ e.
     if-all (Fitting out) (not (balancesAllowed (r .keys) (r .cells) (r .head .cells))) (λ e. tt) (λ e.
     if-all (Fitting out) (ltb (length out) (length (sheetBytes r))) (λ e. tt) (λ e.
-    if-all (Fitting out) (receiptsAllowed (r .status) (r .head .calls)) (λ f. ltb-false _ _ e) (λ f. tt)))))))
+    if-all (Fitting out) (receiptsAllowed (r .status) (r .head .calls)) (λ f. omega (arith, behind-whole (sheetRecords r), ltb-false (length out) (length (sheetBytes r)) e)) (λ f. tt)))))))
 
 module _ (r : Run) (bytes out : List ℕ) where
   abbrev Made : Closing → Type 0

@@ -1,14 +1,13 @@
 -- The input in pieces, with what is handed over of it, and the whole of a run, over plain variables and for both outputs.
 use mathlib.Core.Path.{_≡_, refl, sym, ap, subst, _∙_}
 use mathlib.Core.Bool.{Bool, true, false, true≢false, false≢true}
-use mathlib.Core.List.{List, [], _∷_, _++_, append-nil}
+use mathlib.Core.List.{List, [], _∷_, _++_, append-nil, flatten}
 use Prim.Native.Nat.{ℕ, zero, suc, _+_, _*_, _≤_, _<_}
 use native.Mathlib.Nat.{add-zero, zero-add}
 use native.Mathlib.Omega.{arith}
 use lib.ListN.{length, take, length-append}
 use lib.Seq.{length-take-le, take-all}
 use Rattle.wire.specs.Bytes.{stored}
-use Rattle.block.specs.Assemble.{joinedParts}
 use Rattle.block.specs.Limits.{maxBytes, maxWorkers}
 use Rattle.block.specs.Refusal.{numberOf, offsetOf, isAccepted}
 use Rattle.block.specs.declared.Refusal.{Refusal}
@@ -263,7 +262,7 @@ module _ {output : Output} {block : List ℕ} {run left : Run} {x y : Exchange} 
 -- What is printed of an accepted block, and of a refused one.
 opened-is : (output : Output) (block input : List ℕ) → length input ≤ maxInput → openingOf fixedSizes block maxWorkers .answer ≡ verdict.Accepted
     → printedOf output block input ≡ printedOpened output block (openingOf fixedSizes block maxWorkers .run) input
-unfolding printedOf printedLines printedClose joinedParts piecesText writtenSheet sheetOpened playInput
+unfolding printedOf printedLines printedClose flatten piecesText writtenSheet sheetOpened playInput
 opened-is Text block input short accepted =
     ap (registerOf block) (sym (append-nil input))
     ∙ register-in-pieces block (input ∷ []) (subst (λ (l : List ℕ). length l ≤ maxInput) (sym (append-nil input)) short) accepted

@@ -1,31 +1,33 @@
 -- The sheet's answers 20, 27 and 28, and its bytes, computed on block P's run.
 use mathlib.Core.Path.{_≡_, refl}
-use mathlib.Core.List.{List, [], _∷_, _++_, map}
-use Prim.Native.Nat.{ℕ}
+use mathlib.Core.List.{List, [], _∷_, _++_, map, flatten}
+use Prim.Native.Nat.{ℕ, _+_}
 use lib.IntN.{pos, negsuc}
-use Rattle.wire.specs.Bytes.{repeated}
+use Rattle.wire.specs.Bytes.{repeated, below}
 use Rattle.block.specs.Record.{recordOf}
-use Rattle.block.specs.Assemble.{joinedParts, cell, end}
+use Rattle.block.specs.Assemble.{cell, end}
 use Rattle.block.specs.Worked.{P}
 use Rattle.machine.specs.Run.{Run}
 use Rattle.machine.specs.Opening.{openedForEight}
 use Rattle.machine.specs.Serial.{serialRun}
 use Rattle.machine.specs.Damage.{tooShort, valueAt, statusAt, callsAs, cellsAs, workersAs}
-use Rattle.sheet.specs.Sheet.{closingNumber, sheetOf, sheetBytes, nextFile}
+use Rattle.sheet.specs.Sheet.{closingNumber, closingLength, sheetOf, sheetRecords, sheetBytes, recordOffset, nextFile}
 use Rattle.sheet.specs.Computing.{computing}
 
 -- Block P with all its calls finished, and its sheet: three cells, three receipts and the end, of 100 bytes.
 unfoldable pub closed : Run
 closed = serialRun P (openedForEight P)
 
-unfoldable pub sheetP : List ℕ
-sheetP =
-    joinedParts
-    (cell 7 0 0 0 (pos 1)
+unfoldable pub recordsP : List (List ℕ)
+recordsP =
+    cell 7 0 0 0 (pos 1)
     ∷ cell 32768 0 0 0 (pos 1)
     ∷ cell 32768 1 0 0 (pos 1)
     ∷ recordOf 5 (0 ∷ 0 ∷ 2 ∷ 0 ∷ [])
-    ∷ recordOf 5 (0 ∷ 0 ∷ 3 ∷ 0 ∷ []) ∷ recordOf 5 (0 ∷ 0 ∷ 2 ∷ 0 ∷ []) ∷ end ∷ [])
+    ∷ recordOf 5 (0 ∷ 0 ∷ 3 ∷ 0 ∷ []) ∷ recordOf 5 (0 ∷ 0 ∷ 2 ∷ 0 ∷ []) ∷ end ∷ []
+
+unfoldable pub sheetP : List ℕ
+sheetP = flatten recordsP
 
 -- The answers to several runs, with room for the sheet, and with one byte too few.
 abbrev closings : List Run → List ℕ
@@ -34,8 +36,25 @@ closings rs = map (λ r. closingNumber (sheetOf r (repeated 100 0) .answer)) rs
 abbrev shortClosings : List Run → List ℕ
 shortClosings rs = map (λ r. closingNumber (sheetOf r (repeated 99 0) .answer)) rs
 
+-- The offsets of the first n records of a run's sheet, and behind them.
+abbrev offsets : Run → (n : ℕ) → List ℕ
+offsets r n = map (recordOffset (sheetRecords r)) (below (n + 1))
+
+-- What a sheet with room for it answers.
+abbrev answered : Run → ℕ
+answered r = closingLength (sheetOf r (repeated 102 7) .answer)
+
 pub record Sheet-P : Type 0 where
+  pub records : sheetRecords closed ≡ recordsP
   pub bytes : sheetBytes closed ≡ sheetP
+  -- Each record's offset, and the answer, which is the one behind the last. Account 5's cell, the first of the table, is zero: it has neither a
+  -- record nor a place. With a cell of the middle zero the records behind it stand 24 bytes earlier; with none left the receipts are in front.
+  pub offsets-of : offsets closed 7 ≡ 0 ∷ 24 ∷ 48 ∷ 72 ∷ 80 ∷ 88 ∷ 96 ∷ 100 ∷ []
+  pub answer-of : answered closed ≡ 100
+  pub zero-between : offsets (valueAt 2 (pos 0) closed) 6 ≡ 0 ∷ 24 ∷ 48 ∷ 56 ∷ 64 ∷ 72 ∷ 76 ∷ []
+  pub receipts-first : offsets (cellsAs 0 closed) 4 ≡ 0 ∷ 8 ∷ 16 ∷ 24 ∷ 28 ∷ []
+  pub end-alone : offsets (callsAs 0 (cellsAs 0 closed)) 1 ≡ 0 ∷ 4 ∷ []
+  pub other-answers : map answered (valueAt 2 (pos 0) closed ∷ cellsAs 0 closed ∷ callsAs 0 (cellsAs 0 closed) ∷ []) ≡ 76 ∷ 28 ∷ 4 ∷ []
   -- The next day opens from its cells, in which account 5 has none left.
   pub next-day : sheetBytes (openedForEight (nextFile closed [] [])) ≡ nextFile closed [] []
   -- 28 with one byte too few, where the output is unchanged; a sheet of exactly the output's length fits; bytes behind it are unchanged.
@@ -60,10 +79,17 @@ pub record Sheet-P : Type 0 where
   pub both : shortClosings (valueAt 1 (negsuc 0) (statusAt 1 6 closed) ∷ []) ≡ 20 ∷ []
 
 pub sheet-of-p : Sheet-P
-unfolding computing joinedParts P closed sheetP tooShort
+unfolding computing P closed recordsP sheetP tooShort
 sheet-of-p =
     record {
+      records = refl;
       bytes = refl;
+      offsets-of = refl;
+      answer-of = refl;
+      zero-between = refl;
+      receipts-first = refl;
+      end-alone = refl;
+      other-answers = refl;
       next-day = refl;
       too-long = refl;
       unchanged = refl;

@@ -11,7 +11,7 @@ pub const MAX_SHEET: usize = MAX_KEYS * (HEAD_BYTES + CELL_BYTES)
     + MAX_CALLS * (HEAD_BYTES + RECEIPT_BYTES)
     + HEAD_BYTES;
 
-// What the closing sheet answers: its length, or why it is refused.
+// What the closing sheet answers: the offset behind its last record, which is its length, or why it is refused.
 pub enum Closing {
     Written(usize),
     Refused(Answer),

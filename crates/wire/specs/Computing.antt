@@ -1,4 +1,5 @@
 -- Names every definition of this crate that computes, so that a worked example opens them all by one name.
+use mathlib.Core.List.{flatten, sum}
 use Rattle.wire.specs.Bytes.{number, bytesOf, stored, repeated, below}
 use Rattle.wire.specs.Decimal.{digitsOf, signedDecimal, parts}
 use Rattle.wire.specs.RowOps.{withBit, unionOf, firstOf, countOf}
@@ -6,5 +7,5 @@ use Rattle.wire.specs.Rows.{wordOf, rowOf, inRow}
 use Rattle.arith.specs.Computing as arith
 
 unfoldable pub computing : Unit {0}
-unfolding arith.computing number bytesOf stored repeated below digitsOf signedDecimal parts withBit unionOf firstOf countOf wordOf rowOf inRow
+unfolding arith.computing number bytesOf stored flatten sum repeated below digitsOf signedDecimal parts withBit unionOf firstOf countOf wordOf rowOf inRow
 computing = tt

@@ -1,9 +1,11 @@
 -- `closing::sheet` meets its contract: its tests are the definition's, in their order.
 use borrow.Author.Needs.{needs}
+use native.Mathlib.Omega.{arith}
 use mathlib.Core.Path.{sym, _∙_}
 use borrow.Author.Tests.{not-true, not-false, lt-ltb, le-ltb}
-use Rattle.sheet.specs.Sheet.{sheetBytes, sheetOf}
+use Rattle.sheet.specs.Sheet.{sheetRecords, sheetOf}
 use Rattle.closing.proofs.Answering.{closed-as}
+use Rattle.closing.proofs.Finding.{found-below, found-records}
 use Rattle.closing.proofs.sheet.Statement.{statement}
 use Rattle.closing.proofs.sheet.Tie as tie
 
@@ -41,26 +43,36 @@ returns-5 c =
     let c7 = c6 .before in
     closed-as (simp (lt-ltb _ _ (c .if5 .taken), sym (c .before .before .all-finished .ensures) ∙ not-false _ (c .before .if4 .left), sym (c .before .before .before .before .states-allowed .ensures) ∙ not-false _ (c .before .before .before .if3 .left), le-ltb _ _ (c .before .before .before .before .before .if2 .left), sym (c7 .large-enough .ensures) ∙ not-false _ (c6 .if1 .left)))
 
-balances-allowed-requires : tie.Need-balances-allowed-requires
-balances-allowed-requires c κs = search needs
+cells-found-requires : tie.Need-cells-found-requires
+cells-found-requires c κs = search needs
+
+enum-told : tie.Need-enum-told
+enum-told c = search needs
+
+enum-known-records : tie.Need-enum-known-records
+enum-known-records c = search needs
+
+write-sheet-requires : tie.Need-write-sheet-requires
+write-sheet-requires c κs =
+    let s = c .before .before .before .before .before .before .before .before .before .before .before .before .before .before .before .before .before .before in
+    (omega (arith, c .before .before .before .before .before .if5 .left), (omega (arith, c .before .before .before .before .before .before .before .before .before .before .if2 .left), found-records (s .args .keys .now) (s .args .cells .now) _ (sym (c .before .before .before .before .cells-found .ensures) ∙ c .before .before .records .given .1) .1))
 
 returns-6 : tie.Need-returns-6
 unfolding sheetOf
 returns-6 c =
     let c6 = c .before .before .before .before .before .before in
-    let c7 = c6 .before in
-    let c8 = c7 .before in
+    let c8 = c6 .before .before in
     let c9 = c8 .before in
-    closed-as (simp (sym (c .before .balances-allowed .ensures) ∙ not-true _ (c .if6 .taken), le-ltb _ _ (c .before .before .if5 .left), sym (c .before .before .before .before .all-finished .ensures) ∙ not-false _ (c .before .before .before .if4 .left), sym (c6 .states-allowed .ensures) ∙ not-false _ (c .before .before .before .before .before .if3 .left), le-ltb _ _ (c7 .if2 .left), sym (c9 .large-enough .ensures) ∙ not-false _ (c8 .if1 .left)))
-
-write-sheet-requires : tie.Need-write-sheet-requires
-write-sheet-requires c κs = search needs
+    let c10 = c9 .before in
+    let s = c10 .before .before .before .before .before .before in
+    let below = found-below (s .args .keys .now) (s .args .cells .now) _ (sym (c .before .before .cells-found .ensures) ∙ c .enum-told .given .1) in
+    closed-as (simp (below, le-ltb _ _ (c .before .before .before .if5 .left), sym (c .before .before .before .before .before .all-finished .ensures) ∙ not-false _ (c .before .before .before .before .if4 .left), sym (c6 .before .states-allowed .ensures) ∙ not-false _ (c6 .if3 .left), le-ltb _ _ (c8 .if2 .left), sym (c10 .large-enough .ensures) ∙ not-false _ (c9 .if1 .left)))
 
 same-length : tie.Need-same-length
 same-length c = search needs
 
 returns-7 : tie.Need-returns-7
-unfolding sheetOf sheetBytes
+unfolding sheetOf sheetRecords
 returns-7 c =
     let c6 = c .before .before .before .before .before .before in
     let c7 = c6 .before in
@@ -70,7 +82,11 @@ returns-7 c =
     let c11 = c10 .before in
     let c12 = c11 .before in
     let c13 = c12 .before in
-    closed-as (simp (sym (c .before .before .before .before .before .balances-allowed .ensures) ∙ not-false _ (c .before .before .before .before .if6 .left), le-ltb _ _ (c6 .if5 .left), sym (c8 .all-finished .ensures) ∙ not-false _ (c7 .if4 .left), sym (c10 .states-allowed .ensures) ∙ not-false _ (c9 .if3 .left), le-ltb _ _ (c11 .if2 .left), sym (c13 .large-enough .ensures) ∙ not-false _ (c12 .if1 .left)) (c .before .before .write-sheet .ensures))
+    let c14 = c13 .before in
+    let c15 = c14 .before in
+    let s = c15 .before .before .before .before .before .before in
+    let allowed = found-records (s .args .keys .now) (s .args .cells .now) _ (sym (c7 .cells-found .ensures) ∙ c .before .before .before .before .before .records .given .1) .0 in
+    closed-as (simp (allowed, le-ltb _ _ (c8 .if5 .left), sym (c10 .all-finished .ensures) ∙ not-false _ (c9 .if4 .left), sym (c12 .states-allowed .ensures) ∙ not-false _ (c11 .if3 .left), le-ltb _ _ (c13 .if2 .left), sym (c15 .large-enough .ensures) ∙ not-false _ (c14 .if1 .left)) (c .before .before .write-sheet .ensures))
 
 pub sheet-spec : {M : Type 1} → statement M
 sheet-spec =
@@ -84,8 +100,10 @@ sheet-spec =
     all-finished-requires
     returns-4
     returns-5
-    balances-allowed-requires
-    returns-6
+    cells-found-requires
+    enum-told
+    enum-known-records
     write-sheet-requires
+    returns-6
     same-length
     returns-7)

@@ -2,19 +2,18 @@
 -- of its calls alone.
 use mathlib.Core.Path.{_≡_, refl, sym, ap, ap₂, _∙_}
 use mathlib.Core.Bool.{Bool, _&&_, _||_, not}
-use mathlib.Core.List.{List, [], _++_}
+use mathlib.Core.List.{List, [], _∷_, _++_}
 use Prim.Native.Nat.{ℕ, zero, suc, _+_, _≤_, _<_}
 use native.Mathlib.Omega.{arith}
 use lib.IntN.{ℤ}
 use lib.Dec.{eqb, leb, ltb}
 use Rattle.arith.specs.Choice.{if_then_else_}
-use Rattle.wire.specs.Bytes.{bytesOf}
 use Rattle.block.specs.Limits.{maxCalls, maxKeys}
-use Rattle.block.specs.Record.{recordOf, receiptKind, endKind}
+use Rattle.block.specs.Record.{recordOf, endKind}
 use Rattle.machine.specs.Run.{Run, Sizes, sizesOf, largeEnough, statusWord, stateOf, isState, finished}
 use Rattle.block.specs.Outcomes.{lastOutcome, maxCount}
 use Rattle.machine.specs.declared.Answer.the-variants.{Damaged, CallUnfinished}
-use Rattle.sheet.specs.Sheet.{Closed, cellRecords, receiptRecords, sheetBytes, statesAllowed, allFinished, receiptsAllowed, balancesAllowed, unwritten, sheetOf, writtenIf}
+use Rattle.sheet.specs.Sheet.{Closed, receiptRecord, cellRecords, receiptRecords, sheetRecords, statesAllowed, allFinished, receiptsAllowed, balancesAllowed, unwritten, sheetOf, writtenIf}
 use Rattle.guarantees.specs.Agreement.{SameSheet}
 use Rattle.guarantees.specs.Demand3.{SameReceipt}
 
@@ -45,15 +44,15 @@ module _ (status status′ : List ℕ) (n : ℕ) (same : (c : ℕ) → c < n
   records-same zero c h = refl
   records-same (suc left) c h =
       let q = same c (omega arith) in
-      ap₂ (λ (front rest : List ℕ). front ++ rest)
-      (ap₂ (λ (o k : ℕ). recordOf receiptKind (bytesOf 2 o ++ bytesOf 2 k)) (q .1) (q .2))
+      ap₂ (λ (first : List ℕ) (rest : List (List ℕ)). first ∷ rest)
+      (ap₂ (λ (o k : ℕ). receiptRecord o k) (q .1) (q .2))
       (records-same left (c + 1) (omega arith))
 
 -- ---- the sheet
 
--- The sheet by its tests and its bytes.
-unfoldable closingOf : (damaged states finished cells balances receipts : Bool) → List ℕ → List ℕ → Closed
-closingOf damaged states finished cells balances receipts bytes output =
+-- The sheet by its tests and its records.
+unfoldable closingOf : (damaged states finished cells balances receipts : Bool) → List (List ℕ) → List ℕ → Closed
+closingOf damaged states finished cells balances receipts rs output =
     if damaged
     then unwritten output Damaged
     else if not states
@@ -64,13 +63,13 @@ closingOf damaged states finished cells balances receipts bytes output =
     then unwritten output Damaged
     else if not balances
     then unwritten output Damaged
-    else writtenIf receipts output bytes
+    else writtenIf receipts output rs
 
-abbrev recordsOf : List ℕ → (calls : ℕ) → List ℕ
+abbrev recordsOf : List ℕ → (calls : ℕ) → List (List ℕ)
 recordsOf status calls = receiptRecords status calls 0
 
-abbrev numbered : List ℕ → List ℤ → (cells : ℕ) → List ℕ → List ℕ
-numbered keys cells n receipts = cellRecords keys cells n 0 ++ receipts ++ recordOf endKind []
+abbrev numbered : List ℕ → List ℤ → (cells : ℕ) → List (List ℕ) → List (List ℕ)
+numbered keys cells n receipts = cellRecords keys cells n 0 ++ receipts ++ (recordOf endKind [] ∷ [])
 
 sheet-parts : (r : Run) (output : List ℕ)
     → sheetOf r output
@@ -78,7 +77,7 @@ sheet-parts : (r : Run) (output : List ℕ)
     (allFinished (r .status) (r .head .calls)) (ltb maxKeys (r .head .cells)) (balancesAllowed (r .keys) (r .cells) (r .head .cells))
     (receiptsAllowed (r .status) (r .head .calls))
     (numbered (r .keys) (r .cells) (r .head .cells) (recordsOf (r .status) (r .head .calls))) output
-unfolding sheetOf closingOf sheetBytes
+unfolding sheetOf closingOf sheetRecords
 sheet-parts r output = refl
 
 pub same-sheet : (r r′ : Run) → sizesOf r ≡ sizesOf r′ → r .head .calls ≡ r′ .head .calls → r .head .cells ≡ r′ .head .cells

@@ -30,7 +30,7 @@ use Rattle.machine.specs.Step.{cellAt}
 use Rattle.machine.proofs.StepLaws.{ReceiptBounded}
 use Rattle.machine.specs.declared.Answer.the-variants.{CallUnfinished}
 use Rattle.machine.specs.declared.Head.{Head}
-use Rattle.sheet.specs.Sheet.{keyHigh, fieldOf, sheetBytes, unwritten, written, sheetOf}
+use Rattle.sheet.specs.Sheet.{keyHigh, fieldOf, sheetRecords, unwritten, written, sheetOf}
 use Rattle.guarantees.specs.Agreement.{stateNumber, serialRunOfFile}
 use Rattle.guarantees.proofs.AcceptedOpening.AfterOpening.{AfterOpening}
 use Rattle.guarantees.specs.Demand1.{Large}
@@ -113,7 +113,7 @@ module _ (s : Sizes) (file : List ℕ) (workers : ℕ) (after : AfterOpening s f
       → (left : ℕ → Left) → ((c : ℕ) → c < callCount file → ReceiptBounded (left c .outcome) (left c .count))
       → ((c : ℕ) → c < callCount file
       → (stateOf (r .status) c ≡ finished) × (statusWord (r .status) c 1 ≡ left c .outcome) × (statusWord (r .status) c 2 ≡ left c .count))
-      → (output : List ℕ) → sheetOf r output ≡ written output (sheetBytes r)
+      → (output : List ℕ) → sheetOf r output ≡ written output (sheetRecords r)
   all-written σ fit hold within left bounded receipts output =
       sheet-written r output
       (record {
@@ -131,7 +131,7 @@ module _ (s : Sizes) (file : List ℕ) (workers : ℕ) (after : AfterOpening s f
 
 -- Of the serial run, by the rule that it follows.
 pub serial-written : (s : Sizes) (file : List ℕ) (workers : ℕ) → AreBytes file → AfterOpening s file workers
-    → (output : List ℕ) → sheetOf (serialRunOfFile s file workers) output ≡ written output (sheetBytes (serialRunOfFile s file workers))
+    → (output : List ℕ) → sheetOf (serialRunOfFile s file workers) output ≡ written output (sheetRecords (serialRunOfFile s file workers))
 serial-written s file workers bytes after =
     all-written s file workers after (ran (openedCalls s file workers) (openedRun s file workers .cells) (λ i. true) (callCount file))
     (serialRunOfFile s file workers) (serially-matches s file workers bytes after) (ruleState file b (callCount file)) (table-fits s file workers bytes after)

@@ -16,7 +16,7 @@ use Rattle.machine.specs.Run.{Run, sizesOf, largeEnough, statusWord, stateOf, i
 use Rattle.machine.specs.Step.{cellAt}
 use Rattle.machine.specs.declared.Answer.{Answer}
 use Rattle.machine.specs.declared.Answer.the-variants as answer
-use Rattle.sheet.specs.Sheet.{Closed, fieldOf, sheetBytes, statesAllowed, allFinished, receiptsAllowed, balancesAllowed, unwritten, filled, writtenIf, written, sheetOf}
+use Rattle.sheet.specs.Sheet.{Closed, fieldOf, sheetRecords, sheetBytes, offsetBehind, statesAllowed, allFinished, receiptsAllowed, balancesAllowed, unwritten, filled, writtenIf, written, sheetOf}
 use Rattle.sheet.specs.declared.Closing.{Closing}
 use Rattle.sheet.specs.declared.Closing.the-variants.{Written, Refused}
 use Rattle.guarantees.specs.Demand1.{Exactly, CallFinished, Before27, Before28, SheetRefuses, Writable}
@@ -71,7 +71,7 @@ record SheetTold (r : Run) (output : List ℕ) (m : Closed) : Type 0 where
 module _ (r : Run) (output : List ℕ) where
   -- The sheet from each number on.
   abbrev from28 : Closed
-  from28 = writtenIf (receiptsAllowed (r .status) (r .head .calls)) output (sheetBytes r)
+  from28 = writtenIf (receiptsAllowed (r .status) (r .head .calls)) output (sheetRecords r)
 
   abbrev from27 : Closed
   from27 =
@@ -115,7 +115,7 @@ module _ (r : Run) (output : List ℕ) where
   sheet-unfinished b u = sheet-27 b ∙ rw (finished-exact (r .status) (r .head .calls) .one .1 u)
 
   pub sheet-written : Before28 r → ((c : ℕ) → c < r .head .calls → (statusWord (r .status) c 1 ≤ lastOutcome) × (statusWord (r .status) c 2 ≤ maxCount))
-      → sheetOf r output ≡ written output (sheetBytes r)
+      → sheetOf r output ≡ written output (sheetRecords r)
   sheet-written b receipts = sheet-28 b ∙ rw (receipts-exact (r .status) (r .head .calls) .every .1 receipts)
 
   given : (a : Answer) → SheetRefuses r output a → sheetOf r output .answer ≡ Refused a
@@ -131,7 +131,7 @@ module _ (r : Run) (output : List ℕ) where
   given answer.CallUnfinished (b, u) = of-answer (sheet-unfinished b u)
   given answer.SheetTooLong (b, h) = of-answer (sheet-28 b) ∙ rw (lt-ltb (length output) (length (sheetBytes r)) h)
 
-  given-whole : Writable r output → sheetOf r output ≡ filled output (sheetBytes r)
+  given-whole : Writable r output → sheetOf r output ≡ filled output (sheetRecords r)
   unfolding writtenIf
   given-whole b =
       sheet-written (b .so-far) (λ c l. (b .outcomes c l, b .counts c l)) ∙ rw (le-ltb (length output) (length (sheetBytes r)) (b .fits))
@@ -192,8 +192,8 @@ module _ (r : Run) (output : List ℕ) where
   pub refuses : (a : Answer) → (a ≡ answer.Damaged → ⊥) → Exactly (sheetOf r output .answer ≡ Refused a) (SheetRefuses r output a)
   refuses a d = (λ e. found (Refused a) e .1 d, given a)
 
-  pub sheet-writes : Exactly (sheetOf r output ≡ filled output (sheetBytes r)) (Writable r output)
-  sheet-writes = (λ e. found (Written (length (sheetBytes r))) (of-answer e), given-whole)
+  pub sheet-writes : Exactly (sheetOf r output ≡ filled output (sheetRecords r)) (Writable r output)
+  sheet-writes = (λ e. found (Written (offsetBehind (sheetRecords r))) (of-answer e), given-whole)
 
   -- "a refused .. sheet leaves them unchanged"
   pub unwritten-left : (a : Answer) → sheetOf r output .answer ≡ Refused a → sheetOf r output .output ≡ output

@@ -12,7 +12,7 @@ use Rattle.schedule.specs.declared.Move.{Move}
 use Rattle.machine.specs.Run.{Run, fixedSizes}
 use Rattle.machine.specs.Opening.{openingOf}
 use Rattle.machine.specs.declared.Answer.the-variants.{CallUnfinished}
-use Rattle.sheet.specs.Sheet.{sheetBytes, Closed, unwritten, filled, sheetOf, maxSheet}
+use Rattle.sheet.specs.Sheet.{sheetRecords, sheetBytes, offsetBehind, Closed, unwritten, filled, sheetOf, maxSheet}
 use Rattle.console.specs.Register.{Session, maxInput}
 use Rattle.console.specs.declared.Line.the-variants.{Empty}
 use Rattle.analysis.specs.LayoutOfBlock.{callCount}
@@ -59,12 +59,12 @@ module _ (file : List ℕ) (bytes : AreBytes file) (accepted : openingOf fixedSi
       sheet-at-most (serial file) (few-calls fixedSizes file maxWorkers after _ (serial file) stands) (few-cells fixedSizes file maxWorkers after _ (serial file) stands)
 
   -- The serial run's sheet stands at the front of REGISTER's output.
-  pub serial-front : take (length (sheetBytes (serial file))) (filled room (sheetBytes (serial file)) .output) ≡ sheetBytes (serial file)
-  serial-front = sheet-front (sheetBytes (serial file)) serial-short
+  pub serial-front : take (offsetBehind (sheetRecords (serial file))) (filled room (sheetRecords (serial file)) .output) ≡ sheetBytes (serial file)
+  serial-front = sheet-front (sheetRecords (serial file)) serial-short
 
   -- The close behind a list of moves.
   abbrev closedIf : Bool → Closed
-  closedIf done = if done then filled room (sheetBytes (serial file)) else unwritten room CallUnfinished
+  closedIf done = if done then filled room (sheetRecords (serial file)) else unwritten room CallUnfinished
 
   closed-after : (ms : List Move) → sheetOf (runAfterMoves fixedSizes file maxWorkers ms) room ≡ closedIf (allDone file ms)
   closed-after ms = go (allDone file ms) refl
@@ -74,17 +74,17 @@ module _ (file : List ℕ) (bytes : AreBytes file) (accepted : openingOf fixedSi
 
       go : (done : Bool) → allDone file ms ≡ done → sheetOf (runAfterMoves fixedSizes file maxWorkers ms) room ≡ closedIf done
       go true e =
-          d .close (all-finished (tallyAfter file maxWorkers ms) (callCount file) e) .written room ∙ sheet-fits (sheetBytes (serial file)) serial-short
+          d .close (all-finished (tallyAfter file maxWorkers ms) (callCount file) e) .written room ∙ sheet-fits (sheetRecords (serial file)) serial-short
       go false e =
           let u = some-unfinished (tallyAfter file maxWorkers ms) (callCount file) e in d .unfinished (u .0) (u .1) (u .2) room
 
   -- What is made of the close at the input's end: of the serial run's sheet, or of 27.
   pub closed-by-tally : (f : Closed → List ℕ) (input : List ℕ)
       → f (sheetOf (sessionEnd file input .run) room)
-      ≡ (if allDone file (movesIn input) then f (filled room (sheetBytes (serial file))) else f (unwritten room CallUnfinished))
+      ≡ (if allDone file (movesIn input) then f (filled room (sheetRecords (serial file))) else f (unwritten room CallUnfinished))
   closed-by-tally f input =
       ap (λ (r : Run). f (sheetOf r room)) (session-comes file input .run) ∙ ap f (closed-after (movesIn input)) ∙ go (allDone file (movesIn input))
     where
-      go : (done : Bool) → f (closedIf done) ≡ (if done then f (filled room (sheetBytes (serial file))) else f (unwritten room CallUnfinished))
+      go : (done : Bool) → f (closedIf done) ≡ (if done then f (filled room (sheetRecords (serial file))) else f (unwritten room CallUnfinished))
       go true = refl
       go false = refl

@@ -1,7 +1,7 @@
 -- The kind 2 records of a sheet are those of the non-zero cells of the state that the run holds.
 use mathlib.Core.Path.{_≡_, refl, sym, ap, subst, _∙_}
 use mathlib.Core.Bool.{Bool, true, false}
-use mathlib.Core.List.{List, [], _∷_, _++_}
+use mathlib.Core.List.{List, [], _∷_, _++_, flatten}
 use Prim.Native.Nat.{ℕ, zero, suc, _+_, _-_, _*_, _^_, _≤_, _<_}
 use native.Mathlib.Nat.{add-zero}
 use native.Mathlib.Omega.{arith}
@@ -9,6 +9,7 @@ use lib.IntN.{ℤ, pos}
 use lib.ListN.{length, getD}
 use lib.Signed.{mag}
 use Rattle.arith.specs.Choice.{if_then_else_}
+use Rattle.arith.specs.Exact.{unsigned}
 use Rattle.arith.specs.Compare.{eqZ}
 use Rattle.wire.specs.Bytes.{repeated, padded}
 use Rattle.block.specs.Encoding.{cellRecord, records, AreBytes}
@@ -22,7 +23,8 @@ use Rattle.machine.specs.CallInRun.{Hold}
 use Rattle.machine.specs.Opening.{openingOf}
 use Rattle.machine.specs.Run.{Run, Sizes}
 use Rattle.machine.specs.Step.{cellAt}
-use Rattle.sheet.specs.Sheet.{keyHigh, keyLow, cellRecords}
+use Rattle.sheet.specs.Sheet.{keyHigh, keyLow, recordsOfCell, cellRecords}
+use Rattle.sheet.proofs.RecordLists.{joined-one, joined-append}
 use Rattle.guarantees.proofs.AcceptedOpening.AfterOpening.{AfterOpening}
 use Rattle.guarantees.proofs.TheNextDay.CellRecords.{unsigned-zero, sheet-cell}
 use Rattle.guarantees.proofs.TheNextDay.KeyFits.{KeyFits, HoldsOfAll, table-fits}
@@ -52,28 +54,32 @@ module _ (σ : State) (keys : List ℕ) (cells : List ℤ) where
 
   -- The records of the cells from a number on, whose keys are given, are those of the non-zero ones.
   records-are : (ks : List ℕ) (n : ℕ) → ((i : ℕ) → i < length ks → Stands (n + i) (getD ks i 0)) → HoldsOfAll (λ k. mag (σ k) < 2 ^ 63) ks
-      → cellRecords keys cells (length ks) n ≡ records cellRecord (cellsOfState σ ks)
-  unfolding cellRecords cellsOfState records
+      → flatten (cellRecords keys cells (length ks) n) ≡ records cellRecord (cellsOfState σ ks)
+  unfolding cellRecords cellsOfState records flatten
   records-are [] n at fit = refl
   records-are (k ∷ ks) n at fit =
       let here : Stands n k = subst (λ (m : ℕ). Stands m k) (add-zero n) (at 0 (omega arith)) in
-      let rest : cellRecords keys cells (length ks) (n + 1) ≡ records cellRecord (cellsOfState σ ks) =
+      let rest : flatten (cellRecords keys cells (length ks) (n + 1)) ≡ records cellRecord (cellsOfState σ ks) =
       records-are ks (n + 1) (λ i h. let far : n + suc i ≡ n + 1 + i = omega arith in subst (λ (m : ℕ). Stands m (getD ks i 0)) far (at (suc i) (omega arith)))
       (holds-later (λ j. mag (σ j) < 2 ^ 63) k ks fit) in
-      rw (here .value, here .high, here .low, rest, sheet-cell k (σ k), unsigned-zero (σ k) (holds-first (λ j. mag (σ j) < 2 ^ 63) k ks fit))
+      joined-append (recordsOfCell (keyHigh keys n) (keyLow keys n) (unsigned 64 (cellAt cells n))) (cellRecords keys cells (length ks) (n + 1))
+      ∙ rw (here .value, here .high, here .low, rest, sheet-cell k (σ k), unsigned-zero (σ k) (holds-first (λ j. mag (σ j) < 2 ^ 63) k ks fit))
       (go (eqZ (σ k) (pos 0)))
     where
-      go : (t : Bool) → (if t then [] else cellRecord (record { key = k; value = σ k })) ++ records cellRecord (cellsOfState σ ks)
+      own : List ℕ
+      own = cellRecord (record { key = k; value = σ k })
+
+      go : (t : Bool) → flatten (if t then [] else (own ∷ [])) ++ records cellRecord (cellsOfState σ ks)
           ≡ records cellRecord (if t then cellsOfState σ ks else record { key = k; value = σ k } ∷ cellsOfState σ ks)
       go true = refl
-      go false = refl
+      go false = ap (λ (s : List ℕ). s ++ records cellRecord (cellsOfState σ ks)) (joined-one own)
 
 -- ---- over plain data
 
 -- The cells of a table of keys, whose values are of 64 bits.
 module _ (table : List ℕ) (σ : State) (kept : HoldsOfAll (KeptCell σ) table) (room : ℕ) (cells : List ℤ)
     (same : (i : ℕ) → i < length table → cellAt cells i ≡ σ (getD table i 0)) where
-  sheet-bytes : cellRecords (padded room 0 (tableWords table)) cells (length table) 0 ≡ records cellRecord (cellsOfState σ table)
+  sheet-bytes : flatten (cellRecords (padded room 0 (tableWords table)) cells (length table) 0) ≡ records cellRecord (cellsOfState σ table)
   sheet-bytes =
       records-are σ (padded room 0 (tableWords table)) cells table 0
       (λ i h.
@@ -93,8 +99,8 @@ pub next-day : (r : Run) (table : List ℕ) (σ : State) (room : ℕ) → r .key
 next-day r table σ room keys count hold rising few fit small within none =
     record {
       bytes =
-          ap (λ (ks : List ℕ). cellRecords ks (r .cells) (r .head .cells) 0) keys
-          ∙ ap (λ (n : ℕ). cellRecords (padded room 0 (tableWords table)) (r .cells) n 0) count
+          ap (λ (ks : List ℕ). flatten (cellRecords ks (r .cells) (r .head .cells) 0)) keys
+          ∙ ap (λ (n : ℕ). flatten (cellRecords (padded room 0 (tableWords table)) (r .cells) n 0)) count
           ∙ sheet-bytes table σ kept room (r .cells)
           (λ i h. ap (cellAt (r .cells)) (sym (cell-at table i rising h)) ∙ hold .same (getD table i 0) (member-at table i h));
       keeps = cells-open σ table rising few kept (cells-limit σ within table rising fit);

@@ -1,6 +1,6 @@
 -- A run whose kind 2 records are those of cells that keep document 01's rules opens the next block, with any functions and calls.
 use mathlib.Core.Path.{_≡_, sym, ap, subst, subst⁻¹, _∙_}
-use mathlib.Core.List.{List, [], _∷_, _++_}
+use mathlib.Core.List.{List, [], _∷_, _++_, flatten}
 use Prim.Native.Nat.{ℕ, zero, suc, _≤_, _<_}
 use lib.Dec.{lit<}
 use lib.ListN.{length}
@@ -29,7 +29,7 @@ use Rattle.guarantees.specs.ClosedOpens.{Sendable, NextKeeps, OpensWith,
 
 -- The kind 2 records of a run are those of these cells, which keep the rules and say a state at every key.
 pub record Carries (r : Run) (σ : State) (cells : List Cell) : Type 0 where
-  pub bytes : cellRecords (r .keys) (r .cells) (r .head .cells) 0 ≡ records cellRecord cells
+  pub bytes : flatten (cellRecords (r .keys) (r .cells) (r .head .cells) 0) ≡ records cellRecord cells
   pub keeps : CellsKeep cells
   pub values : (k : ℕ) → openingValue cells k ≡ σ k
 

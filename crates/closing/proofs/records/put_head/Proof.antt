@@ -1,36 +1,35 @@
--- `closing::records::put_head` meets its contract: the kind is stored behind the length.
+-- `closing::records::put_head` meets its contract: the length and the kind are the bytes of one number.
 use borrow.Author.Needs.{needs}
 use native.Mathlib.Omega.{arith}
-use Rattle.wire.specs.Bytes.{bytesOf}
-use Rattle.wire.proofs.BytesLaws.{bytesOf-length}
-use Rattle.closing.proofs.Storing.{stored-joined}
+use mathlib.Core.Path.{ap, _∙_}
+use Rattle.wire.specs.Bytes.{stored}
+use Rattle.closing.proofs.Storing.{head-number}
 use Rattle.closing.proofs.records.put_head.Statement.{statement}
 use Rattle.closing.proofs.records.put_head.Tie as tie
 
-put16-requires : tie.Need-put16-requires
-put16-requires c κs = search needs
+mul-put32 : tie.Need-mul-put32
+mul-put32 c = omega arith
 
-add-put16 : tie.Need-add-put16
-add-put16 c = search needs
+add-put32 : tie.Need-add-put32
+add-put32 c = omega arith
 
-put16-requires-2 : tie.Need-put16-requires-2
-put16-requires-2 c κs = search needs
+put32-requires : tie.Need-put32-requires
+put32-requires c κs = search needs
 
 same-length : tie.Need-same-length
 same-length c = search needs
 
 returns : tie.Need-returns
 returns c =
-    let c6 = c .before .before .before .before .before .before in
-    let c9 = c6 .before .before .before in
-    let s = c9 in stored-joined (s .args .output .now) (s .args .at) (bytesOf 2 (s .args .size)) (bytesOf 2 (s .args .kind)) (omega (arith, bytesOf-length 2 (s .args .size))) (c6 .put16 .ensures) (c .before .before .put162 .ensures)
+    let s = c .before .before .before .before .before in
+    c .before .before .put32 .ensures ∙ ap (stored (s .args .output .now) (s .args .at)) (head-number (s .args .size) (s .args .kind) (omega arith) (omega arith))
 
 pub put-head-spec : {M : Type 1} → statement M
 put-head-spec =
     tie.close
     (tie.spec
-    put16-requires
-    add-put16
-    put16-requires-2
+    mul-put32
+    add-put32
+    put32-requires
     same-length
     returns)
