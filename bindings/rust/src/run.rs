@@ -12,7 +12,7 @@ const ROW_BITS: usize = 64;
 /// earlier conflicting calls that are still unfinished.
 const STATUS_WORDS: usize = 4;
 
-/// How a call ended; the discriminant is document 01's number.
+/// How a call ended; the discriminant is the number of document 01, or 02.
 #[derive(Clone, Copy, Debug, PartialEq, Eq, Hash)]
 pub enum Outcome {
     /// It came to STOP or to the end of its code.
@@ -23,15 +23,17 @@ pub enum Outcome {
     ValueNotCovered = 2,
     /// THROW.
     Thrown = 3,
-    /// A result outside 64 signed bits, or a zero divisor.
+    /// A result outside 64 signed bits.
     OutOfRange = 4,
     /// PAY of a negative amount, to no account or to account 0, or above the
     /// contract's balance.
     NotPaid = 5,
+    /// DIV by zero.
+    ZeroDivisor = 6,
 }
 
 impl Outcome {
-    /// The number of document 01.
+    /// The number of document 01, or 02.
     pub fn number(self) -> u64 {
         self as u64
     }
@@ -44,6 +46,7 @@ impl Outcome {
             3 => Outcome::Thrown,
             4 => Outcome::OutOfRange,
             5 => Outcome::NotPaid,
+            6 => Outcome::ZeroDivisor,
             _ => unreachable!("a finished call has outcome {number}"),
         }
     }

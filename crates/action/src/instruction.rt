@@ -5,9 +5,10 @@ use block::Call;
 use block::Payee;
 use block::Source;
 use block::outcomes::ENDED;
-use block::outcomes::NO_RESULT;
 use block::outcomes::NOT_PAID;
+use block::outcomes::OUT_OF_RANGE;
 use block::outcomes::THROWN;
+use block::outcomes::ZERO_DIVISOR;
 use block::record::argument;
 use block::record::payee_of;
 use footprint::access::source_value;
@@ -62,14 +63,14 @@ fn end(regs: [i64; 8], outcome: u64) -> Action
     }
 }
 
-// x takes an exact result; "a result outside 64 signed bits or a zero divisor with 4".
+// x takes an exact result; "a result outside 64 signed bits .. with 4"; M-103: a zero divisor with 6.
 fn assign_checked(place: u32, regs: [i64; 8], x: usize, r: Checked) -> Action
     ensures { λ a. ⌜ a ≡ checkedAction place regs x r ⌝ }
 {
     match r {
         Checked::Value(v) => assign(place, regs, x, v),
-        Checked::Overflow => end(regs, NO_RESULT),
-        Checked::ZeroDivisor => end(regs, NO_RESULT),
+        Checked::Overflow => end(regs, OUT_OF_RANGE),
+        Checked::ZeroDivisor => end(regs, ZERO_DIVISOR),
     }
 }
 

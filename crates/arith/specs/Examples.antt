@@ -1,4 +1,5 @@
--- The divisions of document 01, computed: "-7 by 2: -4; 7 by -2: -4; -2^63 by -1: outcome 4; by 0: 4".
+-- The divisions of document 01, computed: "-7 by 2: -4; 7 by -2: -4; -2^63 by -1: outcome 4; by 0: 4", which by M-103 is 6, whatever is
+-- divided.
 use mathlib.Core.Path.{_≡_, refl}
 use Prim.Native.Nat.{_-_, _^_}
 use lib.IntN.{pos, negsuc}
@@ -12,11 +13,22 @@ pub record Divisions : Type 0 where
   pub both-negative : divOf (negsuc 6) (negsuc 1) ≡ Value (pos 3)
   pub past-the-largest : divOf (negsuc (2 ^ 63 - 1)) (negsuc 0) ≡ Overflow
   pub by-0 : divOf (negsuc 6) (pos 0) ≡ ZeroDivisor
+  pub zero-by-0 : divOf (pos 0) (pos 0) ≡ ZeroDivisor
+  pub lowest-by-0 : divOf (negsuc (2 ^ 63 - 1)) (pos 0) ≡ ZeroDivisor
 
 pub divisions : Divisions
 unfolding checked floorBy divOf
 divisions =
-    record { by-2 = refl; by-minus-2 = refl; both-positive = refl; both-negative = refl; past-the-largest = refl; by-0 = refl }
+    record {
+      by-2 = refl;
+      by-minus-2 = refl;
+      both-positive = refl;
+      both-negative = refl;
+      past-the-largest = refl;
+      by-0 = refl;
+      zero-by-0 = refl;
+      lowest-by-0 = refl;
+    }
 
 -- The ends of 64 signed bits, and two's complement.
 pub record Ranges : Type 0 where

@@ -33,6 +33,15 @@ THROW = instr 1 0 0 0 0
 abbrev pub SET : ℕ → ℤ → List ℕ
 SET x value = instr 2 x 0 0 (unsigned 32 value)
 
+abbrev pub ARG : ℕ → (k : ℕ) → List ℕ
+ARG x k = instr 3 x k 0 0
+
+abbrev pub VALUE : ℕ → List ℕ
+VALUE x = instr 5 x 0 0 0
+
+abbrev pub SUB : ℕ → ℕ → ℕ → List ℕ
+SUB x y z = instr 7 x y z 0
+
 abbrev pub MUL : ℕ → ℕ → ℕ → List ℕ
 MUL x y z = instr 8 x y z 0
 

@@ -1,6 +1,6 @@
 -- The outcomes of a call: "unknown function, outcome 1; sender's balance below value, outcome 2"; "At place = length: outcome 0";
--- "STOP ends with 0, THROW with 3, a result outside 64 signed bits or a zero divisor with 4, PAY with 5 ..". Below them the ranges of
--- a receipt.
+-- "STOP ends with 0, THROW with 3, a result outside 64 signed bits .. with 4, PAY with 5 .."; M-103: "DIV by zero shall end with outcome 6 ..,
+-- and 4 keeps only results out of range." Below them the ranges of a receipt.
 use Prim.Native.Nat.{ℕ}
 use Rattle.block.specs.Limits.{maxCode}
 
@@ -16,15 +16,18 @@ balanceTooLow = 2
 abbrev pub thrown : ℕ
 thrown = 3
 
-abbrev pub noResult : ℕ
-noResult = 4
+abbrev pub outOfRange : ℕ
+outOfRange = 4
 
 abbrev pub notPaid : ℕ
 notPaid = 5
 
+abbrev pub zeroDivisor : ℕ
+zeroDivisor = 6
+
 -- The highest outcome that a receipt may hold, and the highest count of executed instructions.
 abbrev pub lastOutcome : ℕ
-lastOutcome = notPaid
+lastOutcome = zeroDivisor
 
 abbrev pub maxCount : ℕ
 maxCount = maxCode

@@ -1,10 +1,10 @@
--- Document 01's block P, as bytes and as contents; and a block of payments to account 0, for document 02's M-101.
+-- Document 01's block P, as bytes and as contents; and for document 02 a block of payments to account 0, M-101, and one of divisions, M-103.
 use mathlib.Core.List.{List, [], _∷_, flatten}
-use Prim.Native.Nat.{ℕ}
-use lib.IntN.{ℤ, pos}
+use Prim.Native.Nat.{ℕ, _^_}
+use lib.IntN.{ℤ, pos, negℤ}
 use Rattle.block.specs.Key.{keyOf}
 use Rattle.block.specs.Encoding.{Routine, Contents}
-use Rattle.block.specs.Assemble.{STOP, SET, GET, PUT, PAY, PAYTO, JEQ, function, cell, callWith, call, end}
+use Rattle.block.specs.Assemble.{STOP, SET, ARG, VALUE, SUB, DIV, GET, PUT, PAY, PAYTO, JEQ, function, cell, callWith, call, end}
 use Rattle.block.specs.declared.Call.{Call}
 
 -- "Block P (document 003, example 1): contract 32768; f0: SET 0 1, PUT 0 field 1; f1: GET 0 field 1, JEQ 0 1 to 3, STOP, SET 2 1,
@@ -66,3 +66,19 @@ account0 =
     ∷ call 0 32768 3 (pos 0)
     ∷ call 7 32768 3 (pos 0)
     ∷ callWith 0 32768 2 (pos 3) 8 ∷ call 0 40000 0 (pos 2) ∷ call 0 32768 1 (pos 3) ∷ end ∷ [])
+
+-- 0 by 0; -2^63 by minus the argument, which is 0, 1 and 2; and, behind a PUT, the value of 7 by the argument, which is 0 and 2. Account 5 opens with 7 and sends it
+-- twice, as it comes back with the first; field 1 opens with 9.
+unfoldable pub zeroDivisors : List ℕ
+zeroDivisors =
+    flatten
+    (function 32768 0 (DIV 0 1 2 ∷ [])
+    ∷ function 32768 1 (GET 0 2 0 ∷ ARG 1 1 ∷ SUB 1 2 1 ∷ DIV 0 0 1 ∷ PUT 0 3 0 ∷ [])
+    ∷ function 32768 2 (VALUE 0 ∷ PUT 0 1 0 ∷ ARG 1 1 ∷ DIV 0 0 1 ∷ PUT 0 1 0 ∷ [])
+    ∷ cell 5 0 0 0 (pos 7)
+    ∷ cell 32768 1 0 0 (pos 9)
+    ∷ cell 32768 2 0 0 (negℤ (pos (2 ^ 63)))
+    ∷ call 5 32768 0 (pos 0)
+    ∷ callWith 5 32768 1 (pos 0) 0
+    ∷ callWith 5 32768 1 (pos 0) 1
+    ∷ callWith 5 32768 1 (pos 0) 2 ∷ callWith 5 32768 2 (pos 7) 0 ∷ callWith 5 32768 2 (pos 7) 2 ∷ end ∷ [])

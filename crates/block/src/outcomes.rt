@@ -9,11 +9,13 @@ pub const BALANCE_TOO_LOW: u64 = 2;
 
 pub const THROWN: u64 = 3;
 
-pub const NO_RESULT: u64 = 4;
+pub const OUT_OF_RANGE: u64 = 4;
 
 pub const NOT_PAID: u64 = 5;
 
+pub const ZERO_DIVISOR: u64 = 6;
+
 // The highest outcome that a receipt may hold, and the highest count of executed instructions.
-pub const LAST_OUTCOME: u64 = NOT_PAID;
+pub const LAST_OUTCOME: u64 = ZERO_DIVISOR;
 
 pub const MAX_COUNT: u64 = MAX_CODE as u64;

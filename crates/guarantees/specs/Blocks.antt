@@ -23,7 +23,7 @@ divisionMoves =
     text "b 0 0\ns 0\ns 0\ns 0\ns 0\ns 0\ns 0\nb 0 1\ns 0\ns 0\ns 0\ns 0\ns 0\ns 0\nb 0 2\ns 0\ns 0\ns 0\ns 0\ns 0\ns 0\ns 0\nb 0 3\ns 0\ns 0\ns 0\n"
 
 unfoldable pub divisionText : List ℕ
-divisionText = text "k 32768 1 0 0 -4\nk 32768 2 0 0 -4\nt 0 0 4\nt 1 0 4\nt 2 4 6\nt 3 4 2\n"
+divisionText = text "k 32768 1 0 0 -4\nk 32768 2 0 0 -4\nt 0 0 4\nt 1 0 4\nt 2 4 6\nt 3 6 2\n"
 
 -- Account 5 opens with 2 and calls a function of no instruction with the given value.
 unfoldable pub valueCall : ℤ → List ℕ

@@ -31,7 +31,7 @@ pub record Starred : Type 0 where
   pub step-idle : answerNumber (stepOf P (openedForEight P) 0 .answer) ≡ 26
   -- "The program REGISTER .. prints in full".
   pub printed : registerOf P movesP ≡ printedP
-  -- "DIV -7 by 2: -4; 7 by -2: -4; -2^63 by -1: outcome 4; by 0: 4."
+  -- "DIV -7 by 2: -4; 7 by -2: -4; -2^63 by -1: outcome 4; by 0: 4", of which M-103 says: "the division example by 0 now reads 6."
   pub divided : registerOf divisionsBlock divisionMoves ≡ divisionText
   -- "Value equal to the balance passes; one more: outcome 2."
   pub value-equal : registerOf (valueCall (pos 2)) (text "b 0 0\ns 0\ns 0\n") ≡ text "k 32768 0 0 0 2\nt 0 0 0\n"

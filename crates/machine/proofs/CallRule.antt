@@ -32,11 +32,11 @@ use Rattle.footprint.specs.Sets.{functionSets, setsOf, writeSet}
 use Rattle.block.specs.Naming.{functionOf}
 use Rattle.footprint.proofs.SetLaws.{EachAccess}
 use Rattle.footprint.specs.Plan.{entryWord, codeWords, tableWords}
-use Rattle.rule.specs.Rule.{State, update, credit, debit, stateWithinLimit, Result, Course, before, over, executeAt, runBody, bodyOf, settle, Left, stepsFor, unbegun, runFunction, transactionBy, transaction}
+use Rattle.rule.specs.Rule.{State, update, credit, debit, stateWithinLimit, Course, before, over, executeAt, runBody, bodyOf, settle, Left, stepsFor, unbegun, runFunction, transactionBy, transaction}
 use Rattle.rule.proofs.LimitLaws.{update-same, update-other, balanceKey, limit-balance, limit-move}
 use Rattle.footprint.specs.SafeSets.{CallBounded}
 use Rattle.footprint.proofs.SafeSetsProof.{no-amount}
-use Rattle.rule.proofs.TurnLaws.{bodySteps, OneMore, turn-one}
+use Rattle.rule.proofs.TurnLaws.{bodySteps, OneMore, turn-one, body-over}
 use Rattle.machine.specs.Run.{zeroRegisters}
 use Rattle.machine.specs.Action.{instrAction, entryAction}
 use Rattle.machine.specs.Step.{View, Local, Stepped, damaged, more, done, savedOf, finish, concluded, perform, performAction, stepEntry, stepDecoded, stepInstr, stepPlace, stepCall}
@@ -71,12 +71,6 @@ zero-moved σ a b m z l =
     still (debit σ a m) b (debit σ a m b +ℤ m) (plus-zero (debit σ a m b) m z) l ∙ still σ a (σ a -ℤ m) (minus-zero (σ a) m z) l
 
 -- ---- steps and turns
-
--- What has ended stays so.
-body-over : (turns : ℕ) (c : Call) (body : List Instr) (r : Result) → runBody turns c body (over r) ≡ r
-unfolding runBody
-body-over zero c body r = refl
-body-over (suc turns) c body r = refl
 
 none-taken : (fuel : ℕ) (v : View) (outcome count : ℕ) (cells : List ℤ) → stepsTaken fuel v (done outcome count cells) ≡ 0
 unfolding stepsTaken

@@ -40,7 +40,7 @@ use Rattle.footprint.specs.SafeSets.{CallBounded}
 use Rattle.rule.proofs.TurnLaws.{bodySteps}
 use Rattle.machine.specs.Action as action
 use Rattle.machine.specs.Action.{payAction, instrAction}
-use Rattle.block.specs.Outcomes.{thrown}
+use Rattle.block.specs.Outcomes.{thrown, outOfRange, zeroDivisor}
 use Rattle.machine.specs.Step.{View, Local, Performed, onward, ending, Stepped, damaged, more, done, cellAt, lookup, restorable, savedOf, restored, finish, concluded, loadCell, storeCell, depositCell, transferCells, perform, performAction}
 use Rattle.machine.specs.CallInRun.{stepTimes, stepsTaken, Hold, EndsAsRule, LeavesAsRule}
 use Rattle.machine.proofs.LookupLaws.{Covered, KeysInTable}
@@ -104,7 +104,7 @@ module _ (v : View) (table : List ℕ) (es : List Access) (made : MadeOf v table
 
   -- ---- the end of a call
 
-  -- "On 3, 4, 5 the same step restores every cell of the write set."
+  -- "On 3, 4, 5 the same step restores every cell of the write set", and on 6 of M-103.
   module _ (σ : State) (cells : List ℤ) (now : Now table (writeSet es) start σ cells) where
     finish-restores : (outcome count : ℕ) → ltb outcome thrown ≡ false → finish v kept outcome count cells ≡ done outcome count (restoredFrom table old es cells)
     unfolding finish
@@ -178,8 +178,8 @@ module _ (v : View) (table : List ℕ) (es : List Access) (made : MadeOf v table
         → Concludes (rule.assignChecked p ρ n σ x r) cells (performAction v (p + 1) n as′ (action.checkedAction (p + 1) ρ x r) cells)
     unfolding rule.assignChecked action.checkedAction perform
     checked-match as′ x (checked.Value value) = next-match (set ρ x value) σ cells now
-    checked-match as′ x checked.Overflow = end-match 4 refl
-    checked-match as′ x checked.ZeroDivisor = end-match 4 refl
+    checked-match as′ x checked.Overflow = end-match outOfRange refl
+    checked-match as′ x checked.ZeroDivisor = end-match zeroDivisor refl
 
     -- A loaded value is the state's; a balance is not below zero.
     load-match : (x k : ℕ) → Covered es (reading k) → (isBalance k && not (nonNeg (σ k))) ≡ false

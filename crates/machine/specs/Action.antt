@@ -6,7 +6,7 @@ use Prim.Native.Nat.{ℕ, _+_}
 use lib.IntN.{ℤ, pos}
 use lib.Signed.{ltZ, nonNeg}
 use lib.ListN.{getD, set}
-use Rattle.block.specs.Outcomes.{ended, balanceTooLow, thrown, noResult, notPaid}
+use Rattle.block.specs.Outcomes.{ended, balanceTooLow, thrown, outOfRange, notPaid, zeroDivisor}
 use Rattle.arith.specs.Choice.{if_then_else_}
 use Rattle.arith.specs.Exact.{addOf, subOf, mulOf, divOf}
 use Rattle.arith.specs.Compare.{eqZ}
@@ -37,11 +37,11 @@ register regs x = getD regs x (pos 0)
 abbrev pub assign : ℕ → List ℤ → ℕ → ℤ → Action
 assign place regs x v = doing (set regs x v) (Go (place + 1))
 
--- x takes an exact result; "a result outside 64 signed bits or a zero divisor with 4".
+-- x takes an exact result; "a result outside 64 signed bits .. with 4", and M-103: "DIV by zero shall end with outcome 6".
 unfoldable pub checkedAction : ℕ → List ℤ → ℕ → Checked → Action
 checkedAction place regs x (checked.Value v) = assign place regs x v
-checkedAction place regs x checked.Overflow = doing regs (End noResult)
-checkedAction place regs x checked.ZeroDivisor = doing regs (End noResult)
+checkedAction place regs x checked.Overflow = doing regs (End outOfRange)
+checkedAction place regs x checked.ZeroDivisor = doing regs (End zeroDivisor)
 
 -- "PAY with 5 if the amount is negative, the target no account, or the contract's balance lower", and M-101: to account 0 "as for a target that is no account".
 unfoldable pub payAction : List ℤ → ℤ → Payee → Action

@@ -7,7 +7,7 @@ use lib.ListN.{take, set}
 use Rattle.wire.specs.Bytes.{below}
 use Rattle.schedule.specs.declared.Move.the-variants.{Begin, Step, Cancel}
 use Rattle.block.specs.Assemble.{text, STOP, THROW, SET, PUT, function, cell, call, end}
-use Rattle.block.specs.Worked.{P, account0}
+use Rattle.block.specs.Worked.{P, account0, zeroDivisors}
 use Rattle.machine.specs.Answer.{answerNumber}
 use Rattle.machine.specs.Run.{Run, statusWord, outcomeWord, countWord, waitCount}
 use Rattle.machine.specs.Opening.{openedForEight}
@@ -224,9 +224,9 @@ unfoldable pub before7 : Run
 before7 =
     runAfter account0 (statusAt 31 0 start0) (Begin 0 7 ∷ Step 0 ∷ Step 0 ∷ Step 0 ∷ [])
 
--- A word of the status of each of the nine calls.
+-- A word of the status of each call.
 abbrev ofCalls : ℕ → Run → List ℕ
-ofCalls word r = map (λ call. statusWord (r .status) call word) (below 9)
+ofCalls word r = map (λ call. statusWord (r .status) call word) (below (r .head .calls))
 
 pub record Account0 : Type 0 where
   -- "PAY to account 0 ends with outcome 5": by source 0, in another contract, by the constant with amount 0, by an argument and by the sender, counted, and
@@ -255,4 +255,48 @@ payments-to-0 =
       waits = refl;
       unread = refl;
       sent = refl;
+    }
+
+-- M-103, "Zero divisors told apart". The table of this block has the balances of 5 and 32768, and fields 1, 2 and 3 of 32768, as cells 0 to 4.
+unfoldable pub startD : Run
+startD = openedForEight zeroDivisors
+
+-- Its serial run.
+unfoldable pub closedD : Run
+closedD = serialRun zeroDivisors startD
+
+-- Call 4, which divides by 0, before its DIV: the value has moved, and field 1 is 7.
+unfoldable pub atDiv : Run
+atDiv = runAfter zeroDivisors startD (Begin 0 4 ∷ Step 0 ∷ Step 0 ∷ Step 0 ∷ Step 0 ∷ [])
+
+-- It is finished.
+unfoldable pub behindDiv : Run
+behindDiv = runAfter zeroDivisors atDiv (Step 0 ∷ [])
+
+pub record Divisors : Type 0 where
+  -- "DIV by zero shall end with outcome 6": 0 by 0, -2^63 by 0, and 7 by 0; "4 keeps only results out of range": -2^63 by -1. The DIV is counted, and there is no
+  -- step behind it.
+  pub outcomes : ofCalls outcomeWord closedD ≡ 6 ∷ 6 ∷ 4 ∷ 0 ∷ 6 ∷ 0 ∷ []
+  pub counts : ofCalls countWord closedD ≡ 1 ∷ 4 ∷ 4 ∷ 5 ∷ 4 ∷ 5 ∷ []
+  pub stepped : map (serialSteps zeroDivisors startD) (below 6) ≡ 2 ∷ 5 ∷ 5 ∷ 7 ∷ 5 ∷ 7 ∷ []
+  pub closed : take 5 (closedD .cells) ≡ pos 0 ∷ pos 7 ∷ pos 3 ∷ negsuc (2 ^ 63 - 1) ∷ pos (2 ^ 62) ∷ []
+  -- "restoring as 4 does": the value and field 1 are as at the opening; the worker is free.
+  pub changed : take 3 (atDiv .cells) ≡ pos 0 ∷ pos 7 ∷ pos 7 ∷ []
+  pub restored : take 3 (behindDiv .cells) ≡ pos 7 ∷ pos 0 ∷ pos 9 ∷ []
+  pub freed : answersOf zeroDivisors behindDiv (Step 0 ∷ Begin 0 5 ∷ []) ≡ 26 ∷ 0 ∷ []
+  -- As on 4 the entries are needed, from word 131 of the plan on, and "kept old values are restored untested".
+  pub damaged : steps zeroDivisors (planAt 130 25 atDiv ∷ planAt 131 0 atDiv ∷ frameAt 8 (negsuc 4) atDiv ∷ []) ≡ 20 ∷ 20 ∷ 0 ∷ []
+
+pub zero-divisors : Divisors
+unfolding computing zeroDivisors startD closedD atDiv behindDiv
+zero-divisors =
+    record {
+      outcomes = refl;
+      counts = refl;
+      stepped = refl;
+      closed = refl;
+      changed = refl;
+      restored = refl;
+      freed = refl;
+      damaged = refl;
     }

@@ -175,7 +175,7 @@ stepPlace v place count regs cells =
     then ending ended count
     else stepInstr v place count regs cells
 
--- The end of a call. "On 3, 4, 5 the same step restores every cell of the write set."
+-- The end of a call. "On 3, 4, 5 the same step restores every cell of the write set"; M-103: on 6 "as 4 does".
 unfoldable pub finish : View → (saved : List ℤ) → (outcome count : ℕ) → (cells : List ℤ) → Stepped
 finish v saved outcome count cells =
     if ltb outcome thrown

@@ -197,8 +197,8 @@ fn freed() -> Seated
     }
 }
 
-// The end of a call. "On 3, 4, 5 the same step restores every cell of the write set"; behind all tests the receipt is written, and the numbers
-// of the calls that wait for it are lowered.
+// The end of a call. "On 3, 4, 5 the same step restores every cell of the write set", and on 6 "as 4 does"; behind all tests the receipt is
+// written, and the numbers of the calls that wait for it are lowered.
 fn finish(
     held: u16,
     calls: usize,

@@ -3,7 +3,7 @@
 use mathlib.Core.Path.{_≡_, refl}
 use mathlib.Core.List.{List}
 use mathlib.Core.Option.{Option, none, some}
-use Prim.Native.Nat.{ℕ, _+_}
+use Prim.Native.Nat.{ℕ, zero, suc, _+_}
 use native.Mathlib.Omega.{arith}
 use lib.IntN.{ℤ, pos}
 use lib.ListN.{getD}
@@ -14,13 +14,14 @@ use Rattle.arith.specs.declared.Checked.{Checked}
 use Rattle.arith.specs.declared.Checked.the-variants as checked
 use Rattle.wire.specs.Rows.{bit}
 use Rattle.block.specs.Key.{contractBalance}
+use Rattle.block.specs.Outcomes.{outOfRange, zeroDivisor}
 use Rattle.block.specs.declared.Call.{Call}
 use Rattle.block.specs.declared.Payee.{Payee}
 use Rattle.block.specs.declared.Payee.the-variants.{To, Nobody}
 use Rattle.block.specs.declared.Instr.{Instr}
 use Rattle.block.specs.declared.Instr.the-variants.{Stop, Throw, Set, Arg, Sender, Value, Add, Sub, Mul, Div, Get, Put, Bal, Pay, Jeq, Jlt}
 use Rattle.block.specs.Naming.{targetOf}
-use Rattle.rule.specs.Rule.{State, fails, Course, before, over, assignChecked, transfer, execute, executeAt, Left, settle}
+use Rattle.rule.specs.Rule.{State, Result, fails, Course, before, over, assignChecked, transfer, execute, executeAt, runBody, Left, settle}
 
 -- The steps of a body that is over: its counted instructions, and one for reaching the end.
 abbrev pub bodySteps : Left → ℕ
@@ -42,8 +43,8 @@ module _ (start : State) (c : Call) (p : ℕ) (ρ : List ℤ) (n : ℕ) (σ : St
   checked-one : (x : ℕ) (v : Checked) → Ok (assignChecked p ρ (n + 1) σ x v)
   unfolding assignChecked
   checked-one x (checked.Value v) = refl
-  checked-one x checked.Overflow = failed 4
-  checked-one x checked.ZeroDivisor = failed 4
+  checked-one x checked.Overflow = failed outOfRange
+  checked-one x checked.ZeroDivisor = failed zeroDivisor
 
   transfer-one : (amount : ℤ) (payee : Payee) → Ok (transfer c p ρ (n + 1) σ amount payee)
   unfolding transfer
@@ -75,3 +76,9 @@ module _ (start : State) (c : Call) (p : ℕ) (ρ : List ℤ) (n : ℕ) (σ : St
   unfolding executeAt settle
   turn-one none = refl
   turn-one (some i) = execute-one i
+
+-- What has ended stays so.
+pub body-over : (turns : ℕ) (c : Call) (body : List Instr) (r : Result) → runBody turns c body (over r) ≡ r
+unfolding runBody
+body-over zero c body r = refl
+body-over (suc turns) c body r = refl

@@ -8,7 +8,7 @@ use lib.IntN.{ℤ, pos, _+ℤ_, _-ℤ_}
 use lib.Signed.{ltZ, nonNeg}
 use lib.Dec.{eqb}
 use lib.ListN.{length, getD, getElem?, drop, set}
-use Rattle.block.specs.Outcomes.{ended, unknownFunction, balanceTooLow, thrown, noResult, notPaid}
+use Rattle.block.specs.Outcomes.{ended, unknownFunction, balanceTooLow, thrown, outOfRange, notPaid, zeroDivisor}
 use Rattle.arith.specs.Choice.{if_then_else_}
 use Rattle.arith.specs.Exact.{addOf, subOf, mulOf, divOf}
 use Rattle.arith.specs.Balance.{withinLimit}
@@ -69,11 +69,11 @@ value ρ x = getD ρ x (pos 0)
 abbrev assign : ℕ → List ℤ → ℕ → State → ℕ → ℤ → Course
 assign p ρ n σ x v = before (p + 1) (set ρ x v) n σ
 
--- x := an exact result, or failure with 4.
+-- x := an exact result, or failure: with 4 where it is outside 64 signed bits, by M-103 with 6 where the divisor is zero.
 unfoldable pub assignChecked : ℕ → List ℤ → ℕ → State → ℕ → Checked → Course
 assignChecked p ρ n σ x (checked.Value v) = assign p ρ n σ x v
-assignChecked p ρ n σ x checked.Overflow = over (fails noResult n)
-assignChecked p ρ n σ x checked.ZeroDivisor = over (fails noResult n)
+assignChecked p ρ n σ x checked.Overflow = over (fails outOfRange n)
+assignChecked p ρ n σ x checked.ZeroDivisor = over (fails zeroDivisor n)
 
 -- B.transfer(amount): failure with 5 where the amount is negative, B no account (or, by M-101, account 0: nobody is paid), or the contract's balance lower.
 unfoldable pub transfer : Call → ℕ → List ℤ → ℕ → State → ℤ → Payee → Course

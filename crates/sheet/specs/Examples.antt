@@ -1,15 +1,16 @@
--- The sheet's answers 20, 27 and 28, and its bytes, computed on block P's run.
+-- The sheet's answers 20, 27 and 28, and its bytes, computed on block P's run; and the sheet of the block of divisions, whose receipts have a 6.
 use mathlib.Core.Path.{_≡_, refl}
 use mathlib.Core.List.{List, [], _∷_, _++_, map, flatten}
-use Prim.Native.Nat.{ℕ, _+_}
+use Prim.Native.Nat.{ℕ, _+_, _-_, _^_}
 use lib.IntN.{pos, negsuc}
 use Rattle.wire.specs.Bytes.{repeated, below}
 use Rattle.block.specs.Record.{recordOf}
 use Rattle.block.specs.Assemble.{cell, end}
-use Rattle.block.specs.Worked.{P}
+use Rattle.block.specs.Worked.{P, zeroDivisors}
 use Rattle.machine.specs.Run.{Run}
 use Rattle.machine.specs.Opening.{openedForEight}
 use Rattle.machine.specs.Serial.{serialRun}
+use Rattle.machine.specs.Examples.{startD, closedD}
 use Rattle.machine.specs.Damage.{tooShort, valueAt, statusAt, callsAs, cellsAs, workersAs}
 use Rattle.sheet.specs.Sheet.{closingNumber, closingLength, sheetOf, sheetRecords, sheetBytes, recordOffset, nextFile}
 use Rattle.sheet.specs.Computing.{computing}
@@ -71,12 +72,12 @@ pub record Sheet-P : Type 0 where
   pub numbers : closings (callsAs 257 closed ∷ cellsAs 1025 closed ∷ workersAs 0 closed ∷ []) ≡ 20 ∷ 20 ∷ 0 ∷ []
   pub states : closings (statusAt 0 3 closed ∷ statusAt 0 3 (openedForEight P) ∷ []) ≡ 20 ∷ 20 ∷ []
   pub balances : closings (valueAt 1 (negsuc 0) closed ∷ valueAt 3 (negsuc 0) closed ∷ []) ≡ 20 ∷ 0 ∷ []
-  pub receipts : closings (statusAt 1 6 closed ∷ statusAt 2 65 closed ∷ statusAt 2 64 closed ∷ []) ≡ 20 ∷ 20 ∷ 0 ∷ []
+  pub receipts : closings (statusAt 1 6 closed ∷ statusAt 1 7 closed ∷ statusAt 2 65 closed ∷ statusAt 2 64 closed ∷ []) ≡ 0 ∷ 20 ∷ 20 ∷ 0 ∷ []
   -- With an output too short, what 28 uses is still 20, and what only the writing uses is not looked at: the number of cells and a balance
   -- come before 28, an outcome and a count behind it.
   pub before-28 : shortClosings (cellsAs 1025 closed ∷ valueAt 1 (negsuc 0) closed ∷ closed ∷ []) ≡ 20 ∷ 20 ∷ 28 ∷ []
-  pub behind-28 : shortClosings (statusAt 1 6 closed ∷ statusAt 2 65 closed ∷ []) ≡ 28 ∷ 28 ∷ []
-  pub both : shortClosings (valueAt 1 (negsuc 0) (statusAt 1 6 closed) ∷ []) ≡ 20 ∷ []
+  pub behind-28 : shortClosings (statusAt 1 7 closed ∷ statusAt 2 65 closed ∷ []) ≡ 28 ∷ 28 ∷ []
+  pub both : shortClosings (valueAt 1 (negsuc 0) (statusAt 1 7 closed) ∷ []) ≡ 20 ∷ []
 
 pub sheet-of-p : Sheet-P
 unfolding computing P closed recordsP sheetP tooShort
@@ -106,3 +107,26 @@ sheet-of-p =
       behind-28 = refl;
       both = refl;
     }
+
+-- M-103, "The receipts carry the new code": four cells and six receipts, of 148 bytes.
+unfoldable pub sheetD : List ℕ
+sheetD =
+    flatten
+    (cell 32768 0 0 0 (pos 7)
+    ∷ cell 32768 1 0 0 (pos 3)
+    ∷ cell 32768 2 0 0 (negsuc (2 ^ 63 - 1))
+    ∷ cell 32768 3 0 0 (pos (2 ^ 62))
+    ∷ recordOf 5 (6 ∷ 0 ∷ 1 ∷ 0 ∷ [])
+    ∷ recordOf 5 (6 ∷ 0 ∷ 4 ∷ 0 ∷ [])
+    ∷ recordOf 5 (4 ∷ 0 ∷ 4 ∷ 0 ∷ [])
+    ∷ recordOf 5 (0 ∷ 0 ∷ 5 ∷ 0 ∷ []) ∷ recordOf 5 (6 ∷ 0 ∷ 4 ∷ 0 ∷ []) ∷ recordOf 5 (0 ∷ 0 ∷ 5 ∷ 0 ∷ []) ∷ end ∷ [])
+
+pub record Sheet-D : Type 0 where
+  pub written : sheetOf closedD (repeated 148 9) .output ≡ sheetD
+  -- 20 for 7 in place of the first 6, where the output is unchanged.
+  pub seven : closingNumber (sheetOf (statusAt 1 7 closedD) (repeated 148 9) .answer) ≡ 20
+  pub unchanged : sheetOf (statusAt 1 7 closedD) (repeated 148 9) .output ≡ repeated 148 9
+
+pub sheet-of-d : Sheet-D
+unfolding computing zeroDivisors startD closedD sheetD
+sheet-of-d = record { written = refl; seven = refl; unchanged = refl }

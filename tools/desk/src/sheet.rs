@@ -3,6 +3,7 @@
 use runner::block::Kind;
 use runner::bytes::u16_at;
 use runner::emit::RECEIPT_KIND;
+use runner::execute::Outcome;
 use runner::key::Key;
 use runner::limits::{
     CELL_BYTES, HEAD_BYTES, MAX_CALLS, MAX_INSTRUCTIONS, MAX_KEYS, RECEIPT_BYTES,
@@ -12,7 +13,7 @@ use crate::records::{records, Record};
 use crate::words;
 
 /// The highest outcome.
-const LAST_OUTCOME: u16 = 5;
+const LAST_OUTCOME: u16 = Outcome::LAST as u16;
 /// The beginnings of the lines that REGISTER prints.
 const PRINTED: [&[u8]; 4] = [b"k ", b"t ", b"r ", b"e "];
 

@@ -10,6 +10,7 @@ use desk::trace::{play, Span, SpanEnd, Trace};
 use desk::{schedule, waits};
 use runner::assemble::assemble;
 use runner::console::register;
+use runner::execute::Outcome;
 use runner::limits::MAX_WORKERS;
 use runner::machine::{open, Opened};
 
@@ -159,7 +160,7 @@ fn a_crowded_day_has_every_outcome_and_refusal() {
     let spans = trace.spans();
     assert_eq!(
         BTreeSet::from_iter(outcomes(&trace)),
-        BTreeSet::from_iter(0..=5)
+        BTreeSet::from_iter(0..=Outcome::LAST.number())
     );
     assert_eq!(
         refusals(&trace),

@@ -4,7 +4,7 @@ use std::fmt::Write;
 
 use crate::code::{Instruction, MNEMONICS};
 use crate::console::{lines, parse};
-use crate::execute::Place;
+use crate::execute::{Outcome, Place};
 use crate::generate::Case;
 use crate::limits::MAX_WORKERS;
 use crate::machine::{open, Held, Machine, Move, Opened};
@@ -18,7 +18,7 @@ const SHEET_NUMBER: u16 = 27;
 /// One more than the largest number.
 const NUMBERS: usize = 1 + SHEET_NUMBER as usize;
 /// How many outcomes there are.
-const OUTCOMES: usize = 6;
+const OUTCOMES: usize = Outcome::LAST as usize + 1;
 
 /// Counts over cases.
 #[derive(Clone, Debug, Default)]

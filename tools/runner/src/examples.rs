@@ -1,4 +1,4 @@
-//! The examples of document 01, one of document 02, and those of document 003
+//! The examples of document 01, two of document 02, and those of document 003
 //! over the instructions, in the order of the documents. The files of `examples`
 //! hold them.
 
@@ -59,7 +59,7 @@ macro_rules! example {
 }
 
 /// All of them.
-pub const EXAMPLES: [Example; 26] = [
+pub const EXAMPLES: [Example; 27] = [
     example!("p", "block P of document 01"),
     example!("p_refused", "BEGIN(1, 1) first on P, STEP on an idle worker", on "p"),
     example!("divisions", "-7 by 2, 7 by -2, -2^63 by -1, 1 by 0"),
@@ -72,6 +72,10 @@ pub const EXAMPLES: [Example; 26] = [
     example!(
         "account_0",
         "document 02, M-101: payments to account 0, and what it sends"
+    ),
+    example!(
+        "zero_divisor",
+        "document 02, M-103: divisors of 0, and a quotient outside the range"
     ),
     example!("paper_ex5", "document 003, example 5, serially"),
     example!("paper_ex5_workers", "document 003, example 5, T2 ends before T1", on "paper_ex5"),

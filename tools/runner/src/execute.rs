@@ -18,15 +18,20 @@ pub enum Outcome {
     LowBalance = 2,
     /// THROW.
     Thrown = 3,
-    /// A result outside 64 signed bits, or a zero divisor.
-    Arithmetic = 4,
+    /// A result outside 64 signed bits.
+    OutOfRange = 4,
     /// PAY with a negative amount, to no account or to account 0, or above the
     /// balance.
     Payment = 5,
+    /// DIV by zero, whatever is divided (document 02, M-103).
+    ZeroDivisor = 6,
 }
 
 impl Outcome {
-    /// The number of document 01.
+    /// The one with the highest number.
+    pub const LAST: Outcome = Outcome::ZeroDivisor;
+
+    /// The number of document 01, or 02.
     pub fn number(self) -> u16 {
         self as u16
     }
@@ -35,7 +40,7 @@ impl Outcome {
     pub(crate) fn aborts(self) -> bool {
         matches!(
             self,
-            Outcome::Thrown | Outcome::Arithmetic | Outcome::Payment
+            Outcome::Thrown | Outcome::OutOfRange | Outcome::Payment | Outcome::ZeroDivisor
         )
     }
 }
@@ -162,8 +167,8 @@ fn execute(
         Instruction::Value { x } => registers[x] = call.value,
         Instruction::Arithmetic { operation, x, y, z } => {
             match calculate(operation, registers[y], registers[z]) {
-                Some(result) => registers[x] = result,
-                None => return Flow::End(Outcome::Arithmetic),
+                Ok(result) => registers[x] = result,
+                Err(outcome) => return Flow::End(outcome),
             }
         }
         Instruction::Get { x, cell } => registers[x] = cells.get(&cell_key(call, cell)),
@@ -183,23 +188,24 @@ fn execute(
     Flow::Next
 }
 
-/// The result, or `None` if it is outside 64 signed bits or the divisor is 0.
-pub(crate) fn calculate(operation: Operation, y: i64, z: i64) -> Option<i64> {
+/// The result, or the outcome for a divisor of 0 or a result outside 64 signed
+/// bits.
+pub(crate) fn calculate(operation: Operation, y: i64, z: i64) -> Result<i64, Outcome> {
     let (y, z) = (i128::from(y), i128::from(z));
     let exact = match operation {
         Operation::Add => y + z,
         Operation::Sub => y - z,
         Operation::Mul => y * z,
-        Operation::Div => floor_quotient(y, z)?,
+        Operation::Div if z == 0 => return Err(Outcome::ZeroDivisor),
+        Operation::Div => floor_quotient(y, z),
     };
-    i64::try_from(exact).ok()
+    i64::try_from(exact).map_err(|_| Outcome::OutOfRange)
 }
 
-/// The quotient rounded toward minus infinity.
-fn floor_quotient(y: i128, z: i128) -> Option<i128> {
-    let toward_zero = y.checked_div(z)?;
+/// The quotient rounded toward minus infinity. The divisor is not 0.
+fn floor_quotient(y: i128, z: i128) -> i128 {
     let rounded_up = y % z != 0 && (y < 0) != (z < 0);
-    Some(toward_zero - i128::from(rounded_up))
+    y / z - i128::from(rounded_up)
 }
 
 /// Whether the test of a jump holds.

@@ -198,4 +198,5 @@ fn answers_are_told() {
     assert_eq!(refusal.number(), 10);
     assert_eq!(Answer::WorkerIdle.to_string(), "worker holds none");
     assert_eq!(Outcome::NotPaid.number(), 5);
+    assert_eq!(Outcome::ZeroDivisor.number(), 6);
 }

@@ -1,5 +1,7 @@
 //! What the colours and marks of a schedule mean.
 
+use runner::execute::Outcome;
+
 use super::scale::Band;
 use super::{bars, count, Chart, GAP, STEP_ROOM};
 use crate::markup::{Attributes, Markup};
@@ -72,7 +74,7 @@ impl Chart<'_> {
     fn bar_items(&self) -> Vec<(Sample, String)> {
         let finished = |span: &&Span| matches!(span.end, SpanEnd::Finished(_));
         let example = self.spans.iter().find(finished).map(named);
-        let outcomes = (0..=5).filter_map(|number| self.outcome_item(number));
+        let outcomes = (0..=Outcome::LAST.number()).filter_map(|number| self.outcome_item(number));
         let mut items: Vec<_> = example.into_iter().chain(outcomes).collect();
         let cancelled = self.ended(|end| end == SpanEnd::Cancelled);
         if cancelled > 0 {

@@ -43,8 +43,9 @@ pub fn outcome(outcome: u16) -> &'static str {
         1 => "unknown function",
         2 => "the sender's balance is below the value",
         3 => "thrown",
-        4 => "a result outside 64 signed bits or a zero divisor",
+        4 => "a result outside 64 signed bits",
         5 => "a payment that cannot be made",
+        6 => "a divisor of zero",
         _ => "no outcome",
     }
 }

@@ -57,34 +57,40 @@ fn each_outcome_has_its_reason() {
 
 #[test]
 fn failed_arithmetic_has_its_numbers() {
-    let fails = |code: &str, call: &str, reason: &str| {
+    let call = "call 5 32768 0 0 4294967295";
+    let fails = |code: &str, outcome: &str, reason: &str| {
         let found = receipt(&format!("function 32768 0\n{code}"), call);
-        assert!(found.starts_with("t 0 4 "), "{found}");
+        assert!(found.contains(&format!("ended with outcome {outcome}, after")));
         assert!(
             found.ends_with(&format!("{reason}; its cells are restored")),
             "{found}"
         );
     };
-    let call = "call 5 32768 0 0 4294967295";
-    fails("set r0 7\ndiv r1 r0 r2", call, "div r1 r0 r2: 7 / 0");
-    let large = "arg r0 arg1\nmul r0 r0 r0\n";
+    let by_zero = "6, a divisor of zero";
+    fails("set r0 7\ndiv r1 r0 r2", by_zero, "div r1 r0 r2: 7 / 0");
     let outside = "is outside 64 signed bits";
+    let over = "4, a result outside 64 signed bits";
     fails(
-        large,
-        call,
+        "arg r0 arg1\nmul r0 r0 r0\n",
+        over,
         &format!("mul r0 r0 r0: 4294967295 * 4294967295 {outside}"),
     );
     let half = "set r0 2147483647\nset r1 2147483647\nmul r0 r0 r1\nadd r0 r0 r0\nadd r0 r0 r0\n";
     fails(
         half,
-        call,
+        over,
         &format!("add r0 r0 r0: 9223372028264841218 + 9223372028264841218 {outside}"),
     );
-    let below = "set r0 -2147483648\nmul r0 r0 r0\nsub r1 r2 r0\nsub r1 r1 r0\nsub r1 r1 r0\n";
+    let below = "set r0 -2147483648\nmul r0 r0 r0\nsub r1 r2 r0\nsub r1 r1 r0\n";
     fails(
-        below,
-        call,
+        &format!("{below}sub r1 r1 r0\n"),
+        over,
         &format!("sub r1 r1 r0: -9223372036854775808 - 4611686018427387904 {outside}"),
+    );
+    fails(
+        &format!("{below}set r2 -1\ndiv r1 r1 r2\n"),
+        over,
+        &format!("div r1 r1 r2: -9223372036854775808 / -1 {outside}"),
     );
 }
 

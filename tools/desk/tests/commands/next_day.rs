@@ -207,8 +207,8 @@ fn a_damaged_sheet_is_refused_with_its_offset() {
         "offset 24: balance of account 6: the keys of cells rise",
     );
     sheet_fails(
-        "raw 04000500 0600 0000\nend",
-        "offset 0: outcome 6: outcomes are 0 to 5",
+        "raw 04000500 0700 0000\nend",
+        "offset 0: outcome 7: outcomes are 0 to 6",
     );
     sheet_fails(
         "raw 04000500 0000 4100\nend",

@@ -71,8 +71,10 @@ fn refused_lines_stand_in_lanes_with_their_numbers() {
 #[test]
 fn an_outcome_of_each_kind_of_bar_is_in_the_legend() {
     let picture = picture(&of_example("divisions"), serially(4, 66).as_bytes());
-    assert_eq!(bars(&picture, "outcome4"), 2 + 1);
-    assert!(picture.contains("outcome 4: "));
+    for (outcome, calls) in [(0, 2), (4, 1), (6, 1)] {
+        assert_eq!(bars(&picture, &format!("outcome{outcome}")), calls + 1);
+        assert!(picture.contains(&format!("outcome {outcome}: ")));
+    }
 }
 
 #[test]

@@ -161,8 +161,8 @@ impl Stepping<'_> {
             Instruction::Value { x } => self.registers[x] = self.call.value,
             Instruction::Arithmetic { operation, x, y, z } => {
                 match calculate(operation, self.registers[y], self.registers[z]) {
-                    Some(result) => self.registers[x] = result,
-                    None => return Ok(Turn::Ends(Outcome::Arithmetic)),
+                    Ok(result) => self.registers[x] = result,
+                    Err(outcome) => return Ok(Turn::Ends(outcome)),
                 }
             }
             Instruction::Get { x, cell } => {

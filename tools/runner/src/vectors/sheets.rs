@@ -200,7 +200,7 @@ fn damage(rng: &mut Rng, run: &Run, target: Target) -> Option<Operation> {
                 value: run.keys[index] ^ flipped,
             }
         }
-        Target::Outcome => status(OUTCOME, rng.pick(&[5, 6, 6, 65_536, u64::MAX])),
+        Target::Outcome => status(OUTCOME, rng.pick(&[6, 7, 7, 65_536, u64::MAX])),
         Target::Count => {
             let most = MAX_INSTRUCTIONS as u64;
             status(

@@ -5,6 +5,7 @@
 use super::damage::repair;
 use super::{Buffer, Case, HeadField, Operation, Player};
 use crate::assemble::assemble;
+use crate::execute::Outcome;
 use crate::lent::{Sizes, FINISHED, PLAN_WORDS, ROW, RUNNING, STATE, STATUS_WORDS, WAITING, WAITS};
 use crate::limits::{MAX_CALLS, MAX_WORKERS};
 use crate::machine::Move;
@@ -17,7 +18,7 @@ struct Ending {
 }
 
 /// A function of each outcome, by the outcome's number.
-const ENDINGS: [Ending; 6] = [
+const ENDINGS: [Ending; Outcome::LAST as usize + 1] = [
     Ending {
         function: "function 32768 0\nset r0 1\nput r0 1 zero zero\n",
         value: 0,
@@ -39,12 +40,18 @@ const ENDINGS: [Ending; 6] = [
         steps: 4,
     },
     Ending {
-        function: "function 32768 0\nset r0 1\nput r0 1 zero zero\ndiv r0 r0 r1\n",
+        function: "function 32768 0\nset r0 -2147483648\nput r0 1 zero zero\n\
+                   mul r1 r0 r0\nadd r1 r1 r1\n",
+        value: 2,
+        steps: 5,
+    },
+    Ending {
+        function: "function 32768 0\nset r0 3\nput r0 1 zero zero\npay r0 const 7\n",
         value: 2,
         steps: 4,
     },
     Ending {
-        function: "function 32768 0\nset r0 3\nput r0 1 zero zero\npay r0 const 7\n",
+        function: "function 32768 0\nset r0 1\nput r0 1 zero zero\ndiv r0 r0 r1\n",
         value: 2,
         steps: 4,
     },

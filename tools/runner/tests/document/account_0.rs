@@ -1,16 +1,13 @@
 //! Document 02, M-101: no more money goes to account 0, which may still send.
 
-use runner::cells::Cells;
 use runner::execute::Outcome;
 use runner::inspect::inspect;
 use runner::key::{Account, Key};
 use runner::lent::FINISHED;
-use runner::machine::open;
-use runner::rng::Rng;
 use runner::serial;
 use runner::sets::{instruction_uses, Use};
 
-use crate::lent::{begin, drawn, lent, moved, step, RUNS};
+use crate::lent::{begin, each_drawn_call, lent, moved, step};
 use crate::{block, opened, refusal, serially};
 
 /// Account 0's balance, and that of the called contract.
@@ -173,30 +170,23 @@ fn a_lent_run_looks_at_no_balance_for_it() {
 /// is in the sets of the calls that it sends with a value, and of no other.
 #[test]
 fn account_0_only_loses_what_it_sends() {
-    let mut rng = Rng::new(101);
     let (mut sent, mut paid) = (0, 0);
-    for index in 0..RUNS {
-        let (bytes, workers) = drawn(&mut rng, index);
-        let Ok(opened) = open(&bytes, workers) else {
-            continue;
-        };
-        let mut cells = Cells::opening(&opened.block.opening);
-        for (number, call) in opened.block.calls.iter().enumerate() {
-            let before = cells.get(&balance(ACCOUNT_0));
-            let ended = serial::run_call(&opened, number, &mut cells, |_| {});
-            let sends = call.sender.address() == ACCOUNT_0;
-            let done = ended.receipt.outcome == Outcome::Done;
-            let left = if sends && done { call.value } else { 0 };
-            assert_eq!(cells.get(&balance(ACCOUNT_0)), before - left);
+    each_drawn_call(101, |opened, number, cells| {
+        let call = &opened.block.calls[number];
+        let before = cells.get(&balance(ACCOUNT_0));
+        let ended = serial::run_call(opened, number, cells, |_| {});
+        let sends = call.sender.address() == ACCOUNT_0;
+        let done = ended.receipt.outcome == Outcome::Done;
+        let left = if sends && done { call.value } else { 0 };
+        assert_eq!(cells.get(&balance(ACCOUNT_0)), before - left);
 
-            let known = opened.block.code(call).is_some();
-            let sets = &opened.sets[number];
-            let written = sets.writes.contains(&balance(ACCOUNT_0));
-            assert_eq!(written, known && sends && call.value > 0);
-            assert_eq!(sets.reads.contains(&balance(ACCOUNT_0)), written);
-            sent += usize::from(left > 0);
-            paid += usize::from(sets.writes.contains(&balance(7)));
-        }
-    }
+        let known = opened.block.code(call).is_some();
+        let sets = &opened.sets[number];
+        let written = sets.writes.contains(&balance(ACCOUNT_0));
+        assert_eq!(written, known && sends && call.value > 0);
+        assert_eq!(sets.reads.contains(&balance(ACCOUNT_0)), written);
+        sent += usize::from(left > 0);
+        paid += usize::from(sets.writes.contains(&balance(7)));
+    });
     assert!(sent > 10 && paid > 10, "{sent} {paid}");
 }

@@ -3,6 +3,7 @@
 
 use std::collections::BTreeMap;
 
+use runner::execute::Outcome;
 use runner::lent::{FINISHED, OUTCOME};
 use runner::vectors::damage::Moment::{self, Begin, Cancel, Early, Ends, Goes, Restores};
 use runner::vectors::moves::cases;
@@ -101,17 +102,18 @@ fn every_kind_of_damaged_count_is_met() {
 
 /// What the moves of the fixed cases answer: the last step of a call of each
 /// outcome, then the others.
-const FIXED: [&[u16]; 11] = [
+const FIXED: [&[u16]; 12] = [
     &[0, 0, 0, 0, 20, 20, 20, 20, 20, 20, 0, 20, 0, 24, 25],
     &[0, 20, 20, 20, 20, 20, 20, 0, 20, 0, 24, 25],
     &[0, 20, 20, 20, 20, 20, 20, 0, 20, 0, 24, 25],
     &[0, 0, 0, 0, 20, 20, 20, 20, 20, 20, 0, 20, 0, 24, 25],
+    &[0, 0, 0, 0, 0, 20, 20, 20, 20, 20, 20, 0, 20, 0, 24, 25],
     &[0, 0, 0, 0, 20, 20, 20, 20, 20, 20, 0, 20, 0, 24, 25],
     &[0, 0, 0, 0, 20, 20, 20, 20, 20, 20, 0, 20, 0, 24, 25],
     &[25, 20, 20, 25, 25, 25, 20, 20, 0, 0, 0, 0, 0, 25, 20, 0],
     &[0, 0, 0, 0, 0, 20, 0, 0],
     &[0, 0, 0, 0, 0, 0, 0, 0, 0, 0, 25, 25, 0],
-    &[0, 0, 0, 0, 20, 20, 0],
+    &[0, 0, 0, 0, 0, 20, 20, 0],
     &[0, 0, 0, 0, 0, 20, 0, 0, 0],
 ];
 
@@ -131,7 +133,7 @@ fn the_fixed_cases_answer_as_they_should() {
 
 #[test]
 fn the_fixed_finishes_are_of_each_outcome_and_lower_alike() {
-    for (outcome, case) in waits::cases()[..6].iter().enumerate() {
+    for (outcome, case) in waits::cases()[..=Outcome::LAST as usize].iter().enumerate() {
         let mut player = Player::open(&case.block, case.workers, case.sizes).1;
         for operation in &case.operations {
             player.play(*operation);

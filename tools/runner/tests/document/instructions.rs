@@ -70,7 +70,7 @@ fn arithmetic() {
 }
 
 #[test]
-fn results_outside_64_bits_and_a_zero_divisor() {
+fn results_outside_64_bits() {
     let least = "get r1 1 zero zero\nset r2 -1";
     let largest = "get r1 2 zero zero\nset r2 1";
     ends(&format!("{largest}\nadd r0 r1 r2"), 4, 3);
@@ -79,7 +79,6 @@ fn results_outside_64_bits_and_a_zero_divisor() {
     ends(&format!("{least}\nsub r0 r2 r1\nsub r0 r0 r1"), 4, 4);
     ends(&format!("{least}\nmul r0 r1 r2"), 4, 3);
     ends(&format!("{least}\ndiv r0 r1 r2"), 4, 3);
-    ends("div r0 r1 r2", 4, 1);
     leaves(&format!("{least}\nsub r0 r2 r1"), i64::MAX);
     leaves(&format!("{largest}\ndiv r0 r1 r2"), i64::MAX);
 }

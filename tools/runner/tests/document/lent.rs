@@ -1,10 +1,11 @@
 //! Lent runs: their opening, their agreement with the machine, and refusal 20.
 
+use runner::cells::Cells;
 use runner::console::{lines, parse};
 use runner::generate::draft::{Draft, CALCULATING, MIXED, PAYING, TOUCHING};
 use runner::generate::{moves, COMPLETE};
 use runner::lent::{key_words, open, Run, Sizes, FINISHED, RUNNING, STATUS_WORDS, WAITING};
-use runner::machine::{self, Machine, Move, State};
+use runner::machine::{self, Machine, Move, Opened, State};
 use runner::rng::Rng;
 use runner::serial;
 
@@ -52,6 +53,22 @@ pub(crate) fn moved(text: &str, passing: &[Move]) -> (Run, Vec<u8>) {
 pub(crate) fn drawn(rng: &mut Rng, index: usize) -> (Vec<u8>, usize) {
     let shape = [MIXED, TOUCHING, PAYING, CALCULATING][index % 4];
     (Draft::random(rng, shape).bytes(), rng.between(1, 8))
+}
+
+/// Each call of random blocks, in block order, with the cells that those before
+/// it left.
+pub(crate) fn each_drawn_call(seed: u64, mut seen: impl FnMut(&Opened, usize, &mut Cells)) {
+    let mut rng = Rng::new(seed);
+    for index in 0..RUNS {
+        let (bytes, workers) = drawn(&mut rng, index);
+        let Ok(opened) = machine::open(&bytes, workers) else {
+            continue;
+        };
+        let mut cells = Cells::opening(&opened.block.opening);
+        for call in 0..opened.block.calls.len() {
+            seen(&opened, call, &mut cells);
+        }
+    }
 }
 
 /// The number that a move answers, 0 if it passes. A refused move changes
@@ -485,7 +502,7 @@ fn a_finishing_step_leaves_seat_and_frame() {
         (
             "function 32768 0\nset r0 1\ndiv r0 r0 r1\ncall 5 32768 0 0\nend",
             2,
-            4,
+            6,
             2,
         ),
         ("call 5 32768 0 0\nend", 0, 1, 0),

@@ -19,6 +19,7 @@ mod sheet;
 mod tally;
 mod vectors;
 mod waits;
+mod zero_divisor;
 
 use runner::assemble::assemble;
 use runner::console::register;

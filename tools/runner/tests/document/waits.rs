@@ -370,9 +370,11 @@ throw",
         (
             4,
             "function 32768 0
-div r0 r0 r0",
+set r0 -2147483648
+mul r0 r0 r0
+add r0 r0 r0",
             0,
-            2,
+            4,
         ),
         (
             5,
@@ -381,6 +383,13 @@ set r0 1
 pay r0 const 7",
             0,
             3,
+        ),
+        (
+            6,
+            "function 32768 0
+div r0 r0 r0",
+            0,
+            2,
         ),
     ] {
         let calls = format!(
