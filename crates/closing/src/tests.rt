@@ -60,7 +60,7 @@ pub(crate) fn all_finished(status: &[u64], calls: usize) -> bool
     true
 }
 
-// A receipt's outcome is one of the six, and its count at most that of the longest code.
+// A receipt's outcome and count are in their ranges.
 fn receipt_allowed(outcome: u64, count: u64) -> bool
     ensures { λ r. ⌜ r ≡ (leb outcome lastOutcome && leb count maxCount) ⌝ }
 {
