@@ -18,7 +18,12 @@ static int failures = 0;
 /* A block of an end alone, and one of a call of an unknown function. */
 static const uint8_t none[] = {0, 0, 4, 0};
 static const uint8_t one[] = {
-    30, 0, 3, 0, 5, 0, 0, 128, 0, 0, 0, 0, 0, 0, 0, 0, 0, 0, 0, 0, 0, 0, 0, 0, 0, 0, 0, 0, 0, 0, 0, 0, 0, 0, 0, 0, 4, 0,
+    32, 0, 3, 0, 5, 0, 0, 128, 0, 0, 0, 0, 0, 0, 0, 0, 0, 0, 0, 0, 0, 0, 0, 0, 0, 0, 0, 0, 0, 0, 0, 0, 0, 0, 64, 0, 0, 0, 4, 0,
+};
+/* A block of a function that jumps to its own index for ever, and of a call of it with fuel 2. */
+static const uint8_t loop[] = {
+    12, 0, 1, 0, 0, 128, 0, 0, 14, 0, 0, 0, 0, 0, 0, 0,
+    32, 0, 3, 0, 5, 0, 0, 128, 0, 0, 0, 0, 0, 0, 0, 0, 0, 0, 0, 0, 0, 0, 0, 0, 0, 0, 0, 0, 0, 0, 0, 0, 0, 0, 2, 0, 0, 0, 4, 0,
 };
 
 static uint64_t head[ZUMBIQA_HEAD_SIZE + 1], plan[ZUMBIQA_PLAN_SIZE], keys[ZUMBIQA_KEYS_SIZE];
@@ -77,12 +82,26 @@ static void test_moves(void) {
     EXPECT(ZUMBIQA_ACCEPTED, zumbiqa_step(ZUMBIQA_SLICE(one), RUN, 0));
     EXPECT(ZUMBIQA_WORKER_IDLE, zumbiqa_step(ZUMBIQA_SLICE(one), RUN, 0));
     EXPECT(ZUMBIQA_FINISHED, status[ZUMBIQA_STATUS_STATE]);
-    EXPECT(1, status[ZUMBIQA_STATUS_OUTCOME]);
+    EXPECT(ZUMBIQA_UNKNOWN_FUNCTION, status[ZUMBIQA_STATUS_OUTCOME]);
     EXPECT(ZUMBIQA_ACCEPTED, zumbiqa_sheet(RUN, ZUMBIQA_SLICE(sheet), &length));
     EXPECT(12, length);
 }
 
-/* The serial run ends the same call. */
+/* A call that loops takes its entry, as many steps as it has fuel, and one that ends it with outcome 7. */
+static void test_fuel(void) {
+    uint64_t offset = 7;
+    EXPECT(ZUMBIQA_OPENED, zumbiqa_open(ZUMBIQA_SLICE(loop), 1, RUN, &offset));
+    EXPECT(ZUMBIQA_ACCEPTED, zumbiqa_begin(RUN, 0, 0));
+    for (int step = 0; step < 4; step++) {
+        EXPECT(ZUMBIQA_RUNNING, status[ZUMBIQA_STATUS_STATE]);
+        EXPECT(ZUMBIQA_ACCEPTED, zumbiqa_step(ZUMBIQA_SLICE(loop), RUN, 0));
+    }
+    EXPECT(ZUMBIQA_FINISHED, status[ZUMBIQA_STATUS_STATE]);
+    EXPECT(ZUMBIQA_OUT_OF_FUEL, status[ZUMBIQA_STATUS_OUTCOME]);
+    EXPECT(2, status[ZUMBIQA_STATUS_COUNT]);
+}
+
+/* The serial run ends the call of an unknown function. */
 static void test_serial_run(void) {
     uint64_t offset = 7;
     EXPECT(ZUMBIQA_OPENED, zumbiqa_open(ZUMBIQA_SLICE(one), 1, RUN, &offset));
@@ -116,6 +135,7 @@ int main(void) {
     test_sizes();
     test_no_calls();
     test_moves();
+    test_fuel();
     test_serial_run();
     test_short_heads();
     return failures != 0;

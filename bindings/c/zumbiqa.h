@@ -58,7 +58,8 @@ enum zumbiqa_head_word {
     ZUMBIQA_HEAD_HELD = 4
 };
 
-/* The words of a call in the status: word k of call c is at ZUMBIQA_STATUS_WORDS * c + k. Outcome and count are those of a finished call. */
+/* The words of a call in the status: word k of call c is at ZUMBIQA_STATUS_WORDS * c + k. Outcome (0 to 7) and count (0 to 65,535) are
+ * those of a finished call. */
 #define ZUMBIQA_STATUS_WORDS 4
 
 enum zumbiqa_status_word {
@@ -71,6 +72,18 @@ enum zumbiqa_state {
     ZUMBIQA_WAITING = 0,
     ZUMBIQA_RUNNING = 1,
     ZUMBIQA_FINISHED = 2
+};
+
+/* How a finished call ended. From ZUMBIQA_THROWN on its cells were restored. */
+enum zumbiqa_outcome {
+    ZUMBIQA_ENDED = 0,
+    ZUMBIQA_UNKNOWN_FUNCTION = 1,
+    ZUMBIQA_VALUE_NOT_COVERED = 2,
+    ZUMBIQA_THROWN = 3,
+    ZUMBIQA_OUT_OF_RANGE = 4,
+    ZUMBIQA_NOT_PAID = 5,
+    ZUMBIQA_ZERO_DIVISOR = 6,
+    ZUMBIQA_OUT_OF_FUEL = 7
 };
 
 /* What an opening answers. */

@@ -30,6 +30,8 @@ pub enum Outcome {
     NotPaid = 5,
     /// DIV by zero.
     ZeroDivisor = 6,
+    /// An instruction was due when the count was the call's fuel.
+    OutOfFuel = 7,
 }
 
 impl Outcome {
@@ -47,6 +49,7 @@ impl Outcome {
             4 => Outcome::OutOfRange,
             5 => Outcome::NotPaid,
             6 => Outcome::ZeroDivisor,
+            7 => Outcome::OutOfFuel,
             _ => unreachable!("a finished call has outcome {number}"),
         }
     }
@@ -57,7 +60,7 @@ impl Outcome {
 pub struct Receipt {
     /// How it ended.
     pub outcome: Outcome,
-    /// How many instructions it executed.
+    /// How many instructions it executed, at most its fuel.
     pub count: u64,
 }
 

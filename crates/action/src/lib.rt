@@ -77,9 +77,9 @@ fn act(c: Call, place: u32, regs: [i64; 8], i: Instr) -> Action
 
 // What the bytes at a position of the code hold, which are the instruction at `index` of `size`, and what the call does there.
 pub fn act_at(code: &[u8], at: usize, index: u16, size: u16, c: Call, regs: [i64; 8]) -> Acted
-    ensures { λ r. ⌜ r ≡ actedOf c (index + 1) regs (decode index size (drop at (now (code .entry)))) ⌝ }
+    ensures { λ r. ⌜ r ≡ actedOf c (index + 1) regs (decode size (drop at (now (code .entry)))) ⌝ }
 {
-    let decoded = decode(code, at, index as usize, size as usize);
+    let decoded = decode(code, at, size as usize);
     match decoded {
         Decoded::Valid(i) => Acted {
             decoded,

@@ -71,13 +71,13 @@ pub code-sets : (file : List ℕ) (code : Code) (c : Call) (f : Option Function)
     → codeSets file code c ≡ functionSets file c f
 unfolding codeSets functionSets codeWords
 code-sets file code c none e =
-    if-true [] (mergeAll (mergeAll [] (entryAccesses c)) (codeAccesses c (code .length - 1) 0 (code .length - 1) (codeAt file (code .start) (code .length - 1))))
+    if-true [] (mergeAll (mergeAll [] (entryAccesses c)) (codeAccesses c (code .length - 1) (code .length - 1) (codeAt file (code .start) (code .length - 1))))
     (eq-eqb (code .length) 0 (ap (λ (l : List ℕ). getD l 1 0) e))
 code-sets file code c (some f) e =
     let start : code .start ≡ f .start = ap (λ (l : List ℕ). getD l 0 0) e in
     let long : code .length ≡ f .size + 1 = ap (λ (l : List ℕ). getD l 1 0) e in
     let size : code .length - 1 ≡ f .size = omega arith in
     let some-code : code .length ≡ 0 → ⊥ = omega arith in
-    if-false [] (mergeAll (mergeAll [] (entryAccesses c)) (codeAccesses c (code .length - 1) 0 (code .length - 1) (codeAt file (code .start) (code .length - 1))))
+    if-false [] (mergeAll (mergeAll [] (entryAccesses c)) (codeAccesses c (code .length - 1) (code .length - 1) (codeAt file (code .start) (code .length - 1))))
     (ne-eqb (code .length) 0 some-code)
-    ∙ ap₂ (λ (s n : ℕ). mergeAll (mergeAll [] (entryAccesses c)) (codeAccesses c n 0 n (codeAt file s n))) start size
+    ∙ ap₂ (λ (s n : ℕ). mergeAll (mergeAll [] (entryAccesses c)) (codeAccesses c n n (codeAt file s n))) start size

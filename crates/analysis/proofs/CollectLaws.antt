@@ -57,7 +57,7 @@ read-at file e f = f ∙ ap (λ (n : ℕ). callOf (drop n file)) e
 
 module _ (file : List ℕ) (code : Code) (c : Call) where
   abbrev coded : ℕ → List ℕ → List Access
-  coded size bytes = mergeAll (mergeAll [] (entryAccesses c)) (codeAccesses c size 0 size bytes)
+  coded size bytes = mergeAll (mergeAll [] (entryAccesses c)) (codeAccesses c size size bytes)
 
   pub set-none : {r : Sets} → code .length ≡ 0 → r ≡ gathered [] → r ≡ gathered (codeSets file code c)
   unfolding codeSets

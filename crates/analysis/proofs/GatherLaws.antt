@@ -3,7 +3,6 @@ use mathlib.Core.Path.{_≡_, sym, ap, ap₂, _∙_}
 use mathlib.Core.Bool.{Bool, true, false}
 use mathlib.Core.List.{List, [], _++_}
 use Prim.Native.Nat.{ℕ, suc, _+_, _-_, _*_, _≤_, _<_}
-use native.Mathlib.Nat.{zero-add}
 use native.Mathlib.Numerals.{add-one}
 use native.Mathlib.Omega.{arith}
 use borrow.Author.Tests.{lt-ltb, le-ltb, eq-eqb, ne-eqb}
@@ -157,7 +156,7 @@ some-gathered es e = rw e (gathered-count es)
 module _ (c : Call) (size : ℕ) (code : List ℕ) where
   -- The accesses of the entry and of the first n instructions.
   abbrev pub firstAccesses : ℕ → List Access
-  firstAccesses n = mergeAll (mergeAll [] (entryAccesses c)) (codeAccesses c n 0 size code)
+  firstAccesses n = mergeAll (mergeAll [] (entryAccesses c)) (codeAccesses c n size code)
 
   pub walk-start : {k r : Sets} {us : Uses} → k ≡ gathered [] → us ≡ usesOf (entryAccesses c) → r ≡ withUses k us
       → r ≡ gathered (firstAccesses 0)
@@ -165,16 +164,15 @@ module _ (c : Call) (size : ℕ) (code : List ℕ) where
   walk-start empty uses sets = sets ∙ ap₂ withUses empty uses ∙ gathered-uses [] (entryAccesses c) (entry-few c)
 
   pub walk-more : (n : ℕ) {s r : Sets} {us : Uses} → s ≡ gathered (firstAccesses n)
-      → us ≡ usesOf (decodedAccesses c (decode n size (drop (instrBytes * n) code))) → r ≡ withUses s us → r ≡ gathered (firstAccesses (n + 1))
+      → us ≡ usesOf (decodedAccesses c (decode size (drop (instrBytes * n) code))) → r ≡ withUses s us → r ≡ gathered (firstAccesses (n + 1))
   walk-more n so-far uses sets =
-      let next : List Access = decodedAccesses c (decode n size (drop (instrBytes * n) code)) in
-      let more : codeAccesses c n 0 size code ++ next ≡ codeAccesses c (n + 1) 0 size code =
-      ap (λ (i : ℕ). codeAccesses c n 0 size code ++ decodedAccesses c (decode i size (drop (instrBytes * n) code))) (sym (zero-add n))
-      ∙ sym (code-more c n 0 size code) ∙ ap (λ (m : ℕ). codeAccesses c m 0 size code) (sym (add-one n)) in
+      let next : List Access = decodedAccesses c (decode size (drop (instrBytes * n) code)) in
+      let more : codeAccesses c n size code ++ next ≡ codeAccesses c (n + 1) size code =
+      sym (code-more c n size code) ∙ ap (λ (m : ℕ). codeAccesses c m size code) (sym (add-one n)) in
       sets ∙ ap₂ withUses so-far uses
-      ∙ gathered-uses (firstAccesses n) next (decoded-few c (decode n size (drop (instrBytes * n) code)))
+      ∙ gathered-uses (firstAccesses n) next (decoded-few c (decode size (drop (instrBytes * n) code)))
       ∙ ap gathered
-      (sym (merged-append (mergeAll [] (entryAccesses c)) (codeAccesses c n 0 size code) next)
+      (sym (merged-append (mergeAll [] (entryAccesses c)) (codeAccesses c n size code) next)
       ∙ ap (mergeAll (mergeAll [] (entryAccesses c))) more)
 
   pub walk-end : (n : ℕ) {s : Sets} → s ≡ gathered (firstAccesses n) → n ≤ size → size ≤ n → s ≡ gathered (firstAccesses size)

@@ -64,7 +64,7 @@ pub noCell : Cell
 noCell = record { key = 0; value = pos 0 }
 
 pub defaultCall : Call
-defaultCall = record { sender = record { 0 = 0 }; contract = record { 0 = 0 }; function = 0; value = pos 0; arg1 = 0; arg2 = 0; arg3 = 0; arg4 = 0 }
+defaultCall = record { sender = record { 0 = 0 }; contract = record { 0 = 0 }; function = 0; value = pos 0; arg1 = 0; arg2 = 0; arg3 = 0; arg4 = 0; fuel = 0 }
 
 module _ (file : List ℕ) (l : Layout) (laid : LayoutOfBlock file l) where
   abbrev block : Block

@@ -46,7 +46,7 @@ codeSets file code c =
     then []
     else
     mergeAll (mergeAll [] (entryAccesses c))
-    (codeAccesses c (code .length - 1) 0 (code .length - 1) (codeAt file (code .start) (code .length - 1)))
+    (codeAccesses c (code .length - 1) (code .length - 1) (codeAt file (code .start) (code .length - 1)))
 
 -- The numbers of a layout's functions are those that the limits allow.
 pub record Narrow (l : Layout) : Type 0 where

@@ -133,9 +133,9 @@ fn with_uses(
 // The instruction walk: the uses of the instruction at `index` of a code of `size`. What does not decode uses no key.
 fn uses_at(code: &[u8], index: usize, size: usize, c: Call) -> Uses
     requires { ⌜ index < maxCode ⌝ }
-    ensures { λ r. ⌜ r ≡ usesOf (decodedAccesses c (decode index size (drop (instrBytes * index) (now (code .entry))))) ⌝ }
+    ensures { λ r. ⌜ r ≡ usesOf (decodedAccesses c (decode size (drop (instrBytes * index) (now (code .entry))))) ⌝ }
 {
-    match decode(code, INSTR_BYTES * index, index, size) {
+    match decode(code, INSTR_BYTES * index, size) {
         Decoded::Valid(i) => instr_uses(c, i),
         Decoded::Invalid => no_uses(),
     }
@@ -144,7 +144,7 @@ fn uses_at(code: &[u8], index: usize, size: usize, c: Call) -> Uses
 // The function walk: the uses of the entry and of every instruction of the code, reached or not.
 pub(crate) fn function_sets(code: &[u8], size: usize, c: Call) -> Sets
     requires { ⌜ size ≤ maxCode ⌝ }
-    ensures { λ r. ⌜ r ≡ gathered (mergeAll (mergeAll [] (entryAccesses c)) (codeAccesses c size 0 size (now (code .entry)))) ⌝ }
+    ensures { λ r. ⌜ r ≡ gathered (mergeAll (mergeAll [] (entryAccesses c)) (codeAccesses c size size (now (code .entry)))) ⌝ }
 {
     let mut highs = [0u64; MAX_CALL_KEYS];
     let mut lows = [0u64; MAX_CALL_KEYS];

@@ -1,5 +1,5 @@
 -- The bytes of an opening cell and of a call: it is read back from them, and bytes that are read as one are its own.
-use mathlib.Core.Path.{_≡_, refl, sym, ap, subst⁻¹, _∙_}
+use mathlib.Core.Path.{_≡_, refl, sym, ap, subst, subst⁻¹, _∙_}
 use mathlib.Core.Bool.{Bool, true, false, _&&_, not}
 use mathlib.Core.List.{List, _++_, append-assoc}
 use Prim.Native.Nat.{ℕ, _^_, _≤_, _<_}
@@ -17,6 +17,7 @@ use Rattle.wire.specs.Bytes.{number, readLe, bytesOf}
 use Rattle.wire.proofs.BytesLaws.{number-bytesOf, number-lt}
 use Rattle.block.specs.Key.{firstContract, addressOf, keyOf, addressIn, fieldIn, aIn, bIn, isBalance, keyAllowed}
 use Rattle.block.proofs.KeyLaws.{address-of, field-of, a-of, b-of, key-parts}
+use Rattle.block.specs.Limits.{maxFuel}
 use Rattle.block.specs.Record.{Cell, callBytes, cellOf, cellAllowed, callOf}
 use Rattle.block.specs.Encoding.{AreBytes, CellKeeps, CallKeeps, CallFits}
 use Rattle.block.proofs.EncodingLaws.{cellBody, callBody, bytes-drop, bytes-split}
@@ -157,12 +158,13 @@ callInBody s =
       arg2 = readLe 4 s 18;
       arg3 = readLe 4 s 22;
       arg4 = readLe 4 s 26;
+      fuel = readLe 2 s 30;
     }
 
 pub call-fits : (c : Call) → CallKeeps c → CallFits c
 call-fits c keeps =
     let sender : c .sender .0 < firstContract = keeps .sender in
-    record { addresses = (omega arith, keeps .contract .1, keeps .function); value = keeps .value .1; arguments = keeps .arguments }
+    record { addresses = (omega arith, keeps .contract .1, keeps .function); value = keeps .value .1; arguments = keeps .arguments; fuel = omega (arith, keeps .fuel .1) }
 
 module _ (c : Call) (more : List ℕ) where
   abbrev call : List ℕ
@@ -205,10 +207,14 @@ module _ (c : Call) (more : List ℕ) where
     unfolding bytesOf
     call-4 = number-bytesOf 4 (c .arg4) _ (fits .arguments .3)
 
+    call-fuel : readLe 2 call 30 ≡ c .fuel
+    unfolding bytesOf
+    call-fuel = number-bytesOf 2 (c .fuel) _ (fits .fuel)
+
     pub call-same : callInBody call ≡ c
     call-same =
         let value : signed 64 (unsigned 64 (c .value)) ≡ c .value = signed-unsigned 64 (c .value) (lit< tt) (fits .value) in
-        rw (call-sender, call-contract, call-function, call-value, call-1, call-2, call-3, call-4, value)
+        rw (call-sender, call-contract, call-function, call-value, call-1, call-2, call-3, call-4, call-fuel, value)
 
   call-long : callBytes ≤ length call
   unfolding bytesOf
@@ -247,22 +253,28 @@ module _ (s : List ℕ) (bytes : AreBytes s) where
       (bytes-split 8 6 s bytes (omega arith) ∙ ap (λ (t : List ℕ). bytesOf 8 (readLe 8 s 6) ++ t)
       (bytes-split 4 14 s bytes (omega arith) ∙ ap (λ (t : List ℕ). bytesOf 4 (readLe 4 s 14) ++ t)
       (bytes-split 4 18 s bytes (omega arith) ∙ ap (λ (t : List ℕ). bytesOf 4 (readLe 4 s 18) ++ t)
-      (bytes-split 4 22 s bytes (omega arith) ∙ ap (λ (t : List ℕ). bytesOf 4 (readLe 4 s 22) ++ t) (bytes-split 4 26 s bytes (omega arith)))))))) ∙ simp append-assoc)
+      (bytes-split 4 22 s bytes (omega arith) ∙ ap (λ (t : List ℕ). bytesOf 4 (readLe 4 s 22) ++ t)
+      (bytes-split 4 26 s bytes (omega arith) ∙ ap (λ (t : List ℕ). bytesOf 4 (readLe 4 s 26) ++ t) (bytes-split 2 30 s bytes (omega arith))))))))) ∙ simp append-assoc)
 
-  in-keeps : number 2 s < firstContract → firstContract ≤ readLe 2 s 2 → nonNeg (signed 64 (readLe 8 s 6)) ≡ true → CallKeeps (callInBody s)
-  in-keeps sender contract value =
+  in-keeps : number 2 s < firstContract → firstContract ≤ readLe 2 s 2 → nonNeg (signed 64 (readLe 8 s 6)) ≡ true → 0 < readLe 2 s 30 → CallKeeps (callInBody s)
+  in-keeps sender contract value fuel =
       record {
         sender = sender;
         contract = (contract, below-16 s bytes 2);
         function = below-16 s bytes 4;
         value = (value, value-fits s bytes 6);
         arguments = (below-32 s bytes 14, below-32 s bytes 18, below-32 s bytes 22, below-32 s bytes 26);
+        fuel = (fuel, omega (arith, below-16 s bytes 30));
       }
 
   pub call-split : (c : Call) → callOf s ≡ InRange c → callBytes ≤ length s → s ≡ callBody c ++ drop callBytes s
   call-split c e fit = rw (call-in s c e .3) (in-split fit)
 
-  pub call-keeps : (c : Call) → callOf s ≡ InRange c → CallKeeps c
-  call-keeps c e =
+  pub call-keeps : (c : Call) → callOf s ≡ InRange c → 0 < c .fuel → CallKeeps c
+  call-keeps c e fuel =
       let o = call-in s c e in
-      rw (o .3) (in-keeps (o .0) (o .1) (o .2))
+      rw (o .3) (in-keeps (o .0) (o .1) (o .2) (subst (λ (d : Call). 0 < d .fuel) (o .3) fuel))
+
+  -- Its fuel is in 16 bits.
+  pub call-fuel-most : (c : Call) → callOf s ≡ InRange c → c .fuel ≤ maxFuel
+  call-fuel-most c e = rw (call-in s c e .3) (omega (arith, below-16 s bytes 30))

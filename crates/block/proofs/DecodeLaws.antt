@@ -1,4 +1,4 @@
--- What an instruction keeps to that bytes decode to: its jump leads forward within the code, the field of its cell is no balance's, and
+-- What an instruction keeps to that bytes decode to: its jump leads within the code, the field of its cell is no balance's, and
 -- the value that it sets and the numbers that a key is made of fit.
 use mathlib.Core.Path.{_≡_, refl}
 use mathlib.Core.Bool.{Bool, true, false, _&&_, _||_, not}
@@ -57,28 +57,28 @@ InstrFits bound (Pay x target) = Unit {0}
 InstrFits bound (Jeq x y to) = Unit {0}
 InstrFits bound (Jlt x y to) = Unit {0}
 
--- "Jumps go forward: w above the instruction's own index, at most the code's length."
-abbrev pub JumpsForward : (index size : ℕ) → Instr → Type 0
-JumpsForward index size Stop = Unit {0}
-JumpsForward index size Throw = Unit {0}
-JumpsForward index size (Set x value) = Unit {0}
-JumpsForward index size (Arg x k) = Unit {0}
-JumpsForward index size (Sender x) = Unit {0}
-JumpsForward index size (Value x) = Unit {0}
-JumpsForward index size (Add x y z) = Unit {0}
-JumpsForward index size (Sub x y z) = Unit {0}
-JumpsForward index size (Mul x y z) = Unit {0}
-JumpsForward index size (Div x y z) = Unit {0}
-JumpsForward index size (Get x field a b) = Unit {0}
-JumpsForward index size (Put x field a b) = Unit {0}
-JumpsForward index size (Bal x) = Unit {0}
-JumpsForward index size (Pay x target) = Unit {0}
-JumpsForward index size (Jeq x y to) = (index < to) × (to ≤ size)
-JumpsForward index size (Jlt x y to) = (index < to) × (to ≤ size)
+-- M-104: "Jumps may go to any index from 0 to the code's length."
+abbrev pub JumpsWithin : (size : ℕ) → Instr → Type 0
+JumpsWithin size Stop = Unit {0}
+JumpsWithin size Throw = Unit {0}
+JumpsWithin size (Set x value) = Unit {0}
+JumpsWithin size (Arg x k) = Unit {0}
+JumpsWithin size (Sender x) = Unit {0}
+JumpsWithin size (Value x) = Unit {0}
+JumpsWithin size (Add x y z) = Unit {0}
+JumpsWithin size (Sub x y z) = Unit {0}
+JumpsWithin size (Mul x y z) = Unit {0}
+JumpsWithin size (Div x y z) = Unit {0}
+JumpsWithin size (Get x field a b) = Unit {0}
+JumpsWithin size (Put x field a b) = Unit {0}
+JumpsWithin size (Bal x) = Unit {0}
+JumpsWithin size (Pay x target) = Unit {0}
+JumpsWithin size (Jeq x y to) = to ≤ size
+JumpsWithin size (Jlt x y to) = to ≤ size
 
 -- Both of them.
-abbrev pub InstrLawful : (bound index size : ℕ) → Instr → Type 0
-InstrLawful bound index size i = InstrFits bound i × JumpsForward index size i
+abbrev pub InstrLawful : (bound size : ℕ) → Instr → Type 0
+InstrLawful bound size i = InstrFits bound i × JumpsWithin size i
 
 -- What holds of the instruction that bytes decode to, if they do.
 abbrev pub Decodes : (Instr → Type 0) → Decoded → Type 0
@@ -111,9 +111,9 @@ field-above named rest field e =
     let apart = eqb-false field 0 (not-true (eqb field 0) (both named (not (eqb field 0)) (front .0) .1)) in
     omega arith
 
-module _ (bound index size : ℕ) where
+module _ (bound size : ℕ) where
   abbrev I : Instr → Type 0
-  I = InstrLawful bound index size
+  I = InstrLawful bound size
 
   abbrev D : Decoded → Type 0
   D = Decodes I
@@ -138,17 +138,15 @@ module _ (bound index size : ℕ) where
       } in
       if-all I (eqb op 10) (λ e. (fits, tt)) (λ e. (fits, tt))
 
-  jump-lawful : (op x y z w : ℕ) → D (decodeJump index size op x y z w)
+  jump-lawful : (op x y z w : ℕ) → D (decodeJump size op x y z w)
   unfolding decodeJump
   jump-lawful op x y z w =
-      when-allowed (isRegister x && isRegister y && eqb z 0 && ltb index w && leb w size) (if eqb op 14 then Jeq x y w else Jlt x y w) λ t.
-      let ends = both (isRegister x && isRegister y && eqb z 0 && ltb index w) (leb w size) t in
-      let starts = both (isRegister x && isRegister y && eqb z 0) (ltb index w) (ends .0) in
-      let forward : (index < w) × (w ≤ size) = (ltb-true index w (starts .1), leb-true w size (ends .1)) in
-      if-all I (eqb op 14) (λ e. (tt, forward)) (λ e. (tt, forward))
+      when-allowed (isRegister x && isRegister y && eqb z 0 && leb w size) (if eqb op 14 then Jeq x y w else Jlt x y w) λ t.
+      let within : w ≤ size = leb-true w size (both (isRegister x && isRegister y && eqb z 0) (leb w size) t .1) in
+      if-all I (eqb op 14) (λ e. (tt, within)) (λ e. (tt, within))
 
   -- Every other instruction keeps to it by its kind.
-  parts-lawful : (op x y z w : ℕ) → w / 65536 < bound → D (decodeParts index size op x y z w)
+  parts-lawful : (op x y z w : ℕ) → w / 65536 < bound → D (decodeParts size op x y z w)
   unfolding decodeParts decodeEnd decodeSet decodeArg decodeFact decodeArith decodePay
   parts-lawful op x y z w h =
       if-all D (ltb op 2)
@@ -170,13 +168,13 @@ module _ (bound index size : ℕ) where
       (λ t. (tt, tt))) λ e.
       if-all D (ltb op 16) (λ e. jump-lawful op x y z w) (λ e. tt)
 
-  pub decode-lawful : (s : List ℕ) → number 4 (drop 4 s) / 65536 < bound → D (decode index size s)
+  pub decode-lawful : (s : List ℕ) → number 4 (drop 4 s) / 65536 < bound → D (decode size s)
   decode-lawful s =
       parts-lawful (number 1 s) (number 1 (drop 1 s)) (number 1 (drop 2 s)) (number 1 (drop 3 s)) (number 4 (drop 4 s))
 
 -- Jumps need no bound on the bytes.
-pub decode-forward : (index size : ℕ) (s : List ℕ) → Decodes (JumpsForward index size) (decode index size s)
-decode-forward index size s =
+pub decode-within : (size : ℕ) (s : List ℕ) → Decodes (JumpsWithin size) (decode size s)
+decode-within size s =
     let bound : ℕ = number 4 (drop 4 s) / 65536 + 1 in
-    decodes-map (InstrLawful bound index size) (JumpsForward index size) (λ i h. h .1) (decode index size s)
-    (decode-lawful bound index size s (omega arith))
+    decodes-map (InstrLawful bound size) (JumpsWithin size) (λ i h. h .1) (decode size s)
+    (decode-lawful bound size s (omega arith))

@@ -3,7 +3,6 @@ use mathlib.Core.Path.{_≡_, refl, sym, ap, _∙_}
 use mathlib.Core.Bool.{Bool, true, false}
 use mathlib.Core.List.{List, [], _∷_, _++_, append-assoc}
 use Prim.Native.Nat.{ℕ, zero, suc, _+_, _-_, _*_, _/_, _%_, _^_, _≤_, _<_}
-use native.Mathlib.Nat.{add-zero}
 use native.Mathlib.Omega.{arith}
 use lib.Dec.{lit<}
 use lib.ListN.{length, take, drop, length-drop, take-append-drop}
@@ -31,7 +30,7 @@ callBody c =
     bytesOf 2 (c .sender .0)
     ++ bytesOf 2 (c .contract .0)
     ++ bytesOf 2 (c .function)
-    ++ bytesOf 8 (unsigned 64 (c .value)) ++ bytesOf 4 (c .arg1) ++ bytesOf 4 (c .arg2) ++ bytesOf 4 (c .arg3) ++ bytesOf 4 (c .arg4)
+    ++ bytesOf 8 (unsigned 64 (c .value)) ++ bytesOf 4 (c .arg1) ++ bytesOf 4 (c .arg2) ++ bytesOf 4 (c .arg3) ++ bytesOf 4 (c .arg4) ++ bytesOf 2 (c .fuel)
 
 -- ---- bytes in front of others
 
@@ -48,48 +47,46 @@ bytes-split k at s h fit =
 -- ---- a function
 
 -- An instruction is in its own eight bytes.
-decode-front : (index size : ℕ) (s more : List ℕ) → 8 ≤ length s → decode index size (s ++ more) ≡ decode index size s
-decode-front index size s more h =
+decode-front : (size : ℕ) (s more : List ℕ) → 8 ≤ length s → decode size (s ++ more) ≡ decode size s
+decode-front size s more h =
     rw (read-first 1 s more 0 (omega arith), read-first 1 s more 1 (omega arith), read-first 1 s more 2 (omega arith), read-first 1 s more 3 (omega arith), read-first 4 s more 4 (omega arith))
 
 pub decode-code : (i size : ℕ) (code more : List ℕ) → length code ≡ 8 * size → i < size
-    → decode i size (drop (8 * i) (code ++ more)) ≡ decode i size (drop (8 * i) code)
+    → decode size (drop (8 * i) (code ++ more)) ≡ decode size (drop (8 * i) code)
 decode-code i size code more len h =
-    ap (decode i size) (drop-append-le (8 * i) code more (omega arith))
-    ∙ decode-front i size (drop (8 * i) code) more (simp length-drop (omega arith))
+    ap (decode size) (drop-append-le (8 * i) code more (omega arith))
+    ∙ decode-front size (drop (8 * i) code) more (simp length-drop (omega arith))
 
 -- Valid one by one, and valid all together.
-all-valid : (left index size : ℕ) (s : List ℕ) → ((i : ℕ) → i < left → isValid (decode (index + i) size (drop (8 * i) s)) ≡ true)
+all-valid : (left index size : ℕ) (s : List ℕ) → ((i : ℕ) → i < left → isValid (decode size (drop (8 * i) s)) ≡ true)
     → firstInvalid left index size s ≡ index + left
 unfolding firstInvalid
 all-valid zero index size s h = omega arith
 all-valid (suc left) index size s h =
-    let first : isValid (decode index size s) ≡ true = simp add-zero at (h 0 (omega arith)) in
+    let first : isValid (decode size s) ≡ true = h 0 (omega arith) in
     let rest : firstInvalid left (index + 1) size (drop 8 s) ≡ index + 1 + left = all-valid left (index + 1) size (drop 8 s) next in
     rw (first, firstInvalid) (rest ∙ omega arith)
   where
-    next : (i : ℕ) → i < left → isValid (decode (index + 1 + i) size (drop (8 * i) (drop 8 s))) ≡ true
+    next : (i : ℕ) → i < left → isValid (decode size (drop (8 * i) (drop 8 s))) ≡ true
     next i less =
         let there : 8 + 8 * i ≡ 8 * suc i = omega arith in
-        let it : index + 1 + i ≡ index + suc i = omega arith in
-        rw (drop-drop (8 * i) 8 s, there, it) (h (suc i) (omega arith))
+        rw (drop-drop (8 * i) 8 s, there) (h (suc i) (omega arith))
 
 each-valid : (left index size : ℕ) (s : List ℕ) → index + left ≤ firstInvalid left index size s → (i : ℕ) → i < left
-    → isValid (decode (index + i) size (drop (8 * i) s)) ≡ true
+    → isValid (decode size (drop (8 * i) s)) ≡ true
 unfolding firstInvalid
 each-valid zero index size s e i h = absurd (omega arith)
-each-valid (suc left) index size s e i h = go (isValid (decode index size s)) refl (each-valid left (index + 1) size (drop 8 s)) i h
+each-valid (suc left) index size s e i h = go (isValid (decode size s)) refl (each-valid left (index + 1) size (drop 8 s)) i h
   where
-    go : (t : Bool) → isValid (decode index size s) ≡ t
-        → (index + 1 + left ≤ firstInvalid left (index + 1) size (drop 8 s) → (i : ℕ) → i < left → isValid (decode (index + 1 + i) size (drop (8 * i) (drop 8 s))) ≡ true)
-        → (i : ℕ) → i < suc left → isValid (decode (index + i) size (drop (8 * i) s)) ≡ true
+    go : (t : Bool) → isValid (decode size s) ≡ t
+        → (index + 1 + left ≤ firstInvalid left (index + 1) size (drop 8 s) → (i : ℕ) → i < left → isValid (decode size (drop (8 * i) (drop 8 s))) ≡ true)
+        → (i : ℕ) → i < suc left → isValid (decode size (drop (8 * i) s)) ≡ true
     go false f later i less = let g : index + suc left ≤ index = rw (f, firstInvalid) at e in absurd (omega arith)
-    go true f later zero less = simp add-zero f
+    go true f later zero less = f
     go true f later (suc i) less =
         let g : index + suc left ≤ firstInvalid left (index + 1) size (drop 8 s) = rw (f, firstInvalid) at e in
         let there : 8 + 8 * i ≡ 8 * suc i = omega arith in
-        let it : index + 1 + i ≡ index + suc i = omega arith in
-        rw (drop-drop (8 * i) 8 s, there, it) at (later (omega arith) i (omega arith))
+        rw (drop-drop (8 * i) 8 s, there) at (later (omega arith) i (omega arith))
 
 module _ (f : Routine) (more : List ℕ) where
   pub function-contract : f .contract .0 < 2 ^ 16 → number 2 (functionBody f ++ more) ≡ f .contract .0
@@ -108,10 +105,9 @@ module _ (f : Routine) (more : List ℕ) where
   function-valid keeps =
       all-valid (sizeOf f) 0 (sizeOf f) (f .code ++ more) one ∙ omega arith
     where
-      one : (i : ℕ) → i < sizeOf f → isValid (decode (0 + i) (sizeOf f) (drop (8 * i) (f .code ++ more))) ≡ true
+      one : (i : ℕ) → i < sizeOf f → isValid (decode (sizeOf f) (drop (8 * i) (f .code ++ more))) ≡ true
       one i h =
-          let it : 0 + i ≡ i = omega arith in
-          rw (it, decode-code i (sizeOf f) (f .code) more (keeps .whole) h) (keeps .valid i h)
+          rw (decode-code i (sizeOf f) (f .code) more (keeps .whole) h) (keeps .valid i h)
 
 pub function-size : (f : Routine) → length (functionBody f) ≡ 4 + length (f .code)
 unfolding bytesOf
@@ -160,11 +156,8 @@ module _ (s : List ℕ) (bytes : AreBytes s) (len : ℕ) (low : 4 ≤ len) (fit 
         valid = λ i h. valid i (length (take (len - 4) (drop 4 s)) / 8) (omega arith) h;
       }
     where
-      valid : (i n : ℕ) → n ≡ (len - 4) / 8 → i < n → isValid (decode i n (drop (8 * i) (take (len - 4) (drop 4 s)))) ≡ true
+      valid : (i n : ℕ) → n ≡ (len - 4) / 8 → i < n → isValid (decode n (drop (8 * i) (take (len - 4) (drop 4 s)))) ≡ true
       valid i n e h =
-          let it : 0 + i ≡ i = omega arith in
           let long : length (take (len - 4) (drop 4 s)) ≡ len - 4 = code-length in
           let eight : length (take (len - 4) (drop 4 s)) ≡ 8 * n = omega arith in
-          let one : isValid (decode (0 + i) n (drop (8 * i) (drop 4 s))) ≡ true =
-          each-valid n 0 n (drop 4 s) (rw e (omega arith)) i h in
-          rw (← decode-code i n (take (len - 4) (drop 4 s)) (drop len s) eight h, ← code-split) (rw it at one)
+          rw (← decode-code i n (take (len - 4) (drop 4 s)) (drop len s) eight h, ← code-split) (each-valid n 0 n (drop 4 s) (rw e (omega arith)) i h)

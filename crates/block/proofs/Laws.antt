@@ -51,16 +51,16 @@ not-negative (pos n) e = refl
 not-negative (negsuc n) e = sym e
 
 -- The parts of an instruction, read one by one: a number of one byte is that byte.
-pub decode-parts : (index size : ℕ) (s : List ℕ) {op x y z w : ℕ} → op ≡ getD s 0 0 → x ≡ getD s 1 0 → y ≡ getD s 2 0 → z ≡ getD s 3 0
-    → w ≡ readLe 4 s 4 → decodeParts index size op x y z w ≡ decode index size s
-decode-parts index size s p q r t u =
+pub decode-parts : (size : ℕ) (s : List ℕ) {op x y z w : ℕ} → op ≡ getD s 0 0 → x ≡ getD s 1 0 → y ≡ getD s 2 0 → z ≡ getD s 3 0
+    → w ≡ readLe 4 s 4 → decodeParts size op x y z w ≡ decode size s
+decode-parts size s p q r t u =
     simp (p ∙ sym (read-one s 0), q ∙ sym (read-one s 1), r ∙ sym (read-one s 2), t ∙ sym (read-one s 3), u)
 
 -- They stand in the word of the eight bytes at a position, each at its place value.
-pub decode-word : (index size : ℕ) (s : List ℕ) (at : ℕ) {word : ℕ} → AreBytes s → word ≡ readLe 8 s at
-    → decodeParts index size (word % 256) (word / 256 % 256) (word / 65536 % 256) (word / 16777216 % 256) (word / 4294967296)
-    ≡ decode index size (drop at s)
-decode-word index size s at {word} bytes e =
+pub decode-word : (size : ℕ) (s : List ℕ) (at : ℕ) {word : ℕ} → AreBytes s → word ≡ readLe 8 s at
+    → decodeParts size (word % 256) (word / 256 % 256) (word / 65536 % 256) (word / 16777216 % 256) (word / 4294967296)
+    ≡ decode size (drop at s)
+decode-word size s at {word} bytes e =
     let t : List ℕ = drop at s in
     let small : AreBytes t = bytes-drop at s bytes in
     let b : getD t 0 0 < 256 = small 0 in
@@ -71,7 +71,7 @@ decode-word index size s at {word} bytes e =
     let x : readLe 7 t 1 ≡ getD t 1 0 + 256 * readLe 6 t 2 = read-suc 6 t 1 in
     let y : readLe 6 t 2 ≡ getD t 2 0 + 256 * readLe 5 t 3 = read-suc 5 t 2 in
     let z : readLe 5 t 3 ≡ getD t 3 0 + 256 * readLe 4 t 4 = read-suc 4 t 3 in
-    decode-parts index size t (omega arith) (omega arith) (omega arith) (omega arith) (omega arith)
+    decode-parts size t (omega arith) (omega arith) (omega arith) (omega arith) (omega arith)
 
 -- What the address of a number that was read is.
 pub address-read : {r x : Address} {n m : ℕ} → r ≡ addressOf n → n ≡ m → r ≡ x → addressOf m ≡ x
@@ -113,7 +113,7 @@ module _ (s : List ℕ) (whole : callBytes ≤ length s) where
   call-taken =
       let long : length (take callBytes s) ≡ callBytes = length-take-le callBytes s whole in
       let same : (k at : ℕ) → at + k ≤ callBytes → readLe k (take callBytes s) at ≡ readLe k s at = λ k at fit. read-taken k callBytes s at fit whole in
-      rw (long, le-leb callBytes (length s) whole, same 2 0 (omega arith), same 2 2 (omega arith), same 2 4 (omega arith), same 8 6 (omega arith), same 4 14 (omega arith), same 4 18 (omega arith), same 4 22 (omega arith), same 4 26 (omega arith))
+      rw (long, le-leb callBytes (length s) whole, same 2 0 (omega arith), same 2 2 (omega arith), same 2 4 (omega arith), same 8 6 (omega arith), same 4 14 (omega arith), same 4 18 (omega arith), same 4 22 (omega arith), same 4 26 (omega arith), same 2 30 (omega arith))
 
   pub call-sender : (contract : Contract) → addressOf (readLe 2 s 0) ≡ OfContract contract → OutOfRange ≡ callOf s
   unfolding callOf
@@ -148,9 +148,9 @@ module _ (s : List ℕ) (whole : callBytes ≤ length s) where
       call-negative g = simp (le-leb callBytes (length s) whole, lt-ltb (readLe 2 s 0) firstContract low, le-leb firstContract (readLe 2 s 2) high, g)
 
       pub call-good : nonNeg (signed 64 (readLe 8 s 6)) ≡ true
-          → InRange (record { sender = sender; contract = contract; function = readLe 2 s 4; value = signed 64 (readLe 8 s 6); arg1 = readLe 4 s 14; arg2 = readLe 4 s 18; arg3 = readLe 4 s 22; arg4 = readLe 4 s 26 })
+          → InRange (record { sender = sender; contract = contract; function = readLe 2 s 4; value = signed 64 (readLe 8 s 6); arg1 = readLe 4 s 14; arg2 = readLe 4 s 18; arg3 = readLe 4 s 22; arg4 = readLe 4 s 26; fuel = readLe 2 s 30 })
           ≡ callOf s
       unfolding callOf
       call-good g =
           simp (le-leb callBytes (length s) whole, lt-ltb (readLe 2 s 0) firstContract low, le-leb firstContract (readLe 2 s 2) high, g)
-          (λ i. InRange (record { sender = record { 0 = from .0 i }; contract = record { 0 = to .0 i }; function = readLe 2 s 4; value = signed 64 (readLe 8 s 6); arg1 = readLe 4 s 14; arg2 = readLe 4 s 18; arg3 = readLe 4 s 22; arg4 = readLe 4 s 26 }))
+          (λ i. InRange (record { sender = record { 0 = from .0 i }; contract = record { 0 = to .0 i }; function = readLe 2 s 4; value = signed 64 (readLe 8 s 6); arg1 = readLe 4 s 14; arg2 = readLe 4 s 18; arg3 = readLe 4 s 22; arg4 = readLe 4 s 26; fuel = readLe 2 s 30 }))

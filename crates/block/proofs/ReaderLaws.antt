@@ -12,7 +12,7 @@ use lib.ListN.{length, getD, drop, length-append, List·getD-append}
 use lib.IntN.{ℤ, pos, negsuc}
 use lib.Seq.{drop-drop, getD-drop, getD-append-seam}
 use lib.Signed.{leZ, ltZ, nonNeg}
-use borrow.Author.Tests.{ltb-true, ltb-false, leb-true, leb-false, eqb-true, not-false, eq-eqb}
+use borrow.Author.Tests.{ltb-true, ltb-false, leb-true, leb-false, eqb-true, eqb-false, not-false, eq-eqb}
 use Rattle.arith.proofs.ChoiceLaws.{if-all, both, neither}
 use Rattle.arith.specs.Balance.{total, largest, noneBelowZero, withinLimit}
 use Rattle.wire.specs.Bytes.{number, readLe}
@@ -45,6 +45,7 @@ pub record BlockLaws (file : List ℕ) (b : Block) : Type 0 where
   pub cells : EachAt (λ i c. c ≡ cellOf (drop (b .opening + 24 * i + 4) file)) (b .cells)
   pub allowed : EachAt (λ i c. cellAllowed (drop (b .opening + 24 * i + 4) file) ≡ true) (b .cells)
   pub calls : EachAt (λ i c. callOf (drop (b .firstCall + callRecordBytes * i + 4) file) ≡ InRange c) (b .calls)
+  pub fuelled : EachAt (λ i c. 0 < c .fuel) (b .calls)
   pub firstCall : b .opening + 24 * length (b .cells) ≡ b .firstCall
   pub ids : Rising (map functionId (b .functions))
   pub keys : Rising (map (λ c. c .key) (b .cells))
@@ -135,9 +136,9 @@ call-length kind len e k = eqb-true len callBytes (simp k at e)
 invalid-le : (left index size : ℕ) (s : List ℕ) → firstInvalid left index size s ≤ index + left
 unfolding firstInvalid
 invalid-le zero index size s = omega arith
-invalid-le (suc left) index size s = go (isValid (decode index size s)) refl (invalid-le left (index + 1) size (drop 8 s))
+invalid-le (suc left) index size s = go (isValid (decode size s)) refl (invalid-le left (index + 1) size (drop 8 s))
   where
-    go : (t : Bool) → isValid (decode index size s) ≡ t → firstInvalid left (index + 1) size (drop 8 s) ≤ index + 1 + left → firstInvalid (suc left) index size s ≤ index + suc left
+    go : (t : Bool) → isValid (decode size s) ≡ t → firstInvalid left (index + 1) size (drop 8 s) ≤ index + 1 + left → firstInvalid (suc left) index size s ≤ index + suc left
     go true e h = rw (e, firstInvalid) (omega arith)
     go false e h = rw (e, firstInvalid) (omega arith)
 
@@ -163,6 +164,7 @@ module _ (file : List ℕ) (kind at : ℕ) (rest : List ℕ) (b : Block) (r : Re
               cells = each-none (λ i c. c ≡ cellOf (drop (at + 4 + len + 24 * i + 4) file)) (b .cells) cells;
               allowed = each-none (λ i c. cellAllowed (drop (at + 4 + len + 24 * i + 4) file) ≡ true) (b .cells) cells;
               calls = each-none (λ i c. callOf (drop (at + 4 + len + callRecordBytes * i + 4) file) ≡ InRange c) (b .calls) calls;
+              fuelled = r .laws .fuelled;
               firstCall = omega arith;
               ids = rw (map-append functionId (b .functions) (f ∷ [])) (rising-snoc (map functionId (b .functions)) (functionId f) (r .laws .ids) up);
               keys = r .laws .keys;
@@ -214,6 +216,7 @@ module _ (file : List ℕ) (kind at : ℕ) (rest : List ℕ) (b : Block) (r : Re
               cells = each-snoc (λ i c. c ≡ cellOf (drop (b .opening + 24 * i + 4) file)) (b .cells) (cellOf (drop 4 rest)) (r .laws .cells) (ap (λ (s : List ℕ). cellOf s) body);
               allowed = each-snoc (λ i c. cellAllowed (drop (b .opening + 24 * i + 4) file) ≡ true) (b .cells) (cellOf (drop 4 rest)) (r .laws .allowed) (rw (← body) good);
               calls = each-none (λ i c. callOf (drop (at + 4 + len + callRecordBytes * i + 4) file) ≡ InRange c) (b .calls) calls;
+              fuelled = r .laws .fuelled;
               firstCall = omega (arith, length-snoc (b .cells) (cellOf (drop 4 rest)));
               ids = r .laws .ids;
               keys = rw (map-append (λ c. c .key) (b .cells) (cellOf (drop 4 rest) ∷ [])) (rising-snoc (map (λ c. c .key) (b .cells)) (cellOf (drop 4 rest) .key) (r .laws .keys) up);
@@ -238,9 +241,9 @@ module _ (file : List ℕ) (kind at : ℕ) (rest : List ℕ) (b : Block) (r : Re
       if-all (Right file) (not (leZ (total (balances (b .cells ++ (cellOf (drop 4 rest) ∷ [])))) largest)) (λ e. tt) λ sum.
       with-cell k size (leb-false 1024 (length (b .cells)) room) (not-false _ good) (not-false _ up) (not-false _ sum)
 
-  with-call : (c : Call) → len ≡ callBytes → length (b .calls) < 256 → callOf (drop 4 rest) ≡ InRange c
+  with-call : (c : Call) → len ≡ callBytes → length (b .calls) < 256 → callOf (drop 4 rest) ≡ InRange c → 0 < c .fuel
       → Reached file 3 (at + 4 + len) (drop len (drop 4 rest)) (record { functions = b .functions; cells = b .cells; calls = b .calls ++ (c ∷ []); opening = b .opening; firstCall = b .firstCall })
-  with-call c size room good =
+  with-call c size room good fuel =
       let to : b .firstCall + callRecordBytes * length (b .calls) ≡ at = r .place in
       let here : at + 4 ≡ b .firstCall + callRecordBytes * length (b .calls) + 4 = omega arith in
       let body : drop 4 rest ≡ drop (b .firstCall + callRecordBytes * length (b .calls) + 4) file = body-at ∙ ap (λ (n : ℕ). drop n file) here in
@@ -251,6 +254,7 @@ module _ (file : List ℕ) (kind at : ℕ) (rest : List ℕ) (b : Block) (r : Re
               cells = r .laws .cells;
               allowed = r .laws .allowed;
               calls = each-snoc (λ i c′. callOf (drop (b .firstCall + callRecordBytes * i + 4) file) ≡ InRange c′) (b .calls) c (r .laws .calls) (rw (← body) good);
+              fuelled = each-snoc (λ i c′. 0 < c′ .fuel) (b .calls) c (r .laws .fuelled) fuel;
               firstCall = r .laws .firstCall;
               ids = r .laws .ids;
               keys = r .laws .keys;
@@ -272,7 +276,8 @@ module _ (file : List ℕ) (kind at : ℕ) (rest : List ℕ) (b : Block) (r : Re
     where
       go : length (b .calls) < 256 → (c : CallBody) → callOf (drop 4 rest) ≡ c → Right file (withCall at len (drop 4 rest) b c)
       go room OutOfRange e = tt
-      go room (InRange c) e = with-call c size room e
+      go room (InRange c) e =
+          if-all (Right file) (eqb (c .fuel) 0) (λ f. tt) (λ f. with-call c size room e (let some = eqb-false (c .fuel) 0 f in omega (arith, some)))
 
   right-end : Right file (readEnd (length file) at b)
   unfolding readEnd
@@ -326,6 +331,7 @@ reached-start file =
             cells = each-none (λ i c. c ≡ cellOf (drop (0 + 24 * i + 4) file)) [] refl;
             allowed = each-none (λ i c. cellAllowed (drop (0 + 24 * i + 4) file) ≡ true) [] refl;
             calls = each-none (λ i c. callOf (drop (0 + callRecordBytes * i + 4) file) ≡ InRange c) [] refl;
+            fuelled = each-none (λ i c. 0 < c .fuel) [] refl;
             firstCall = refl;
             ids = λ i j h k. absurd (omega arith);
             keys = λ i j h k. absurd (omega arith);

@@ -180,8 +180,8 @@ module _ (file : List ℕ) (kind at : ℕ) (rest : List ℕ) (len : ℕ) (own : 
       with-cell fs cs r is twenty (cell-keeps body (bytes-drop 4 rest (r .bytes)) (not-false _ good)) (leb-false 1024 (length cs) room) (not-false _ up) (not-false _ sum)
 
   with-call : (fs : List Routine) (cs : List Cell) (ks : List Call) → Stands file kind at rest fs cs ks → readLe 2 rest 2 ≡ 3 → len ≡ callBytes
-      → length ks < 256 → (c : Call) → callOf body ≡ InRange c → Held file 3 (at + 4 + len) (drop len (drop 4 rest)) (blockFor (holding fs cs (ks ++ (c ∷ []))))
-  with-call fs cs ks r is sized room c e =
+      → length ks < 256 → (c : Call) → callOf body ≡ InRange c → 0 < c .fuel → Held file 3 (at + 4 + len) (drop len (drop 4 rest)) (blockFor (holding fs cs (ks ++ (c ∷ []))))
+  with-call fs cs ks r is sized room c e fuel =
       let fits : len ≤ length (drop 4 rest) = body-fits in
       let split : drop 4 rest ≡ callBody c ++ drop len (drop 4 rest) =
       subst⁻¹ (λ (n : ℕ). drop 4 rest ≡ callBody c ++ drop n (drop 4 rest)) sized (call-split body (bytes-drop 4 rest (r .bytes)) c e (omega arith)) in
@@ -198,7 +198,7 @@ module _ (file : List ℕ) (kind at : ℕ) (rest : List ℕ) (len : ℕ) (own : 
             record {
               functions = r .functions;
               cells = r .cells;
-              calls = record { each = all-snoc CallKeeps ks c (r .calls .each) (call-keeps body (bytes-drop 4 rest (r .bytes)) c e); few = omega (arith, length-append ks (c ∷ [])) };
+              calls = record { each = all-snoc CallKeeps ks c (r .calls .each) (call-keeps body (bytes-drop 4 rest (r .bytes)) c e fuel); few = omega (arith, length-append ks (c ∷ [])) };
               parts = parts-next file (sent fs cs ks) (callRecord c) (sent fs cs (ks ++ (c ∷ []))) rest (drop len (drop 4 rest)) (r .parts) bytes (sent-call fs cs ks c);
               place = place-next (sent fs cs ks) (callRecord c) (sent fs cs (ks ++ (c ∷ []))) at len (r .place) (sent-call fs cs ks c) (omega arith);
               bytes = behind-bytes (r .bytes);
@@ -216,7 +216,9 @@ module _ (file : List ℕ) (kind at : ℕ) (rest : List ℕ) (len : ℕ) (own : 
     where
       go : length ks < 256 → (c : CallBody) → callOf body ≡ c → Right file (withCall at len body (blockFor (holding fs cs ks)) c)
       go room OutOfRange e = tt
-      go room (InRange c) e = with-call fs cs ks r is sized room c e
+      go room (InRange c) e =
+          if-all (Right file) (eqb (c .fuel) 0) (λ f. tt)
+          (λ f. with-call fs cs ks r is sized room c e (let some = eqb-false (c .fuel) 0 f in omega (arith, some)))
 
   right-end : length file ≤ 65536 → (fs : List Routine) (cs : List Cell) (ks : List Call) → Stands file kind at rest fs cs ks → readLe 2 rest 2 ≡ 4 → len ≡ 0
       → Right file (readEnd (length file) at (blockFor (holding fs cs ks)))

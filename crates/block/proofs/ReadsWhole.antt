@@ -4,7 +4,7 @@ use mathlib.Core.Bool.{Bool, true, false, _&&_}
 use mathlib.Core.List.{List, [], _∷_, _++_, map, map-append, append-assoc, append-nil}
 use Prim.Native.Nat.{ℕ, zero, suc, _+_, _-_, _*_, _/_, _%_, _^_, _≤_, _<_}
 use native.Mathlib.Omega.{arith}
-use borrow.Author.Tests.{le-ltb, le-leb, lt-leb, eq-eqb}
+use borrow.Author.Tests.{le-ltb, le-leb, lt-leb, eq-eqb, ne-eqb}
 use lib.Dec.{eqb, leb, ltb}
 use lib.IntN.{ℤ}
 use lib.ListN.{length, drop, length-append}
@@ -85,7 +85,7 @@ call-taken : (c : Call) → CallKeeps c → (at : ℕ) (more : List ℕ) (b : Bl
     ≡ due callKind (at + 4 + callBytes) more (record { functions = b .functions; cells = b .cells; calls = b .calls ++ (c ∷ []); opening = b .opening; firstCall = b .firstCall })
 unfolding readCall withCall
 call-taken c keeps at more b room =
-    rw (call-back c more keeps, lt-leb 256 (length (b .calls)) room, call-behind c more)
+    rw (call-back c more keeps, lt-leb 256 (length (b .calls)) room, ne-eqb (c .fuel) 0 (λ e. omega (arith, e, keeps .fuel .0)), call-behind c more)
 
 -- ---- records of one kind, one behind the other
 

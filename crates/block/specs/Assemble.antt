@@ -39,6 +39,9 @@ ARG x k = instr 3 x k 0 0
 abbrev pub VALUE : ℕ → List ℕ
 VALUE x = instr 5 x 0 0 0
 
+abbrev pub ADD : ℕ → ℕ → ℕ → List ℕ
+ADD x y z = instr 6 x y z 0
+
 abbrev pub SUB : ℕ → ℕ → ℕ → List ℕ
 SUB x y z = instr 7 x y z 0
 
@@ -68,6 +71,9 @@ PAYTO x source = instr 13 x source 0 0
 abbrev pub JEQ : ℕ → ℕ → (to : ℕ) → List ℕ
 JEQ x y to = instr 14 x y 0 to
 
+abbrev pub JLT : ℕ → ℕ → (to : ℕ) → List ℕ
+JLT x y to = instr 15 x y 0 to
+
 -- The records of a block.
 abbrev pub function : (contract number : ℕ) → List (List ℕ) → List ℕ
 function contract number instrs = recordOf 1 (bytesOf 2 contract ++ bytesOf 2 number ++ flatten instrs)
@@ -76,12 +82,15 @@ abbrev pub cell : (address field a b : ℕ) → ℤ → List ℕ
 cell address field a b value =
     recordOf 2 (bytesOf 2 address ++ bytesOf 2 field ++ bytesOf 4 a ++ bytesOf 4 b ++ bytesOf 8 (unsigned 64 value))
 
--- A call with its first argument; the others are zero.
-abbrev pub callWith : (sender contract number : ℕ) → ℤ → ℕ → List ℕ
-callWith sender contract number value argument =
+-- A call with its first argument and its fuel; the other arguments are zero. M-104: "Old examples use fuel 64".
+abbrev pub callFuelled : (sender contract number : ℕ) → ℤ → (argument fuel : ℕ) → List ℕ
+callFuelled sender contract number value argument fuel =
     recordOf 3
     (bytesOf 2 sender
-    ++ bytesOf 2 contract ++ bytesOf 2 number ++ bytesOf 8 (unsigned 64 value) ++ bytesOf 4 argument ++ bytesOf 12 0)
+    ++ bytesOf 2 contract ++ bytesOf 2 number ++ bytesOf 8 (unsigned 64 value) ++ bytesOf 4 argument ++ bytesOf 12 0 ++ bytesOf 2 fuel)
+
+abbrev pub callWith : (sender contract number : ℕ) → ℤ → ℕ → List ℕ
+callWith sender contract number value argument = callFuelled sender contract number value argument 64
 
 abbrev pub call : (sender contract number : ℕ) → ℤ → List ℕ
 call sender contract number value = callWith sender contract number value 0

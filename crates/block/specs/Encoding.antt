@@ -10,7 +10,7 @@ use lib.ListN.{length, getD, drop}
 use Rattle.arith.specs.Balance.{total, largest}
 use Rattle.arith.specs.Exact.{unsigned}
 use Rattle.wire.specs.Bytes.{bytesOf}
-use Rattle.block.specs.Limits.{maxBytes, maxFunctions, maxCode, maxCells, maxCalls}
+use Rattle.block.specs.Limits.{maxBytes, maxFunctions, maxCode, maxCells, maxCalls, maxFuel}
 use Rattle.block.specs.Key.{firstContract, addressOf, addressIn, fieldIn, aIn, bIn, isBalance, keyAllowed}
 use Rattle.block.specs.Instruction.{instrBytes, decode, isValid}
 use Rattle.block.specs.Record.{Function, Cell, Block, headBytes, functionKind, cellKind, callKind, endKind, idOf, recordOf}
@@ -42,14 +42,15 @@ cellRecord c =
     (bytesOf 2 (addressIn (c .key))
     ++ bytesOf 2 (fieldIn (c .key)) ++ bytesOf 4 (aIn (c .key)) ++ bytesOf 4 (bIn (c .key)) ++ bytesOf 8 (unsigned 64 (c .value)))
 
--- "3, call: sender account 2, contract 2, function 2, value 8 (signed, 0 or more), four arguments of 4 (unsigned)."
+-- "3, call: sender account 2, contract 2, function 2, value 8 (signed, 0 or more), four arguments of 4 (unsigned)."; M-104: "fuel, 2 bytes after the
+-- arguments".
 abbrev pub callRecord : Call → List ℕ
 callRecord c =
     recordOf callKind
     (bytesOf 2 (c .sender .0)
     ++ bytesOf 2 (c .contract .0)
     ++ bytesOf 2 (c .function)
-    ++ bytesOf 8 (unsigned 64 (c .value)) ++ bytesOf 4 (c .arg1) ++ bytesOf 4 (c .arg2) ++ bytesOf 4 (c .arg3) ++ bytesOf 4 (c .arg4))
+    ++ bytesOf 8 (unsigned 64 (c .value)) ++ bytesOf 4 (c .arg1) ++ bytesOf 4 (c .arg2) ++ bytesOf 4 (c .arg3) ++ bytesOf 4 (c .arg4) ++ bytesOf 2 (c .fuel))
 
 -- One record for each element of a list, one behind the other.
 unfoldable pub records : {A : Type 0} → (A → List ℕ) → List A → List ℕ
@@ -90,7 +91,7 @@ pub record FunctionKeeps (f : Routine) : Type 0 where
   -- "0 to 64 instructions of 8 bytes", each by its rule.
   pub whole : length (f .code) ≡ instrBytes * sizeOf f
   pub few : sizeOf f ≤ maxCode
-  pub valid : (i : ℕ) → i < sizeOf f → isValid (decode i (sizeOf f) (drop (instrBytes * i) (f .code))) ≡ true
+  pub valid : (i : ℕ) → i < sizeOf f → isValid (decode (sizeOf f) (drop (instrBytes * i) (f .code))) ≡ true
 
 -- "Field 0 has only a = b = 0 and is the balance; an account has no other key"; the value is "not zero, a balance above zero".
 pub record CellKeeps (c : Cell) : Type 0 where
@@ -100,13 +101,14 @@ pub record CellKeeps (c : Cell) : Type 0 where
   pub some : c .value ≡ pos 0 → ⊥
   pub above : isBalance (c .key) ≡ true → ltZ (pos 0) (c .value) ≡ true
 
--- "sender account", "contract", "value 8 (signed, 0 or more)".
+-- "sender account", "contract", "value 8 (signed, 0 or more)"; M-104: fuel "1 to 65,535".
 pub record CallKeeps (c : Call) : Type 0 where
   pub sender : c .sender .0 < firstContract
   pub contract : (firstContract ≤ c .contract .0) × (c .contract .0 < 2 ^ 16)
   pub function : c .function < 2 ^ 16
   pub value : (nonNeg (c .value) ≡ true) × (mag (c .value) < 2 ^ 63)
   pub arguments : (c .arg1 < 2 ^ 32) × (c .arg2 < 2 ^ 32) × (c .arg3 < 2 ^ 32) × (c .arg4 < 2 ^ 32)
+  pub fuel : (0 < c .fuel) × (c .fuel ≤ maxFuel)
 
 -- "strictly rising by (contract, function)": the two as one number.
 abbrev pub routineId : Routine → ℕ
@@ -148,6 +150,7 @@ pub record CallFits (c : Call) : Type 0 where
   pub addresses : (c .sender .0 < 2 ^ 16) × (c .contract .0 < 2 ^ 16) × (c .function < 2 ^ 16)
   pub value : mag (c .value) < 2 ^ 63
   pub arguments : (c .arg1 < 2 ^ 32) × (c .arg2 < 2 ^ 32) × (c .arg3 < 2 ^ 32) × (c .arg4 < 2 ^ 32)
+  pub fuel : c .fuel < 2 ^ 16
 
 pub record Fits (t : Contents) : Type 0 where
   pub functions : All FunctionFits (t .functions)

@@ -81,16 +81,15 @@ decodePay x y z w =
     allowed (isRegister x && isSource y && eqb z 0 && eqb (w % 65536) 0 && (eqb y 6 || eqb (w / 65536) 0))
     (Pay x (sourceOf y w))
 
--- "14 JEQ, 15 JLT: to instruction w if x = y, or x < y", "Jumps go forward: w above the instruction's own index, at most the
--- code's length."
-unfoldable pub decodeJump : ℕ → ℕ → ℕ → ℕ → ℕ → ℕ → ℕ → Decoded
-decodeJump index size op x y z w =
-    allowed (isRegister x && isRegister y && eqb z 0 && ltb index w && leb w size)
+-- "14 JEQ, 15 JLT: to instruction w if x = y, or x < y"; M-104: "Jumps may go to any index from 0 to the code's length."
+unfoldable pub decodeJump : ℕ → ℕ → ℕ → ℕ → ℕ → ℕ → Decoded
+decodeJump size op x y z w =
+    allowed (isRegister x && isRegister y && eqb z 0 && leb w size)
     (if eqb op 14 then Jeq x y w else Jlt x y w)
 
--- The instruction of a code of `size` instructions at `index`, from its parts.
-unfoldable pub decodeParts : ℕ → ℕ → ℕ → ℕ → ℕ → ℕ → ℕ → Decoded
-decodeParts index size op x y z w =
+-- An instruction of a code of `size` instructions, from its parts.
+unfoldable pub decodeParts : ℕ → ℕ → ℕ → ℕ → ℕ → ℕ → Decoded
+decodeParts size op x y z w =
     if ltb op 2
     then decodeEnd op x y z w
     else if eqb op 2
@@ -108,13 +107,13 @@ decodeParts index size op x y z w =
     else if eqb op 13
     then decodePay x y z w
     else if ltb op 16
-    then decodeJump index size op x y z w
+    then decodeJump size op x y z w
     else Invalid
 
 -- "Bytes: op, x, y, z, then w (32 bits)": the instruction that stands at the front of the bytes.
-abbrev pub decode : ℕ → ℕ → List ℕ → Decoded
-decode index size s =
-    decodeParts index size (number 1 s) (number 1 (drop 1 s)) (number 1 (drop 2 s)) (number 1 (drop 3 s)) (number 4 (drop 4 s))
+abbrev pub decode : ℕ → List ℕ → Decoded
+decode size s =
+    decodeParts size (number 1 s) (number 1 (drop 1 s)) (number 1 (drop 2 s)) (number 1 (drop 3 s)) (number 4 (drop 4 s))
 
 abbrev pub isValid : Decoded → Bool
 isValid (Valid i) = true
@@ -124,4 +123,4 @@ isValid Invalid = false
 unfoldable pub firstInvalid : ℕ → ℕ → ℕ → List ℕ → ℕ
 firstInvalid zero index size s = index
 firstInvalid (suc left) index size s =
-    elim (isValid (decode index size s)) [ true ↦ firstInvalid left (index + 1) size (drop instrBytes s) | false ↦ index ]
+    elim (isValid (decode size s)) [ true ↦ firstInvalid left (index + 1) size (drop instrBytes s) | false ↦ index ]

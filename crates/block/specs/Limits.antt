@@ -27,6 +27,10 @@ maxCallKeys = 24
 abbrev pub maxKeys : ℕ
 maxKeys = 1024
 
+-- M-104: a call's fuel is "1 to 65,535".
+abbrev pub maxFuel : ℕ
+maxFuel = 65535
+
 -- "workers not 1 to 8"
 abbrev pub maxWorkers : ℕ
 maxWorkers = 8

@@ -90,10 +90,13 @@ readCell at len body b =
     due cellKind (at + headBytes + len) (drop len body)
     (record { functions = b .functions; cells = cells; calls = b .calls; opening = b .opening; firstCall = at + headBytes + len })
 
--- A call's body: 7, 5. "in block order, numbered from 0"
+-- A call's body: 7, 5. "in block order, numbered from 0"; M-104: fuel "zero is refusal 5".
 unfoldable pub withCall : ℕ → ℕ → List ℕ → Block → CallBody → Reading
 withCall at len body b OutOfRange = refuse (Field at)
 withCall at len body b (InRange c) =
+    if eqb (c .fuel) 0
+    then refuse (Field at)
+    else
     due callKind (at + headBytes + len) (drop len body)
     (record { functions = b .functions; cells = b .cells; calls = b .calls ++ (c ∷ []); opening = b .opening; firstCall = b .firstCall })
 

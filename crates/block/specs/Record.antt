@@ -51,9 +51,10 @@ longestFunction = functionBytes + instrBytes * maxCode
 abbrev pub cellBytes : ℕ
 cellBytes = 20
 
--- "3, call: sender account 2, contract 2, function 2, value 8 (signed, 0 or more), four arguments of 4 (unsigned)."
+-- "3, call: sender account 2, contract 2, function 2, value 8 (signed, 0 or more), four arguments of 4 (unsigned)."; M-104: "A call record gains
+-- fuel, 2 bytes after the arguments, .. so its body has 32 bytes".
 abbrev pub callBytes : ℕ
-callBytes = 30
+callBytes = 32
 
 -- The length of a call's record, its head included.
 abbrev pub callRecordBytes : ℕ
@@ -119,7 +120,8 @@ cellAllowed s =
     keyAllowed (addressOf (number 2 s)) (readLe 2 s 2) (readLe 4 s 4) (readLe 4 s 8)
     && (if eqb (readLe 2 s 2) 0 then ltZ (pos 0) (signed 64 (readLe 8 s 12)) else not (eqb (readLe 8 s 12) 0))
 
--- A call's body at the front of the bytes, all of it there, with 5 for it: "sender account", "contract", "value 8 (signed, 0 or more)".
+-- A call's body at the front of the bytes, all of it there, with 5 for it: "sender account", "contract", "value 8 (signed, 0 or more)". Its fuel is
+-- not asked here: the reader asks it, and a step behind the entry does.
 unfoldable pub callOf : List ℕ → CallBody
 callOf s =
     if leb callBytes (length s) && ltb (number 2 s) firstContract && leb firstContract (readLe 2 s 2) && nonNeg (signed 64 (readLe 8 s 6))
@@ -134,6 +136,7 @@ callOf s =
       arg2 = readLe 4 s 18;
       arg3 = readLe 4 s 22;
       arg4 = readLe 4 s 26;
+      fuel = readLe 2 s 30;
     })
     else OutOfRange
 

@@ -1,10 +1,10 @@
--- Document 01's block P, as bytes and as contents; and for document 02 a block of payments to account 0, M-101, and one of divisions, M-103.
+-- Document 01's block P, as bytes and as contents; and for document 02 a block of payments to account 0, M-101, one of divisions, M-103, and one of loops, M-104.
 use mathlib.Core.List.{List, [], _∷_, flatten}
 use Prim.Native.Nat.{ℕ, _^_}
 use lib.IntN.{ℤ, pos, negℤ}
 use Rattle.block.specs.Key.{keyOf}
 use Rattle.block.specs.Encoding.{Routine, Contents}
-use Rattle.block.specs.Assemble.{STOP, SET, ARG, VALUE, SUB, DIV, GET, PUT, PAY, PAYTO, JEQ, function, cell, callWith, call, end}
+use Rattle.block.specs.Assemble.{STOP, THROW, SET, ARG, VALUE, ADD, SUB, MUL, DIV, GET, PUT, PAY, PAYTO, JEQ, function, cell, callFuelled, callWith, call, end}
 use Rattle.block.specs.declared.Call.{Call}
 
 -- "Block P (document 003, example 1): contract 32768; f0: SET 0 1, PUT 0 field 1; f1: GET 0 field 1, JEQ 0 1 to 3, STOP, SET 2 1,
@@ -33,6 +33,7 @@ calls number value =
       arg2 = 0;
       arg3 = 0;
       arg4 = 0;
+      fuel = 64;
     }
 
 unfoldable pub contentsP : Contents
@@ -82,3 +83,35 @@ zeroDivisors =
     ∷ callWith 5 32768 1 (pos 0) 0
     ∷ callWith 5 32768 1 (pos 0) 1
     ∷ callWith 5 32768 1 (pos 0) 2 ∷ callWith 5 32768 2 (pos 7) 0 ∷ callWith 5 32768 2 (pos 7) 2 ∷ end ∷ [])
+
+-- Two assignments with fuel for both, for one, and for one more; STOP behind an assignment, without and with fuel for it; a jump to its own index; an endless loop
+-- over a PUT, with the value 7; a jump from the first instruction to the code's length; interest of 10 in 100 over as many periods as the argument says, on what field 2
+-- holds, with just enough fuel and with one too little; and the first again, with the value. Account 5 opens with 7 and sends it twice, as it comes back with the loop.
+unfoldable pub fuelled : List ℕ
+fuelled =
+    flatten
+    (function 32768 0 (SET 0 (pos 1) ∷ SET 1 (pos 2) ∷ [])
+    ∷ function 32768 1 (SET 0 (pos 1) ∷ STOP ∷ [])
+    ∷ function 32768 2 (JEQ 0 0 0 ∷ [])
+    ∷ function 32768 3 (VALUE 0 ∷ PUT 0 1 0 ∷ JEQ 0 0 1 ∷ [])
+    ∷ function 32768 4 (JEQ 0 0 3 ∷ THROW ∷ THROW ∷ [])
+    ∷ function 32768 5
+    (GET 0 2 0
+    ∷ ARG 1 1
+    ∷ SET 2 (pos 10)
+    ∷ SET 3 (pos 100)
+    ∷ SET 4 (pos 1)
+    ∷ JEQ 1 7 11 ∷ MUL 5 0 2 ∷ DIV 5 5 3 ∷ ADD 0 0 5 ∷ SUB 1 1 4 ∷ JEQ 7 7 5 ∷ PUT 0 2 0 ∷ [])
+    ∷ cell 5 0 0 0 (pos 7)
+    ∷ cell 32768 1 0 0 (pos 9)
+    ∷ cell 32768 2 0 0 (pos 1000)
+    ∷ callFuelled 5 32768 0 (pos 0) 0 2
+    ∷ callFuelled 5 32768 0 (pos 0) 0 1
+    ∷ callFuelled 5 32768 0 (pos 0) 0 3
+    ∷ callFuelled 5 32768 1 (pos 0) 0 1
+    ∷ callFuelled 5 32768 1 (pos 0) 0 2
+    ∷ callFuelled 5 32768 2 (pos 0) 0 5
+    ∷ callFuelled 5 32768 3 (pos 7) 0 9
+    ∷ callFuelled 5 32768 4 (pos 0) 0 1
+    ∷ callFuelled 5 32768 5 (pos 0) 3 25
+    ∷ callFuelled 5 32768 5 (pos 0) 3 24 ∷ callFuelled 5 32768 0 (pos 7) 0 2 ∷ end ∷ [])

@@ -133,20 +133,20 @@ fn decode_pay(x: u8, y: u8, z: u8, w: u32) -> Decoded
     allowed(rule, Instr::Pay { x, target })
 }
 
-fn decode_jump(index: usize, size: usize, op: u8, x: u8, y: u8, z: u8, w: u32) -> Decoded
-    ensures { λ r. ⌜ r ≡ decodeJump index size op x y z w ⌝ }
+fn decode_jump(size: usize, op: u8, x: u8, y: u8, z: u8, w: u32) -> Decoded
+    ensures { λ r. ⌜ r ≡ decodeJump size op x y z w ⌝ }
 {
     let to = w as usize;
-    let rule = (x <= LAST_REGISTER) & (y <= LAST_REGISTER) & (z == 0) & (index < to) & (to <= size);
+    let rule = (x <= LAST_REGISTER) & (y <= LAST_REGISTER) & (z == 0) & (to <= size);
     if op == 14 {
         return allowed(rule, Instr::Jeq { x, y, to: w });
     }
     allowed(rule, Instr::Jlt { x, y, to: w })
 }
 
-// The instruction of a code of `size` instructions at `index`, from its parts.
-fn decode_parts(index: usize, size: usize, op: u8, x: u8, y: u8, z: u8, w: u32) -> Decoded
-    ensures { λ r. ⌜ r ≡ decodeParts index size op x y z w ⌝ }
+// An instruction of a code of `size` instructions, from its parts.
+fn decode_parts(size: usize, op: u8, x: u8, y: u8, z: u8, w: u32) -> Decoded
+    ensures { λ r. ⌜ r ≡ decodeParts size op x y z w ⌝ }
 {
     if op < 2 {
         return decode_end(op, x, y, z, w);
@@ -176,14 +176,14 @@ fn decode_parts(index: usize, size: usize, op: u8, x: u8, y: u8, z: u8, w: u32) 
         return decode_pay(x, y, z, w);
     }
     if op < 16 {
-        return decode_jump(index, size, op, x, y, z, w);
+        return decode_jump(size, op, x, y, z, w);
     }
     Decoded::Invalid
 }
 
-// The instruction at a position of the code, which is the one at `index` of `size`; bytes past the end count as 0.
-pub fn decode(code: &[u8], at: usize, index: usize, size: usize) -> Decoded
-    ensures { λ r. ⌜ r ≡ decode index size (drop at (now (code .entry))) ⌝ }
+// The instruction at a position of the code, which is one of `size`; bytes past the end count as 0.
+pub fn decode(code: &[u8], at: usize, size: usize) -> Decoded
+    ensures { λ r. ⌜ r ≡ decode size (drop at (now (code .entry))) ⌝ }
 {
     let word = wire::get64(code, at);
     let op = (word % BYTE) as u8;
@@ -191,7 +191,7 @@ pub fn decode(code: &[u8], at: usize, index: usize, size: usize) -> Decoded
     let y = (word / PLACE_Y % BYTE) as u8;
     let z = (word / PLACE_Z % BYTE) as u8;
     let w = (word / PLACE_W) as u32;
-    decode_parts(index, size, op, x, y, z, w)
+    decode_parts(size, op, x, y, z, w)
 }
 
 // Whether bytes hold an instruction.

@@ -110,6 +110,7 @@ pub struct Call {
     pub arg2: u32,
     pub arg3: u32,
     pub arg4: u32,
+    pub fuel: u16,
 }
 
 // What the body of a call record holds.

@@ -13,4 +13,6 @@ pub const MAX_CALL_KEYS: usize = 24;
 
 pub const MAX_KEYS: usize = 1024;
 
+pub const MAX_FUEL: usize = 65535;
+
 pub const MAX_WORKERS: usize = 8;

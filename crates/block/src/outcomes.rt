@@ -1,5 +1,5 @@
 // The outcomes of a call and the ranges of a receipt, each with the name that specs/Outcomes.antt gives it.
-use crate::limits::MAX_CODE;
+use crate::limits::MAX_FUEL;
 
 pub const ENDED: u64 = 0;
 
@@ -15,7 +15,9 @@ pub const NOT_PAID: u64 = 5;
 
 pub const ZERO_DIVISOR: u64 = 6;
 
-// The highest outcome that a receipt may hold, and the highest count of executed instructions.
-pub const LAST_OUTCOME: u64 = ZERO_DIVISOR;
+pub const OUT_OF_FUEL: u64 = 7;
 
-pub const MAX_COUNT: u64 = MAX_CODE as u64;
+// The highest outcome that a receipt may hold, and the highest count of executed instructions.
+pub const LAST_OUTCOME: u64 = OUT_OF_FUEL;
+
+pub const MAX_COUNT: u64 = MAX_FUEL as u64;

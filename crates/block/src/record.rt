@@ -37,7 +37,7 @@ pub const LONGEST_FUNCTION: usize = FUNCTION_BYTES + INSTR_BYTES * MAX_CODE;
 
 pub const CELL_BYTES: usize = 20;
 
-pub const CALL_BYTES: usize = 30;
+pub const CALL_BYTES: usize = 32;
 
 pub const RECEIPT_BYTES: usize = 4;
 
@@ -154,6 +154,7 @@ fn call_in(s: &[u8]) -> CallBody
         arg2: long(s, 18),
         arg3: long(s, 22),
         arg4: long(s, 26),
+        fuel: short(s, 30),
     })
 }
 

@@ -10,7 +10,7 @@ use Rattle.machine.specs.Run.{Sizes, fixedSizes}
 use Rattle.machine.specs.Opening.{Opened, openingOf}
 use Rattle.console.specs.Computing as console
 use Rattle.block.specs.Record.{recordOf}
-use Rattle.block.specs.Assemble.{times, instr, SET, THROW, JEQ, function, cell, call, callWith, end}
+use Rattle.block.specs.Assemble.{times, instr, SET, THROW, JEQ, function, cell, call, callFuelled, callWith, end}
 use Rattle.footprint.specs.Examples.{gets, keysBlock}
 
 -- The number and offset that answer an opening.
@@ -48,11 +48,12 @@ pub record Refusals : Type 0 where
   -- 3 "kind not 1 to 4, or falling"
   pub kind-0 : refusal (recordOf 0 [] ∷ []) ≡ 3 ∷ 0 ∷ []
   pub kind-5 : refusal (recordOf 5 [] ∷ []) ≡ 3 ∷ 0 ∷ []
-  pub kind-falling : refusal (call 5 32768 0 (pos 0) ∷ cell 5 0 0 0 (pos 2) ∷ end ∷ []) ≡ 3 ∷ 34 ∷ []
+  pub kind-falling : refusal (call 5 32768 0 (pos 0) ∷ cell 5 0 0 0 (pos 2) ∷ end ∷ []) ≡ 3 ∷ 36 ∷ []
   -- 4 "length not the kind's"
   pub length-end : refusal (recordOf 4 (0 ∷ []) ∷ []) ≡ 4 ∷ 0 ∷ []
   pub length-code : refusal (recordOf 1 (0 ∷ 128 ∷ 0 ∷ 0 ∷ 0 ∷ []) ∷ end ∷ []) ≡ 4 ∷ 0 ∷ []
   pub length-65 : refusal (recordOf 1 (repeated 524 0) ∷ end ∷ []) ≡ 4 ∷ 0 ∷ []
+  pub length-call : refusal (recordOf 3 (repeated 30 0) ∷ end ∷ []) ≡ 4 ∷ 0 ∷ []
   -- 5 "a field outside its range"
   pub field-function : refusal (function 32767 0 [] ∷ end ∷ []) ≡ 5 ∷ 0 ∷ []
   pub field-account : refusal (cell 5 1 0 0 (pos 2) ∷ end ∷ []) ≡ 5 ∷ 0 ∷ []
@@ -62,13 +63,16 @@ pub record Refusals : Type 0 where
   pub field-sender : refusal (call 32768 32768 0 (pos 0) ∷ end ∷ []) ≡ 5 ∷ 0 ∷ []
   pub field-contract : refusal (call 5 5 0 (pos 0) ∷ end ∷ []) ≡ 5 ∷ 0 ∷ []
   pub field-value : refusal (call 5 32768 0 (negsuc 0) ∷ end ∷ []) ≡ 5 ∷ 0 ∷ []
+  pub field-fuel : refusal (function 32768 0 [] ∷ callFuelled 5 32768 0 (pos 0) 0 0 ∷ end ∷ []) ≡ 5 ∷ 8 ∷ []
+  pub field-fuel-unknown : refusal (callFuelled 5 32768 0 (pos 0) 0 0 ∷ end ∷ []) ≡ 5 ∷ 0 ∷ []
+  pub fuel-1 : refusal (callFuelled 5 32768 0 (pos 0) 0 1 ∷ callFuelled 5 32768 0 (pos 0) 0 65535 ∷ end ∷ []) ≡ 0 ∷ 0 ∷ []
   -- 6 "not rising"
   pub rising-functions : refusal (function 32768 1 [] ∷ function 32768 1 [] ∷ end ∷ []) ≡ 6 ∷ 8 ∷ []
   pub rising-cells : refusal (cell 32768 1 0 0 (pos 1) ∷ cell 32768 0 0 0 (pos 1) ∷ end ∷ []) ≡ 6 ∷ 24 ∷ []
   -- 7 "a record beyond its kind's limit"
   pub functions-64 : refusal (functions 64 ∷ end ∷ []) ≡ 0 ∷ 0 ∷ []
   pub functions-65 : refusal (functions 65 ∷ end ∷ []) ≡ 7 ∷ 512 ∷ []
-  pub calls-257 : refusal (times 257 (call 5 32768 0 (pos 0)) ∷ end ∷ []) ≡ 7 ∷ 8704 ∷ []
+  pub calls-257 : refusal (times 257 (call 5 32768 0 (pos 0)) ∷ end ∷ []) ≡ 7 ∷ 9216 ∷ []
   -- 8 "bytes after the end"
   pub behind : refusal (end ∷ (0 ∷ []) ∷ []) ≡ 8 ∷ 4 ∷ []
   -- 9 "opening balances sum above 2^63 - 1, at the record that passes it"
@@ -83,13 +87,13 @@ pub record Refusals : Type 0 where
   pub code-constant : refusal (function 32768 0 (instr 11 0 0 0 65537 ∷ []) ∷ end ∷ []) ≡ 10 ∷ 8 ∷ []
   pub code-pay : refusal (function 32768 0 (instr 13 0 6 0 1 ∷ []) ∷ end ∷ []) ≡ 10 ∷ 8 ∷ []
   pub code-unused : refusal (function 32768 0 (instr 0 0 0 0 1 ∷ []) ∷ end ∷ []) ≡ 10 ∷ 8 ∷ []
-  pub jump-back : refusal (function 32768 0 (JEQ 0 0 0 ∷ []) ∷ end ∷ []) ≡ 10 ∷ 8 ∷ []
+  pub jump-back : refusal (function 32768 0 (JEQ 0 0 0 ∷ []) ∷ end ∷ []) ≡ 0 ∷ 0 ∷ []
   pub jump-end : refusal (function 32768 0 (JEQ 0 0 1 ∷ []) ∷ end ∷ []) ≡ 0 ∷ 0 ∷ []
   pub jump-past : refusal (function 32768 0 (JEQ 0 0 2 ∷ []) ∷ end ∷ []) ≡ 10 ∷ 8 ∷ []
   -- 11 "over 24 keys, at the call"
   pub keys-25 : told (openingOf fixedSizes (keysBlock 25) maxWorkers) ≡ 11 ∷ 208 ∷ []
   -- 12 "over 1,024, at the call that passes it": 42 calls of 24 keys, and one more
-  pub keys-1032 : refusal (function 32768 0 (gets 24) ∷ calls 43 ∷ end ∷ []) ≡ 12 ∷ 1628 ∷ []
+  pub keys-1032 : refusal (function 32768 0 (gets 24) ∷ calls 43 ∷ end ∷ []) ≡ 12 ∷ 1712 ∷ []
   -- 13 "workers not 1 to 8 (offset 0)"
   pub workers-0 : told (openingOf fixedSizes end 0) ≡ 13 ∷ 0 ∷ []
   pub workers-9 : told (openingOf fixedSizes end 9) ≡ 13 ∷ 0 ∷ []
@@ -110,7 +114,7 @@ pub record Refusals : Type 0 where
   pub order-5-10 : refusal (function 5 0 (instr 16 0 0 0 0 ∷ []) ∷ end ∷ []) ≡ 5 ∷ 0 ∷ []
   pub order-10-6 : refusal (function 32768 1 [] ∷ function 32768 1 (instr 16 0 0 0 0 ∷ []) ∷ end ∷ []) ≡ 10 ∷ 16 ∷ []
   pub order-6-9 : refusal (cell 5 0 0 0 (pos (2 ^ 63 - 1)) ∷ cell 5 0 0 0 (pos 1) ∷ end ∷ []) ≡ 6 ∷ 24 ∷ []
-  pub order-8-11 : refusal (function 32768 0 (gets 25) ∷ call 5 32768 0 (pos 0) ∷ end ∷ (0 ∷ []) ∷ []) ≡ 8 ∷ 246 ∷ []
+  pub order-8-11 : refusal (function 32768 0 (gets 25) ∷ call 5 32768 0 (pos 0) ∷ end ∷ (0 ∷ []) ∷ []) ≡ 8 ∷ 248 ∷ []
 
 pub refusals : Refusals
 unfolding console.computing times functions calls gets keysBlock
@@ -128,6 +132,7 @@ refusals =
       length-end = refl;
       length-code = refl;
       length-65 = refl;
+      length-call = refl;
       field-function = refl;
       field-account = refl;
       field-balance = refl;
@@ -136,6 +141,9 @@ refusals =
       field-sender = refl;
       field-contract = refl;
       field-value = refl;
+      field-fuel = refl;
+      field-fuel-unknown = refl;
+      fuel-1 = refl;
       rising-functions = refl;
       rising-cells = refl;
       functions-64 = refl;

@@ -6,7 +6,7 @@ use mathlib.Core.Option.{Option, none, some}
 use Prim.Native.Nat.{ℕ, zero, suc, _+_}
 use native.Mathlib.Decide.{ℕ-discrete}
 use lib.IntN.{ℤ, pos, _+ℤ_, _-ℤ_}
-use lib.ListN.{length, getD, getElem?, set}
+use lib.ListN.{getD, getElem?, set}
 use lib.Signed.{ltZ, nonNeg}
 use Rattle.footprint.specs.SafeSets.{AlikeOn, LeftAlike}
 use Rattle.arith.specs.Choice.{if_then_else_}
@@ -25,7 +25,7 @@ use Rattle.block.specs.Naming.{cellKey, targetOf}
 use Rattle.footprint.specs.SetsInWords.{instructionsOf}
 use Rattle.rule.proofs.LimitLaws.{update-same, update-other}
 use Rattle.footprint.proofs.TransactionLaws.{Every, HoldsOfFound, every-at}
-use Rattle.rule.specs.Rule.{State, update, credit, debit, Result, ends, fails, Course, before, over, assignChecked, transfer, execute, executeAt, runBody, Left, settle, unbegun, runFunction, transactionBy}
+use Rattle.rule.specs.Rule.{State, update, credit, debit, Result, ends, fails, Course, before, over, assignChecked, transfer, execute, executeAt, unfuelled, runBody, Left, settle, unbegun, runFunction, transactionBy}
 
 module _ (Q : ℕ → Type 0) where
   -- Storing into the same cell values that are equal if the cell is in Q.
@@ -133,19 +133,24 @@ module _ (Q : ℕ → Type 0) where
     at-alike p ρ n σ τ alike none q = (refl, refl, alike)
     at-alike p ρ n σ τ alike (some i) q = execute-alike p ρ (n + 1) σ τ alike i q
 
-    run-alike : (body : List Instr) → Every ReadsIn body → (turns : ℕ) (x y : Course) → Beside x y
-        → ResultsAlike (runBody turns c body x) (runBody turns c body y)
+    last-alike : (n : ℕ) (σ τ : State) → AlikeOn Q σ τ → (o : Option Instr) → ResultsAlike (unfuelled n σ o) (unfuelled n τ o)
+    unfolding unfuelled
+    last-alike n σ τ alike none = (refl, refl, alike)
+    last-alike n σ τ alike (some i) = (refl, refl)
+
+    run-alike : (body : List Instr) → Every ReadsIn body → (fuel : ℕ) (x y : Course) → Beside x y
+        → ResultsAlike (runBody fuel c body x) (runBody fuel c body y)
     unfolding runBody
-    run-alike body each zero (before p ρ n σ) (before q π m τ) h = (h .2, refl, h .3)
+    run-alike body each zero (before p ρ n σ) (before q π m τ) h = rw (← (h .0), ← (h .2)) (last-alike n σ τ (h .3) (getElem? body p))
     run-alike body each zero (before p ρ n σ) (over s) h = absurd h
     run-alike body each zero (over r) (before q π m τ) h = absurd h
     run-alike body each zero (over r) (over s) h = h
-    run-alike body each (suc turns) (before p ρ n σ) (before q π m τ) h =
-        run-alike body each turns (executeAt c p ρ n σ (getElem? body p)) (executeAt c q π m τ (getElem? body q))
+    run-alike body each (suc fuel) (before p ρ n σ) (before q π m τ) h =
+        run-alike body each fuel (executeAt c p ρ n σ (getElem? body p)) (executeAt c q π m τ (getElem? body q))
         (rw (← (h .0), ← (h .1), ← (h .2)) (at-alike p ρ n σ τ (h .3) (getElem? body p) (every-at ReadsIn body each p)))
-    run-alike body each (suc turns) (before p ρ n σ) (over s) h = absurd h
-    run-alike body each (suc turns) (over r) (before q π m τ) h = absurd h
-    run-alike body each (suc turns) (over r) (over s) h = h
+    run-alike body each (suc fuel) (before p ρ n σ) (over s) h = absurd h
+    run-alike body each (suc fuel) (over r) (before q π m τ) h = absurd h
+    run-alike body each (suc fuel) (over r) (over s) h = h
 
     settle-alike : (σ τ : State) → AlikeOn Q σ τ → (r s : Result) → ResultsAlike r s → LeftAlike Q (settle σ r) (settle τ s)
     unfolding settle
@@ -176,5 +181,5 @@ module _ (Q : ℕ → Type 0) where
         go false true e = clash e
         go false false e =
             settle-alike σ τ alike _ _
-            (run-alike (instructionsOf block g) (each g refl) (length (instructionsOf block g) + 1) _ _
+            (run-alike (instructionsOf block g) (each g refl) (c .fuel) _ _
             (refl, refl, refl, move-alike σ τ alike sender (contractBalance (c .contract)) (c .value)))

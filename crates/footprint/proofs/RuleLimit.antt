@@ -3,7 +3,7 @@
 use mathlib.Core.Path.{_≡_, refl, subst}
 use mathlib.Core.Bool.{Bool, true, false, _&&_}
 use mathlib.Core.List.{List}
-use Prim.Native.Nat.{ℕ, zero, suc, _+_, _*_, _^_, _<_}
+use Prim.Native.Nat.{ℕ, zero, suc, _*_, _^_, _<_}
 use native.Mathlib.Omega.{arith}
 use borrow.Author.Tests.{ltb-true, leb-true}
 use lib.Dec.{ltb, leb, lit<}
@@ -64,6 +64,7 @@ read-call-bounded s h c e = go whole account contract value refl refl refl e
       arg2 = readLe 4 s 18;
       arg3 = readLe 4 s 22;
       arg4 = readLe 4 s 26;
+      fuel = readLe 2 s 30;
     }
 
     ranges : InRanges read
@@ -97,14 +98,14 @@ read-call-bounded s h c e = go whole account contract value refl refl refl e
 
 -- ---- the instructions of a code
 
-body-sound : (left index size : ℕ) (s : List ℕ) → AreBytes s → Every InstrSound (bodyOf left index size s)
+body-sound : (left size : ℕ) (s : List ℕ) → AreBytes s → Every InstrSound (bodyOf left size s)
 unfolding bodyOf withInstr
-body-sound zero index size s h = tt
-body-sound (suc left) index size s h =
-    go (decode index size s) (decode-fits index size s h) (body-sound left (index + 1) size (drop instrBytes s) (drop-bytes instrBytes s h))
+body-sound zero size s h = tt
+body-sound (suc left) size s h =
+    go (decode size s) (decode-fits size s h) (body-sound left size (drop instrBytes s) (drop-bytes instrBytes s h))
   where
-    go : (d : Decoded) → Decodes InstrSound d → Every InstrSound (bodyOf left (index + 1) size (drop instrBytes s))
-        → Every InstrSound (withInstr d (bodyOf left (index + 1) size (drop instrBytes s)))
+    go : (d : Decoded) → Decodes InstrSound d → Every InstrSound (bodyOf left size (drop instrBytes s))
+        → Every InstrSound (withInstr d (bodyOf left size (drop instrBytes s)))
     go (Valid i) f ih = (f, ih)
     go Invalid f ih = ih
 
@@ -147,7 +148,7 @@ module _ (R : ℤ → Type 0) (K : State → Type 0) (fit : (z : ℤ) → mag z 
       transaction-keeps c R fit K block σ holds (functionOf functions c)
       (λ g e. move σ holds (c .sender .0) (c .contract .0) (fits .ranges .sender) (fits .ranges .contract) (c .value) (fits .value))
       (λ g e. every-map InstrSound (InstrKeeps c R K) instr-keeps (instructionsOf block g)
-      (body-sound (g .size) 0 (g .size) _
+      (body-sound (g .size) (g .size) _
       (take-bytes (instrBytes * g .size) (drop (g .start) block) (drop-bytes (g .start) block h))))
 
 -- ---- the limit

@@ -121,12 +121,12 @@ module _ (c : Call) (K : ℕ → Type 0) (own : K (contractBalance (c .contract)
 
     -- So do the sets of a function whose code passes.
     pub sets-keyed : (block : List ℕ) (f : Option Function)
-        → ((g : Function) → EachAccess (Keyed K) (codeAccesses c (g .size) 0 (g .size) (codeAt block (g .start) (g .size))))
+        → ((g : Function) → EachAccess (Keyed K) (codeAccesses c (g .size) (g .size) (codeAt block (g .start) (g .size))))
         → EachAccess (Keyed K) (functionSets block c f)
     unfolding functionSets
     sets-keyed block none code = tt
     sets-keyed block (some g) code =
-        merged-each (Keyed K) keyed-joins (mergeAll [] (entryAccesses c)) (codeAccesses c (g .size) 0 (g .size) (codeAt block (g .start) (g .size)))
+        merged-each (Keyed K) keyed-joins (mergeAll [] (entryAccesses c)) (codeAccesses c (g .size) (g .size) (codeAt block (g .start) (g .size)))
         (merged-each (Keyed K) keyed-joins [] (entryAccesses c) tt entry-keyed) (code g)
 
 -- ---- at least one flag
@@ -144,7 +144,7 @@ decoded-used c Invalid = tt
 pub sets-used : (block : List ℕ) (c : Call) (f : Option Function) → EachAccess Used (functionSets block c f)
 sets-used block c f =
     sets-keyed c anyKey tt (λ n h. tt) tt block f
-    (λ g. code-each Used (λ s. Unit {0}) (λ s q. tt) c (g .size) (λ index s q. decoded-used c (decode index (g .size) s)) (g .size) 0
+    (λ g. code-each Used (λ s. Unit {0}) (λ s q. tt) c (g .size) (λ s q. decoded-used c (decode (g .size) s)) (g .size)
     (codeAt block (g .start) (g .size)) tt)
 
 -- ---- keys of 96 bits
@@ -214,19 +214,19 @@ take-bytes (suc n) (b ∷ s) h zero = h 0
 take-bytes (suc n) (b ∷ s) h (suc i) = take-bytes n s (λ j. h (suc j)) i
 
 -- An instruction that bytes decode to is such.
-pub decode-sound : (index size : ℕ) (s : List ℕ) → AreBytes s → Decodes (InstrLawful (2 ^ 16) index size) (decode index size s)
-decode-sound index size s h =
+pub decode-sound : (size : ℕ) (s : List ℕ) → AreBytes s → Decodes (InstrLawful (2 ^ 16) size) (decode size s)
+decode-sound size s h =
     let wide : number 4 (drop 4 s) < 2 ^ 32 = number-lt 4 (drop 4 s) (drop-bytes 4 s h) in
-    decode-lawful (2 ^ 16) index size s (omega arith)
+    decode-lawful (2 ^ 16) size s (omega arith)
 
-pub decode-fits : (index size : ℕ) (s : List ℕ) → AreBytes s → Decodes InstrSound (decode index size s)
-decode-fits index size s h =
-    decodes-map (InstrLawful (2 ^ 16) index size) InstrSound (λ i l. l .0) (decode index size s) (decode-sound index size s h)
+pub decode-fits : (size : ℕ) (s : List ℕ) → AreBytes s → Decodes InstrSound (decode size s)
+decode-fits size s h =
+    decodes-map (InstrLawful (2 ^ 16) size) InstrSound (λ i l. l .0) (decode size s) (decode-sound size s h)
 
 -- Every key in the sets of a call has 96 bits.
 pub sets-below : (block : List ℕ) → AreBytes block → (c : Call) → InRanges c → (f : Option Function) → EachAccess (Keyed below96) (functionSets block c f)
 sets-below block h c r f =
     sets-keyed c below96 (own-below c r) (balance-below c r) (sender-below c r) block f
     (λ g. code-each (Keyed below96) AreBytes (drop-bytes instrBytes) c (g .size)
-    (λ index s q. decoded-below c r (decode index (g .size) s) (decode-fits index (g .size) s q)) (g .size) 0
+    (λ s q. decoded-below c r (decode (g .size) s) (decode-fits (g .size) s q)) (g .size)
     (codeAt block (g .start) (g .size)) (take-bytes (instrBytes * g .size) (drop (g .start) block) (drop-bytes (g .start) block h)))

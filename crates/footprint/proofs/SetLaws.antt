@@ -3,7 +3,6 @@ use mathlib.Core.Path.{_≡_, refl, sym, ap, _∙_}
 use mathlib.Core.Bool.{Bool, true, false, _&&_, _||_, or-false, or-comm, or-assoc, and-true, and-false}
 use mathlib.Core.List.{List, [], _∷_, _++_, append-assoc, append-nil}
 use Prim.Native.Nat.{ℕ, zero, suc, _+_, _*_}
-use native.Mathlib.Nat.{add-zero}
 use native.Mathlib.Omega.{arith}
 use borrow.Author.Tests.{eqb-true}
 use lib.Dec.{eqb}
@@ -141,13 +140,13 @@ module _ (P : Access → Type 0) where
 
 -- Of all instructions of a code, where it holds of each one whose bytes pass a test that a shorter rest passes too.
 module _ (P : Access → Type 0) (Q : List ℕ → Type 0) (rest : (s : List ℕ) → Q s → Q (drop instrBytes s)) (c : Call) (size : ℕ)
-    (each : (index : ℕ) (s : List ℕ) → Q s → EachAccess P (decodedAccesses c (decode index size s))) where
-  pub code-each : (left index : ℕ) (s : List ℕ) → Q s → EachAccess P (codeAccesses c left index size s)
+    (each : (s : List ℕ) → Q s → EachAccess P (decodedAccesses c (decode size s))) where
+  pub code-each : (left : ℕ) (s : List ℕ) → Q s → EachAccess P (codeAccesses c left size s)
   unfolding codeAccesses
-  code-each zero index s q = tt
-  code-each (suc left) index s q =
-      each-append P (decodedAccesses c (decode index size s)) (codeAccesses c left (index + 1) size (drop instrBytes s)) (each index s q)
-      (code-each left (index + 1) (drop instrBytes s) (rest s q))
+  code-each zero s q = tt
+  code-each (suc left) s q =
+      each-append P (decodedAccesses c (decode size s)) (codeAccesses c left size (drop instrBytes s)) (each s q)
+      (code-each left (drop instrBytes s) (rest s q))
 
 -- ---- in which order
 
@@ -158,19 +157,16 @@ merged-append es [] ys = refl
 merged-append es (a ∷ xs) ys = merged-append (merge es a) xs ys
 
 -- The accesses of one instruction more.
-pub code-more : (c : Call) (n index size : ℕ) (s : List ℕ)
-    → codeAccesses c (suc n) index size s
-    ≡ codeAccesses c n index size s ++ decodedAccesses c (decode (index + n) size (drop (instrBytes * n) s))
+pub code-more : (c : Call) (n size : ℕ) (s : List ℕ)
+    → codeAccesses c (suc n) size s
+    ≡ codeAccesses c n size s ++ decodedAccesses c (decode size (drop (instrBytes * n) s))
 unfolding codeAccesses
-code-more c zero index size s =
-    append-nil (decodedAccesses c (decode index size s)) ∙ ap (λ (i : ℕ). decodedAccesses c (decode i size s)) (sym (add-zero index))
-code-more c (suc n) index size s =
-    let next : index + 1 + n ≡ index + suc n = omega arith in
+code-more c zero size s = append-nil (decodedAccesses c (decode size s))
+code-more c (suc n) size s =
     let far : 8 + 8 * n ≡ 8 * suc n = omega arith in
-    let first : List Access = decodedAccesses c (decode index size s) in
-    let middle : List Access = codeAccesses c n (index + 1) size (drop instrBytes s) in
-    ap (λ (t : List Access). first ++ t) (code-more c n (index + 1) size (drop instrBytes s))
-    ∙ sym (append-assoc first middle (decodedAccesses c (decode (index + 1 + n) size (drop (instrBytes * n) (drop instrBytes s)))))
-    ∙ ap (λ (i : ℕ). (first ++ middle) ++ decodedAccesses c (decode i size (drop (instrBytes * n) (drop instrBytes s)))) next
-    ∙ ap (λ (t : List ℕ). (first ++ middle) ++ decodedAccesses c (decode (index + suc n) size t))
+    let first : List Access = decodedAccesses c (decode size s) in
+    let middle : List Access = codeAccesses c n size (drop instrBytes s) in
+    ap (λ (t : List Access). first ++ t) (code-more c n size (drop instrBytes s))
+    ∙ sym (append-assoc first middle (decodedAccesses c (decode size (drop (instrBytes * n) (drop instrBytes s)))))
+    ∙ ap (λ (t : List ℕ). (first ++ middle) ++ decodedAccesses c (decode size t))
     (drop-drop (instrBytes * n) instrBytes s ∙ ap (λ (m : ℕ). drop m s) far)

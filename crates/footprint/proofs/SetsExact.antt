@@ -42,20 +42,20 @@ module _ (flag : Access → Bool) (chosen : List Access → List ℕ) (nothing :
       go false ih = ih
 
   module _ (c : Call) (k : ℕ) (test : Instr → Bool) (each : (i : Instr) → member k (chosen (accesses c i)) ≡ test i) where
-    code-chosen : (left index size : ℕ) (s : List ℕ)
-        → member k (chosen (codeAccesses c left index size s)) ≡ someOf test (bodyOf left index size s)
+    code-chosen : (left size : ℕ) (s : List ℕ)
+        → member k (chosen (codeAccesses c left size s)) ≡ someOf test (bodyOf left size s)
     unfolding codeAccesses bodyOf withInstr someOf member
-    code-chosen zero index size s = ap (member k) nothing
-    code-chosen (suc left) index size s =
-        ap (member k) (chosen-append (decodedAccesses c (decode index size s)) rest)
-        ∙ member-append k (chosen (decodedAccesses c (decode index size s))) (chosen rest)
-        ∙ go (decode index size s) (code-chosen left (index + 1) size (drop instrBytes s))
+    code-chosen zero size s = ap (member k) nothing
+    code-chosen (suc left) size s =
+        ap (member k) (chosen-append (decodedAccesses c (decode size s)) rest)
+        ∙ member-append k (chosen (decodedAccesses c (decode size s))) (chosen rest)
+        ∙ go (decode size s) (code-chosen left size (drop instrBytes s))
       where
         rest : List Access
-        rest = codeAccesses c left (index + 1) size (drop instrBytes s)
+        rest = codeAccesses c left size (drop instrBytes s)
 
         body : List Instr
-        body = bodyOf left (index + 1) size (drop instrBytes s)
+        body = bodyOf left size (drop instrBytes s)
 
         go : (d : Decoded) → member k (chosen rest) ≡ someOf test body
             → (member k (chosen (decodedAccesses c d)) || member k (chosen rest)) ≡ someOf test (withInstr d body)
@@ -103,9 +103,9 @@ module _ (c : Call) (k : ℕ) where
   unfolding functionSets isRead readSet member mergeAll
   function-read block none = refl
   function-read block (some f) =
-      reads-union k (mergeAll [] (entryAccesses c)) (codeAccesses c (f .size) 0 (f .size) (codeAt block (f .start) (f .size)))
+      reads-union k (mergeAll [] (entryAccesses c)) (codeAccesses c (f .size) (f .size) (codeAt block (f .start) (f .size)))
       ∙ ap₂ (λ (a b : Bool). a || b) (reads-union k [] (entryAccesses c) ∙ entry-read)
-      (code-chosen (λ e. e .reads) readSet refl (λ e es. refl) c k (readBy c k) instr-read (f .size) 0 (f .size)
+      (code-chosen (λ e. e .reads) readSet refl (λ e es. refl) c k (readBy c k) instr-read (f .size) (f .size)
       (codeAt block (f .start) (f .size)))
 
 pub reads-exact : ReadsExact
@@ -154,9 +154,9 @@ module _ (c : Call) (k : ℕ) where
   unfolding functionSets isWritten writeSet member mergeAll
   function-written block none = refl
   function-written block (some f) =
-      writes-union k (mergeAll [] (entryAccesses c)) (codeAccesses c (f .size) 0 (f .size) (codeAt block (f .start) (f .size)))
+      writes-union k (mergeAll [] (entryAccesses c)) (codeAccesses c (f .size) (f .size) (codeAt block (f .start) (f .size)))
       ∙ ap₂ (λ (a b : Bool). a || b) (writes-union k [] (entryAccesses c) ∙ entry-written)
-      (code-chosen (λ e. e .writes) writeSet refl (λ e es. refl) c k (writtenBy c k) instr-written (f .size) 0 (f .size)
+      (code-chosen (λ e. e .writes) writeSet refl (λ e es. refl) c k (writtenBy c k) instr-written (f .size) (f .size)
       (codeAt block (f .start) (f .size)))
 
 pub writes-exact : WritesExact

@@ -10,7 +10,7 @@ use native.Mathlib.Decide.{ℕ-discrete}
 use borrow.Author.Tests.{ltb-true}
 use lib.Dec.{lit<}
 use lib.IntN.{ℤ, pos, negsuc, negℤ, _+ℤ_, _-ℤ_, _*ℤ_}
-use lib.ListN.{length, getD, getElem?, set}
+use lib.ListN.{getD, getElem?, set}
 use lib.Signed.{mag, ltZ, nonNeg}
 use Rattle.arith.specs.Choice.{if_then_else_}
 use Rattle.arith.proofs.ChoiceLaws.{if-all, neither}
@@ -26,7 +26,7 @@ use Rattle.block.specs.declared.Instr.{Instr}
 use Rattle.block.specs.declared.Instr.the-variants.{Stop, Throw, Set, Arg, Sender, Value, Add, Sub, Mul, Div, Get, Put, Bal, Pay, Jeq, Jlt}
 use Rattle.block.specs.Naming.{cellKey, targetOf}
 use Rattle.footprint.specs.SetsInWords.{someOf, instructionsOf}
-use Rattle.rule.specs.Rule.{State, update, credit, debit, Result, ends, fails, Course, before, over, assignChecked, transfer, execute, executeAt, runBody, Left, settle, unbegun, runFunction, transactionBy}
+use Rattle.rule.specs.Rule.{State, update, credit, debit, Result, ends, fails, Course, before, over, assignChecked, transfer, execute, executeAt, unfuelled, runBody, Left, settle, unbegun, runFunction, transactionBy}
 
 -- What holds of everything in a list.
 abbrev pub Every : {A : Type 0} → (A → Type 0) → List A → Type 0
@@ -178,14 +178,19 @@ module _ (c : Call) (R : ℤ → Type 0) (fit : (z : ℤ) → mag z < 2 ^ 63 →
   at-keeps p ρ n σ all holds (some i) q = execute-keeps p ρ (n + 1) σ all holds i q
 
   module _ (body : List Instr) (each : Every (InstrKeeps c R K) body) where
-    run-keeps : (turns : ℕ) (x : Course) → At x → LeftWith K (runBody turns c body x)
+    last-keeps : (n : ℕ) (σ : State) → K σ → (o : Option Instr) → LeftWith K (unfuelled n σ o)
+    unfolding unfuelled
+    last-keeps n σ holds none = holds
+    last-keeps n σ holds (some i) = omega arith
+
+    run-keeps : (fuel : ℕ) (x : Course) → At x → LeftWith K (runBody fuel c body x)
     unfolding runBody
-    run-keeps zero (before p ρ n σ) h = h .1
+    run-keeps zero (before p ρ n σ) h = last-keeps n σ (h .1) (getElem? body p)
     run-keeps zero (over r) h = h
-    run-keeps (suc turns) (before p ρ n σ) h =
-        run-keeps turns (executeAt c p ρ n σ (getElem? body p))
+    run-keeps (suc fuel) (before p ρ n σ) h =
+        run-keeps fuel (executeAt c p ρ n σ (getElem? body p))
         (at-keeps p ρ n σ (h .0) (h .1) (getElem? body p) (every-at (InstrKeeps c R K) body each p))
-    run-keeps (suc turns) (over r) h = h
+    run-keeps (suc fuel) (over r) h = h
 
   settle-ends : (σ : State) (r : Result) → LeftWith K r → EndsWith K σ (settle σ r)
   unfolding settle
@@ -211,7 +216,7 @@ module _ (c : Call) (R : ℤ → Type 0) (fit : (z : ℤ) → mag z < 2 ^ 63 →
       go true e = (λ o. absurd (omega (arith, o)), λ d. refl)
       go false e =
           settle-ends σ _
-          (run-keeps (instructionsOf block g) (each g refl) (length (instructionsOf block g) + 1) _ (zeros, entry g refl e))
+          (run-keeps (instructionsOf block g) (each g refl) (c .fuel) _ (zeros, entry g refl e))
 
   -- So a transaction keeps what its entry and its instructions keep.
   pub transaction-keeps : (block : List ℕ) (σ : State) → K σ → (f : Option Function)

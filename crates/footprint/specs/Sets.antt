@@ -30,17 +30,17 @@ abbrev pub decodedAccesses : Call → Decoded → List Access
 decodedAccesses c (Valid i) = accesses c i
 decodedAccesses c Invalid = []
 
--- The accesses of the `left` instructions from `index` on. "Every instruction counts, reached or not."
-unfoldable pub codeAccesses : Call → ℕ → ℕ → ℕ → List ℕ → List Access
-codeAccesses c zero index size s = []
-codeAccesses c (suc left) index size s =
-    decodedAccesses c (decode index size s) ++ codeAccesses c left (index + 1) size (drop instrBytes s)
+-- The accesses of the first `left` instructions of the bytes. "Every instruction counts, reached or not."
+unfoldable pub codeAccesses : Call → ℕ → ℕ → List ℕ → List Access
+codeAccesses c zero size s = []
+codeAccesses c (suc left) size s =
+    decodedAccesses c (decode size s) ++ codeAccesses c left size (drop instrBytes s)
 
 -- "An unknown function has empty sets."
 unfoldable pub functionSets : List ℕ → Call → Option Function → List Access
 functionSets block c none = []
 functionSets block c (some f) =
-    mergeAll (mergeAll [] (entryAccesses c)) (codeAccesses c (f .size) 0 (f .size) (codeAt block (f .start) (f .size)))
+    mergeAll (mergeAll [] (entryAccesses c)) (codeAccesses c (f .size) (f .size) (codeAt block (f .start) (f .size)))
 
 abbrev pub setsOf : List ℕ → List Function → Call → List Access
 setsOf block functions c = functionSets block c (functionOf functions c)

@@ -69,7 +69,7 @@ someOf test (i ∷ is) = test i || someOf test is
 
 -- The instructions of a function.
 abbrev pub instructionsOf : List ℕ → Function → List Instr
-instructionsOf block f = bodyOf (f .size) 0 (f .size) (codeAt block (f .start) (f .size))
+instructionsOf block f = bodyOf (f .size) (f .size) (codeAt block (f .start) (f .size))
 
 -- "Value above 0: reads sender's balance, writes sender's and contract's." "An unknown function has empty sets."
 unfoldable pub isRead : List ℕ → Call → ℕ → Option Function → Bool

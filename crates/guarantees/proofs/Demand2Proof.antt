@@ -7,7 +7,7 @@ use Prim.Native.Nat.{ℕ, zero, suc, _+_, _*_, _<_}
 use native.Mathlib.Omega.{arith}
 use lib.IntN.{ℤ, pos}
 use lib.ListN.{length, getElem?, drop}
-use Rattle.block.specs.Record.{Function, Block, callRecordBytes, headBytes}
+use Rattle.block.specs.Record.{Function, Block, callOf, callRecordBytes, headBytes}
 use Rattle.block.proofs.ReaderLaws.{FunctionSound}
 use Rattle.block.specs.declared.Call.{Call}
 use Rattle.block.specs.declared.CallBody.the-variants.{OutOfRange}
@@ -32,9 +32,9 @@ use Rattle.machine.specs.declared.Head.{Head}
 use Rattle.machine.proofs.CallRule.{CallCompletes, call-rule}
 use Rattle.machine.proofs.CodeLaws.{instr-of}
 use Rattle.machine.specs.CallInRun.{InstrOf, Hold, stepsTaken, LeavesAsRule}
-use Rattle.machine.specs.Serial.{maxSteps}
+use Rattle.machine.specs.Serial.{stepLimit}
 use Rattle.machine.specs.Step.{View, cellAt}
-use Rattle.guarantees.proofs.CallsOfRun.ViewCalls.{Place, Receipt, receipt}
+use Rattle.guarantees.proofs.CallsOfRun.ViewCalls.{Place, Receipt, receipt, runView}
 use Rattle.guarantees.proofs.FollowingMachine.RunMatches.{CallState, StatusSays}
 use Rattle.guarantees.proofs.AcceptedOpening.OpenedCalls.{CallOpened}
 use Rattle.guarantees.proofs.AcceptedOpening.AfterOpening.{AfterOpening, after-opening}
@@ -48,8 +48,8 @@ use Rattle.guarantees.proofs.RunAndTally.WriteSets.{may-write}
 use Rattle.guarantees.proofs.SerialAndRule.BySizes.{steps-by-sizes}
 use Rattle.guarantees.proofs.RunAndTally.MovesAndTally.{StepsBySizes}
 use Rattle.guarantees.proofs.SerialAndRule.RegisterLaws.{read-listed, write-listed, off-table, opening-elsewhere, lefts-keep, steps-keep, held-alike, cells-alike}
-use Rattle.guarantees.specs.Demand2.{tableIn, callOfBlock, ruleFor, openingState, ruleLefts, closingState, callView, begunCall, wholeCall, cellsAfter, Register, mayRead, LeavesAlike, Receives, Demand2, Demand2Holds}
-use Rattle.guarantees.specs.RuleRun.{bodyCall}
+use Rattle.guarantees.specs.Demand2.{tableIn, ruleFor, openingState, ruleLefts, closingState, callView, begunCall, wholeCall, cellsAfter, Register, mayRead, LeavesAlike, Receives, Demand2, Demand2Holds}
+use Rattle.guarantees.specs.RuleRun.{bodyCall, callOfBlock}
 
 -- A call that ended with a receipt stands so.
 receipt-stands : (status : List ℕ) (c : ℕ) (a : CallState) (r : Receipt) (outcome count : ℕ) → a ≡ ended r → r ≡ receipt outcome count
@@ -109,6 +109,13 @@ module _ (s : Sizes) (file : List ℕ) (workers : ℕ) (bytes : AreBytes file) (
         let o = after .opened .calls c less in
         subst⁻¹ (CallOpened file b (after .table) (s .keys) r₀ c) (found-in (b .calls) c (bodyCall OutOfRange) (o .0) (o .1 .at)) (o .1)
 
+    -- Its record, as a step reads it.
+    pub record-is : runView file r₀ c .call ≡ x
+    unfolding bodyCall
+    record-is =
+        ap (λ (h : Head). bodyCall (callOf (drop (h .«first_call» + callRecordBytes * c + headBytes) file))) (after .opened .head)
+        ∙ ap bodyCall (opened .body)
+
     abbrev record-bytes : List ℕ
     record-bytes = drop (b .firstCall + callRecordBytes * c + headBytes) file
 
@@ -127,7 +134,7 @@ module _ (s : Sizes) (file : List ℕ) (workers : ℕ) (bytes : AreBytes file) (
         → CallCompletes (after .table) (ruleFor file c σ) (callView s file workers c) cells
     made-completes σ within cells hold =
         subst⁻¹ (λ (v : View). CallCompletes (after .table) (ruleFor file c σ) v cells) (opened .view)
-        (call-rule file bytes (b .functions) (after .whole .laws .codes) x fits (after .table) (after .opened .fewKeys) (listed-in (after .table) (setsOf file (b .functions) x) (opened .listed)) (opened .few) (s .keys) σ within cells hold)
+        (call-rule file bytes (b .functions) (after .whole .laws .codes) x fits (opened .fuel) (after .table) (after .opened .fewKeys) (listed-in (after .table) (setsOf file (b .functions) x) (opened .listed)) (opened .few) (s .keys) σ within cells hold)
 
     completes : (σ : State) → stateWithinLimit σ ≡ true → (cells : List ℤ) → Hold (tableIn r₀) σ cells
         → CallCompletes (tableIn r₀) (ruleFor file c σ) (callView s file workers c) cells
@@ -140,7 +147,7 @@ module _ (s : Sizes) (file : List ℕ) (workers : ℕ) (bytes : AreBytes file) (
     leaves σ within cells hold = completes σ within cells hold .leaves
 
     leaves-steps : (σ : State) → stateWithinLimit σ ≡ true → (cells : List ℤ) → Hold (tableIn r₀) σ cells
-        → stepsTaken maxSteps (callView s file workers c) (begunCall s file workers c cells) ≡ stepsFor (ruleFor file c σ)
+        → stepsTaken (stepLimit (callOfBlock file c .fuel)) (callView s file workers c) (begunCall s file workers c cells) ≡ stepsFor (ruleFor file c σ)
     leaves-steps σ within cells hold = completes σ within cells hold .steps
 
     keeps-limit : (σ : State) → stateWithinLimit σ ≡ true → stateWithinLimit (ruleFor file c σ .state) ≡ true

@@ -41,6 +41,10 @@ use Rattle.guarantees.proofs.ClosingSheet.SheetWritten.{unfinished-refu
 use Rattle.guarantees.proofs.RunAndTally.SerialPointLaws.{accepted-number, state-of-phase, same-receipt, same-cells, seat-holds, local-is}
 use Rattle.guarantees.proofs.RunAndTally.MovesAndTally.{StepsBySizes, theTally, theMachine, confluent, agreed, finished-closed, behind-matches, no-twenty, steps-in, tally-is, answers-are, since-is}
 use Rattle.analysis.specs.LayoutOfBlock.{callCount}
+use Rattle.block.specs.declared.Call.{Call}
+use Rattle.guarantees.specs.RuleRun.{callOfBlock}
+use Rattle.guarantees.proofs.CallsOfRun.ViewCalls.{runView}
+use Rattle.guarantees.proofs.Demand2Proof.{record-is}
 
 module _ (s : Sizes) (file : List ℕ) (workers : ℕ) (bytes : AreBytes file) (after : AfterOpening s file workers)
     (sized : StepsBySizes s file workers) (ms : List Move) where
@@ -266,7 +270,9 @@ module _ (s : Sizes) (file : List ℕ) (workers : ℕ) (bytes : AreBytes file) (
         unwritten-cells = unwritten-cells;
         running-calls = λ c k l e. running-call c k l (phased c (running k) e);
         progress = λ c l u. progress c l (sym (ap isFinished (phase-is c)) ∙ u);
-        bound = λ c l. omega (arith, since-is s file workers bytes after sized ms c, conf .bounded c);
+        bound = λ c l.
+            let own : runView file r₀ c .call .fuel ≡ callOfBlock file c .fuel = ap (λ (d : Call). d .fuel) (record-is s file workers bytes after c l) in
+            omega (arith, since-is s file workers bytes after sized ms c, conf .bounded c);
         unfinished = λ c l. unfinished-refused s file workers after M r stands (tallyAfter file workers ms .phase) states c l;
         close = λ all. closes (λ c l. phased c finished (all c l));
       }

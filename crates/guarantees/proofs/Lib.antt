@@ -2,7 +2,8 @@
 --   Demand1Proof          AcceptedOpening, NumbersByCondition, and of FollowingMachine the laws of buffers
 --   Demand2Proof          CallsOfRun, AcceptedOpening, FollowingMachine, SerialAndRule, RunAndTally
 --   WithdrawnProof        Demand2Proof, CallsOfRun, AcceptedOpening, FollowingMachine, SerialAndRule, RunAndTally
---   ZeroDivisorsProof     Demand2Proof, for one law of lists
+--   ZeroDivisorsProof     TurnedLaws
+--   FuelProof             TurnedLaws
 --   Demand3Proof          those of Demand2Proof, ClosingSheet
 --   RegisterByTallyProof  Demand3Proof, ClosingSheet, RegisterOutput
 --   ClosedOpensProof      Demand2Proof, Demand3Proof, TheNextDay
@@ -21,7 +22,9 @@ mod TheNextDay
 mod Demand1Proof
 mod Demand2Proof
 mod WithdrawnProof
+mod TurnedLaws
 mod ZeroDivisorsProof
+mod FuelProof
 mod Demand3Proof
 mod RegisterByTallyProof
 mod ClosedOpensProof

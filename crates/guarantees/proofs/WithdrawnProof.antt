@@ -49,8 +49,8 @@ use Rattle.machine.specs.Action.{placeOf, register, checkedAction, payAction, i
 use Rattle.machine.specs.Step.{View, cellAt, savedOf, restored}
 use Rattle.machine.specs.declared.Next.the-variants.{Go, Transfer}
 use Rattle.guarantees.specs.Agreement.{runAfterMoves}
-use Rattle.guarantees.specs.Demand2.{callOfBlock, ruleFor, openingState}
-use Rattle.guarantees.specs.RuleRun.{bodyCall}
+use Rattle.guarantees.specs.Demand2.{ruleFor, openingState}
+use Rattle.guarantees.specs.RuleRun.{bodyCall, callOfBlock}
 use Rattle.guarantees.specs.Withdrawn.{sentBy0, PaysNobody, NoMoreTo0, WithdrawnHolds}
 use Rattle.guarantees.proofs.CallsOfRun.ViewCalls.{Place, placeWithSaved, anyEntry, runView}
 use Rattle.guarantees.proofs.CallsOfRun.ViewSpares.{Spares, step-spares}

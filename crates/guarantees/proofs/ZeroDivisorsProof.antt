@@ -1,14 +1,14 @@
 -- M-103 holds: what an instruction reckons is what the arithmetic answers, and an answer without a value is all that ends a call with 4 or 6, in the rule and in a step.
--- A transaction that comes to such an instruction ends there, since jumps go forward and so the turns of the rule suffice; and one that ended so came to it.
-use mathlib.Core.Path.{_≡_, refl, sym, ap, subst, subst⁻¹, _∙_}
+-- A transaction that comes to such an instruction with fuel for it ends there; and one that ended so came to it.
+use mathlib.Core.Path.{_≡_, refl, sym, ap, subst, _∙_}
 use mathlib.Core.Bool.{Bool, true, false, _&&_, not, true≢false}
 use mathlib.Core.List.{List, []}
+use mathlib.Core.Logic.{_⊎_, inl, inr}
 use mathlib.Core.Option.{Option, none, some, Option·some-injective, Option·none-ne-some}
 use Prim.Native.Nat.{ℕ, zero, suc, _+_, _-_, _≤_, _<_}
 use native.Mathlib.Omega.{arith}
 use borrow.Author.Tests.{le-ltb}
 use lib.IntN.{ℤ, pos, negsuc, _+ℤ_, _-ℤ_, _*ℤ_}
-use lib.ListN.{length, getElem?, drop}
 use lib.Signed.{ltZ, leZ, nonNeg}
 use Rattle.arith.specs.Choice.{if_then_else_}
 use Rattle.arith.specs.Balance.{largest}
@@ -17,149 +17,28 @@ use Rattle.arith.specs.declared.Checked.{Checked}
 use Rattle.arith.specs.declared.Checked.the-variants as answered
 use Rattle.arith.proofs.ChoiceLaws.{by-test, if-all}
 use Rattle.block.specs.Key.{accountBalance, contractBalance, isBalance}
-use Rattle.block.specs.Outcomes.{balanceTooLow, thrown, outOfRange, notPaid, zeroDivisor}
-use Rattle.block.specs.Instruction.{instrBytes, decode}
+use Rattle.block.specs.Outcomes.{balanceTooLow, thrown, outOfRange, notPaid, zeroDivisor, outOfFuel}
 use Rattle.block.specs.Naming.{functionOf, targetOf}
-use Rattle.block.specs.Record.{Function, codeAt}
+use Rattle.block.specs.Record.{Function}
 use Rattle.block.specs.declared.Call.{Call}
-use Rattle.block.specs.declared.Decoded.{Decoded}
-use Rattle.block.specs.declared.Decoded.the-variants.{Valid, Invalid}
+use Rattle.block.specs.declared.Decoded.the-variants.{Valid}
 use Rattle.block.specs.declared.Payee.{Payee}
 use Rattle.block.specs.declared.Payee.the-variants.{To, Nobody}
 use Rattle.block.specs.declared.Instr.{Instr}
 use Rattle.block.specs.declared.Instr.the-variants.{Stop, Throw, Set, Arg, Sender, Value, Add, Sub, Mul, Div, Get, Put, Bal, Pay, Jeq, Jlt}
-use Rattle.block.proofs.DecodeLaws.{JumpsForward, Decodes, decode-forward}
 use Rattle.footprint.specs.Access.{Access, accesses}
 use Rattle.footprint.specs.SetsInWords.{instructionsOf}
-use Rattle.rule.specs.Rule.{State, Result, ends, fails, Course, before, over, assignChecked, transfer, execute, executeAt, runBody, withInstr, bodyOf, settle, unbegun, runFunction, transactionBy, transaction}
-use Rattle.rule.proofs.TurnLaws.{OneMore, turn-one, body-over}
+use Rattle.rule.specs.Rule.{State, Result, ends, fails, Course, before, over, assignChecked, transfer, execute, executeAt, runBody, settle, unbegun, runFunction, transactionBy, transaction}
+use Rattle.rule.proofs.TurnLaws.{body-over}
 use Rattle.machine.specs.Run.{zeroRegisters}
 use Rattle.machine.specs.Action.{register, checkedAction, payAction, instrAction}
 use Rattle.machine.specs.declared.Next.the-variants.{End, Transfer}
 use Rattle.machine.specs.declared.Lookup.{Lookup}
 use Rattle.machine.specs.declared.Lookup.the-variants.{Cell, NoCell}
 use Rattle.machine.specs.Step.{View, Performed, broken, onward, ending, damaged, done, restorable, restored, cellAt, loadCell, storeCell, depositCell, transferCells, lookup, accessAt, perform, performAction, stepDecoded, finish}
-use Rattle.guarantees.specs.ZeroDivisors.{Reckoned, nothing, exactly, byZero, quotient, reckoned, isByZero, isOutside, turned, entered, ComesTo, failedWith, Tells, ZeroDivisorsHold}
-use Rattle.guarantees.proofs.Demand2Proof.{found-below}
-
--- ---- jumps go forward, so the turns suffice
-
--- The instruction jumps, if it does, behind an index that is not below this one.
-record Ahead (index size : ℕ) (i : Instr) : Type 0 where
-  at : ℕ
-  above : index ≤ at
-  forward : JumpsForward at size i
-
--- So does each instruction of a body, from its place on.
-body-ahead : (left index size : ℕ) (s : List ℕ) (p : ℕ) (i : Instr) → getElem? (bodyOf left index size s) p ≡ some i → Ahead (index + p) size i
-unfolding bodyOf withInstr
-body-ahead zero index size s p i e = absurd (Option·none-ne-some i e)
-body-ahead (suc left) index size s p i e = go (decode index size s) (decode-forward index size s) (body-ahead left (index + 1) size (drop instrBytes s)) p e
-  where
-    rest : List Instr
-    rest = bodyOf left (index + 1) size (drop instrBytes s)
-
-    go : (d : Decoded) → Decodes (JumpsForward index size) d → ((q : ℕ) (j : Instr) → getElem? rest q ≡ some j → Ahead (index + 1 + q) size j)
-        → (q : ℕ) → getElem? (withInstr d rest) q ≡ some i → Ahead (index + q) size i
-    go (Valid j) forward ih zero f = record { at = index; above = omega arith; forward = subst (JumpsForward index size) (Option·some-injective j i f) forward }
-    go (Valid j) forward ih (suc q) f = let h = ih q i f in record { at = h .at; above = omega (arith, h .above); forward = h .forward }
-    go Invalid forward ih q f = let h = ih q i f in record { at = h .at; above = omega (arith, h .above); forward = h .forward }
-
--- A course that goes on is at least there.
-abbrev Beyond : ℕ → Course → Type 0
-Beyond b (before p ρ n σ) = b ≤ p
-Beyond b (over r) = Unit {0}
-
-beyond-less : (a b : ℕ) → a ≤ b → (x : Course) → Beyond b x → Beyond a x
-beyond-less a b h (before p ρ n σ) k = omega (arith, h, k)
-beyond-less a b h (over r) k = tt
-
-module _ (c : Call) (p : ℕ) (ρ : List ℤ) (n : ℕ) (σ : State) where
-  checked-beyond : (x : ℕ) (k : Checked) → Beyond (p + 1) (assignChecked p ρ n σ x k)
-  unfolding assignChecked
-  checked-beyond x (answered.Value v) = omega arith
-  checked-beyond x answered.Overflow = tt
-  checked-beyond x answered.ZeroDivisor = tt
-
-  transfer-beyond : (m : ℤ) (payee : Payee) → Beyond (p + 1) (transfer c p ρ n σ m payee)
-  unfolding transfer
-  transfer-beyond m Nobody = tt
-  transfer-beyond m (To account) =
-      if-all (Beyond (p + 1)) (nonNeg m) (λ s. if-all (Beyond (p + 1)) (ltZ (σ (contractBalance (c .contract))) m) (λ t. tt) (λ t. omega arith)) (λ s. tt)
-
-  execute-beyond : (size : ℕ) (i : Instr) → Ahead p size i → Beyond (p + 1) (execute c p ρ n σ i)
-  unfolding execute
-  execute-beyond size Stop h = tt
-  execute-beyond size Throw h = tt
-  execute-beyond size (Set x v) h = omega arith
-  execute-beyond size (Arg x k) h = omega arith
-  execute-beyond size (Sender x) h = omega arith
-  execute-beyond size (Value x) h = omega arith
-  execute-beyond size (Add x y z) h = checked-beyond x (addOf (register ρ y) (register ρ z))
-  execute-beyond size (Sub x y z) h = checked-beyond x (subOf (register ρ y) (register ρ z))
-  execute-beyond size (Mul x y z) h = checked-beyond x (mulOf (register ρ y) (register ρ z))
-  execute-beyond size (Div x y z) h = checked-beyond x (divOf (register ρ y) (register ρ z))
-  execute-beyond size (Get x field a b) h = omega arith
-  execute-beyond size (Put x field a b) h = omega arith
-  execute-beyond size (Bal x) h = omega arith
-  execute-beyond size (Pay x target) h = transfer-beyond (register ρ x) (targetOf c target)
-  execute-beyond size (Jeq x y to) h =
-      if-all (λ (q : ℕ). p + 1 ≤ q) (ltZ (register ρ x) (register ρ y)) (λ t. omega arith) λ t.
-      if-all (λ (q : ℕ). p + 1 ≤ q) (ltZ (register ρ y) (register ρ x)) (λ u. omega arith) (λ u. omega (arith, h .above, h .forward .0))
-  execute-beyond size (Jlt x y to) h =
-      if-all (λ (q : ℕ). p + 1 ≤ q) (ltZ (register ρ x) (register ρ y)) (λ t. omega (arith, h .above, h .forward .0)) (λ t. omega arith)
-
--- What is over stays so.
-turned-over : (k : ℕ) (c : Call) (body : List Instr) (r : Result) → turned k c body (over r) ≡ over r
-unfolding turned
-turned-over zero c body r = refl
-turned-over (suc k) c body r = refl
-
--- k turns and m more.
-run-turned : (k m : ℕ) (c : Call) (body : List Instr) (x : Course) → runBody (k + m) c body x ≡ runBody m c body (turned k c body x)
-unfolding turned runBody
-run-turned zero m c body x = let e : 0 + m ≡ m = omega arith in ap (λ (t : ℕ). runBody t c body x) e
-run-turned (suc k) m c body (before p ρ n σ) =
-    let e : suc k + m ≡ suc (k + m) = omega arith in
-    ap (λ (t : ℕ). runBody t c body (before p ρ n σ)) e ∙ run-turned k m c body (executeAt c p ρ n σ (getElem? body p))
-run-turned (suc k) m c body (over r) = body-over (suc k + m) c body r ∙ sym (body-over m c body r)
-
--- One turn more.
-turned-next : (k : ℕ) (c : Call) (body : List Instr) (x : Course) (p : ℕ) (ρ : List ℤ) (n : ℕ) (σ : State) → turned k c body x ≡ before p ρ n σ
-    → turned (suc k) c body x ≡ executeAt c p ρ n σ (getElem? body p)
-unfolding turned
-turned-next zero c body x p ρ n σ e = ap (turned 1 c body) e
-turned-next (suc k) c body (before q ρ′ m τ) p ρ n σ e = turned-next k c body (executeAt c q ρ′ m τ (getElem? body q)) p ρ n σ e
-turned-next (suc k) c body (over r) p ρ n σ e = absurd (subst Ended e tt)
-  where
-    Ended : Course → Type 0
-    Ended (before q ρ′ m τ) = ⊥
-    Ended (over r′) = Unit {0}
-
-module _ (block : List ℕ) (c : Call) (f : Function) where
-  abbrev body : List Instr
-  body = instructionsOf block f
-
-  turn-beyond : (p : ℕ) (ρ : List ℤ) (n : ℕ) (σ : State) → Beyond (p + 1) (executeAt c p ρ n σ (getElem? body p))
-  unfolding executeAt
-  turn-beyond p ρ n σ = go (getElem? body p) refl
-    where
-      go : (o : Option Instr) → getElem? body p ≡ o → Beyond (p + 1) (executeAt c p ρ n σ o)
-      go none e = tt
-      go (some i) e =
-          let h = body-ahead (f .size) 0 (f .size) (codeAt block (f .start) (f .size)) p i e in
-          execute-beyond c p ρ (n + 1) σ (f .size) i (record { at = h .at; above = omega (arith, h .above); forward = h .forward })
-
-  -- After k turns a body is k instructions further at least.
-  turned-beyond : (k p : ℕ) (ρ : List ℤ) (n : ℕ) (σ : State) → Beyond (p + k) (turned k c body (before p ρ n σ))
-  unfolding turned
-  turned-beyond zero p ρ n σ = omega arith
-  turned-beyond (suc k) p ρ n σ = go (executeAt c p ρ n σ (getElem? body p)) (turn-beyond p ρ n σ) (turned-beyond k)
-    where
-      go : (x : Course) → Beyond (p + 1) x → ((q : ℕ) (ρ′ : List ℤ) (m : ℕ) (τ : State) → Beyond (q + k) (turned k c body (before q ρ′ m τ)))
-          → Beyond (p + suc k) (turned k c body x)
-      go (before q ρ′ m τ) h ih = beyond-less (p + suc k) (q + k) (omega (arith, h)) (turned k c body (before q ρ′ m τ)) (ih q ρ′ m τ)
-      go (over r) h ih = subst⁻¹ (Beyond (p + suc k)) (turned-over k c body r) tt
+use Rattle.guarantees.specs.ZeroDivisors.{Reckoned, nothing, exactly, byZero, quotient, reckoned, isByZero, isOutside, ComesTo, Tells, ZeroDivisorsHold}
+use Rattle.guarantees.specs.Turns.{turned, entered, failedWith}
+use Rattle.guarantees.proofs.TurnedLaws.{run-turned, FailsAt, SpentAt, failed-at}
 
 -- ---- what is reckoned, and what the arithmetic answers
 
@@ -181,12 +60,13 @@ failure (answered.Value v) = none
 failure answered.Overflow = some outOfRange
 failure answered.ZeroDivisor = some zeroDivisor
 
--- An outcome is that of the answers of which a test holds; and it is of no THROW and of no PAY.
+-- An outcome is that of the answers of which a test holds; and it is of no THROW, of no PAY and of no want of fuel.
 record Told (outcome : ℕ) (test : Reckoned → Bool) : Type 0 where
   here : (r : Reckoned) → test r ≡ true → failure (answer r) ≡ some outcome
   only : (r : Reckoned) → failure (answer r) ≡ some outcome → test r ≡ true
   high : thrown < outcome
   unpaid : notPaid ≡ outcome → ⊥
+  fuelled : outcome ≡ outOfFuel → ⊥
 
 module _ (outcome : ℕ) (test : Reckoned → Bool) (told : Told outcome test) where
   -- What reckons nothing does not end so.
@@ -399,18 +279,12 @@ module _ (outcome : ℕ) (test : Reckoned → Bool) (told : Told outcome test) w
         f : Function
         f = at .function
 
-        enough : at .count ≤ length (instructionsOf block f)
-        enough =
-            let there : 0 + at .count ≤ at .place = subst (Beyond (0 + at .count)) (at .stands) (turned-beyond block c f (at .count) 0 zeroRegisters 0 _) in
-            let inside : at .place < length (instructionsOf block f) = found-below (instructionsOf block f) (at .place) (at .instr) (at .due) in
-            omega arith
-
         left : ℕ
-        left = length (instructionsOf block f) - at .count
+        left = c .fuel - (at .count + 1)
 
-        run : runBody (length (instructionsOf block f) + 1) c (instructionsOf block f) (entered c σ) ≡ fails outcome (at .count + 1)
+        run : runBody (c .fuel) c (instructionsOf block f) (entered c σ) ≡ fails outcome (at .count + 1)
         run =
-            let turns : length (instructionsOf block f) + 1 ≡ at .count + suc left = omega (arith, enough) in
+            let turns : c .fuel ≡ at .count + suc left = omega (arith, at .fuelled) in
             ap (λ (t : ℕ). runBody t c (instructionsOf block f) (entered c σ)) turns
             ∙ run-turned (at .count) (suc left) c (instructionsOf block f) (entered c σ)
             ∙ ap (runBody (suc left) c (instructionsOf block f)) (at .stands)
@@ -419,71 +293,43 @@ module _ (outcome : ℕ) (test : Reckoned → Bool) (told : Told outcome test) w
             ∙ body-over left c (instructionsOf block f) (fails outcome (at .count + 1))
 
     -- A body that fails so came to the instruction at which it did.
-    module _ (f : Function) (known : functionOf functions c ≡ some f) (enough : ltZ (σ (accountBalance (c .sender))) (c .value) ≡ false) where
-      abbrev code : List Instr
-      code = instructionsOf block f
-
-      abbrev Fails : Result → Type 0
-      Fails (ends τ m behind) = ⊥
-      Fails (fails o m) = Unit {0}
-
-      comes : (turns n p : ℕ) (ρ : List ℤ) (τ : State) → turned n c code (entered c σ) ≡ before p ρ n τ → (m : ℕ) → runBody turns c code (before p ρ n τ) ≡ fails outcome m
-          → ComesTo test block functions c σ
-      unfolding runBody executeAt
-      comes zero n p ρ τ at m e = absurd (subst⁻¹ Fails e tt)
-      comes (suc turns) n p ρ τ at m e = due (getElem? code p) refl (λ q ρ′ υ at′ run. comes turns (suc n) q ρ′ υ at′ m run)
-        where
-          -- The body goes on from its next turn.
-          Onward : Type 0
-          Onward =
-              (q : ℕ) (ρ′ : List ℤ) (υ : State) → turned (suc n) c code (entered c σ) ≡ before q ρ′ (suc n) υ
-              → runBody turns c code (before q ρ′ (suc n) υ) ≡ fails outcome m → ComesTo test block functions c σ
-
-          next : (i : Instr) → getElem? code p ≡ some i → (x : Course) → executeAt c p ρ n τ (some i) ≡ x → OneMore τ n x → runBody turns c code x ≡ fails outcome m
-              → Onward → ComesTo test block functions c σ
-          next i found (before q ρ′ k υ) x one run ih =
-              let same : k ≡ suc n = omega (arith, one) in
-              let on : turned (suc n) c code (entered c σ) ≡ before q ρ′ k υ =
-              turned-next n c code (entered c σ) p ρ n τ at ∙ ap (executeAt c p ρ n τ) found ∙ x in
-              ih q ρ′ υ (subst (λ (j : ℕ). turned (suc n) c code (entered c σ) ≡ before q ρ′ j υ) same on)
-              (subst (λ (j : ℕ). runBody turns c code (before q ρ′ j υ) ≡ fails outcome m) same run)
-          next i found (over r) x one run ih =
-              record {
-                function = f;
-                known = known;
-                enough = enough;
-                count = n;
-                place = p;
-                regs = ρ;
-                state = τ;
-                instr = i;
-                stands = at;
-                due = found;
-                tested = turn-only c p ρ n τ i m (x ∙ ap over (sym (body-over turns c code r) ∙ run));
-              }
-
-          ran : (o : Option Instr) → getElem? code p ≡ o → runBody turns c code (executeAt c p ρ n τ o) ≡ fails outcome m
-          ran o found = ap (λ (o′ : Option Instr). runBody turns c code (executeAt c p ρ n τ o′)) (sym found) ∙ e
-
-          due : (o : Option Instr) → getElem? code p ≡ o → Onward → ComesTo test block functions c σ
-          due none found ih = absurd (subst⁻¹ Fails (sym (body-over turns c code (ends τ n true)) ∙ ran none found) tt)
-          due (some i) found ih = next i found (executeAt c p ρ n τ (some i)) refl (turn-one τ c p ρ n τ (some i)) (ran (some i) found) ih
-
     came : transaction block functions c σ .outcome ≡ outcome → ComesTo test block functions c σ
     unfolding transactionBy runFunction settle turned
     came = known (functionOf functions c) refl
       where
+        failed : (f : Function) → functionOf functions c ≡ some f → ltZ (σ (accountBalance (c .sender))) (c .value) ≡ false → (m : ℕ)
+            → FailsAt c (instructionsOf block f) (entered c σ) outcome m ⊎ SpentAt c (instructionsOf block f) (entered c σ) outcome
+            → ComesTo test block functions c σ
+        failed f k t m (inl at) =
+            record {
+              function = f;
+              known = k;
+              enough = t;
+              count = at .count;
+              place = at .place;
+              regs = at .regs;
+              state = at .state;
+              instr = at .instr;
+              stands = at .stands;
+              due = at .due;
+              fuelled = at .fuelled;
+              tested = turn-only c (at .place) (at .regs) (at .count) (at .state) (at .instr) m (at .failed);
+            }
+        failed f k t m (inr at) = absurd (told .fuelled (at .spent))
+
         result : (f : Function) → functionOf functions c ≡ some f → ltZ (σ (accountBalance (c .sender))) (c .value) ≡ false
-            → (r : Result) → runBody (length (instructionsOf block f) + 1) c (instructionsOf block f) (entered c σ) ≡ r → settle σ r .outcome ≡ outcome
+            → (r : Result) → runBody (c .fuel) c (instructionsOf block f) (entered c σ) ≡ r → settle σ r .outcome ≡ outcome
             → ComesTo test block functions c σ
         result f k t (ends τ m behind) run e = absurd (omega (arith, e, told .high))
         result f k t (fails o m) run e =
-            comes f k t (length (instructionsOf block f) + 1) 0 0 zeroRegisters _ refl m (run ∙ ap (λ (o′ : ℕ). fails o′ m) e)
+            failed f k t m
+            (failed-at c (instructionsOf block f) (entered c σ) outcome m (c .fuel) 0 0 zeroRegisters _ (omega arith) refl
+            (run ∙ ap (λ (o′ : ℕ). fails o′ m) e))
 
         enough : (f : Function) → functionOf functions c ≡ some f → (t : Bool) → ltZ (σ (accountBalance (c .sender))) (c .value) ≡ t
             → (if t then unbegun σ balanceTooLow else runFunction block c σ f) .outcome ≡ outcome → ComesTo test block functions c σ
         enough f k true t e = absurd (omega (arith, e, told .high))
-        enough f k false t e = result f k t (runBody (length (instructionsOf block f) + 1) c (instructionsOf block f) (entered c σ)) refl e
+        enough f k false t e = result f k t (runBody (c .fuel) c (instructionsOf block f) (entered c σ)) refl e
 
         known : (o : Option Function) → functionOf functions c ≡ o → transactionBy block c σ o .outcome ≡ outcome → ComesTo test block functions c σ
         known none k e = absurd (omega (arith, e, told .high))
@@ -537,6 +383,6 @@ range-only byZero e = apart (sym e)
 
 pub zero-divisors-hold : ZeroDivisorsHold
 zero-divisors-hold = (
-  tells zeroDivisor isByZero (record { here = zero-here; only = zero-only; high = omega arith; unpaid = λ e. omega (arith, e) }),
-  tells outOfRange isOutside (record { here = range-here; only = range-only; high = omega arith; unpaid = λ e. omega (arith, e) }),
+  tells zeroDivisor isByZero (record { here = zero-here; only = zero-only; high = omega arith; unpaid = λ e. omega (arith, e); fuelled = λ e. omega (arith, e) }),
+  tells outOfRange isOutside (record { here = range-here; only = range-only; high = omega arith; unpaid = λ e. omega (arith, e); fuelled = λ e. omega (arith, e) }),
 )

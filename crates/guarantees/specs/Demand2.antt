@@ -9,7 +9,6 @@ use lib.Dec.{ltb}
 use lib.ListN.{getElem?}
 use Rattle.wire.specs.Rows.{inRow}
 use Rattle.block.specs.Record.{Function}
-use Rattle.block.specs.declared.Call.{Call}
 use Rattle.block.specs.declared.Verdict.the-variants as verdict
 use Rattle.block.specs.Encoding.{AreBytes}
 use Rattle.footprint.specs.Sets.{readSet}
@@ -22,20 +21,17 @@ use Rattle.machine.specs.Run.{Run, Sizes, stateOf, statusWord, rowIn, finished,
 use Rattle.machine.specs.Opening.{openingOf}
 use Rattle.machine.specs.Step.{View, Stepped, damaged, more, done, cellAt, stepCall}
 use Rattle.machine.specs.Moves.{viewOf}
-use Rattle.machine.specs.Serial.{maxSteps}
+use Rattle.machine.specs.Serial.{stepLimit}
 use Rattle.machine.specs.CallInRun.{InstrOf, begunLocal, stepTimes, stepsTaken, Hold, LeavesAsRule}
 use Rattle.guarantees.specs.BlockTally.{stepsIn}
 use Rattle.guarantees.specs.Agreement.{openedIn, mayWrite, serialRunOfFile}
-use Rattle.guarantees.specs.RuleRun.{callIn}
+use Rattle.guarantees.specs.RuleRun.{callOfBlock}
 
 -- The keys of a run's cells, in the order of their numbers.
 abbrev pub tableIn : Run → List ℕ
 tableIn r = keysIn (r .head .cells) (r .keys)
 
--- A call of the block, and the rule for it.
-abbrev pub callOfBlock : List ℕ → ℕ → Call
-callOfBlock file call = callIn (blockOf file .calls) call
-
+-- The rule for a call of the block.
 abbrev pub ruleFor : List ℕ → ℕ → State → Left
 ruleFor file call σ = transaction file (blockOf file .functions) (callOfBlock file call) σ
 
@@ -49,7 +45,7 @@ ruleLefts file = transactions file (blockOf file .functions) (blockOf file .call
 abbrev pub closingState : List ℕ → State
 closingState file = stateLeft (openingState file) (ruleLefts file)
 
--- A call of the opened run; begun in a register with these cells; and stepped to its end.
+-- A call of the opened run; begun in a register with these cells; and stepped to its end, M-104: "at most fuel plus 2" times.
 abbrev pub callView : Sizes → List ℕ → (workers call : ℕ) → View
 callView s file workers call = viewOf file (openedIn s file workers) call (callOfBlock file call)
 
@@ -57,7 +53,7 @@ abbrev pub begunCall : Sizes → List ℕ → (workers call : ℕ) → List ℤ 
 begunCall s file workers call cells = more (begunLocal (callView s file workers call) cells) cells
 
 abbrev pub wholeCall : Sizes → List ℕ → (workers call : ℕ) → List ℤ → Stepped
-wholeCall s file workers call cells = stepTimes maxSteps (callView s file workers call) (begunCall s file workers call cells)
+wholeCall s file workers call cells = stepTimes (stepLimit (callOfBlock file call .fuel)) (callView s file workers call) (begunCall s file workers call cells)
 
 -- The cells after k more steps of a call: a refused step changes nothing, and a call that has ended makes none.
 abbrev pub cellsLeft : (before : List ℤ) → Stepped → List ℤ
@@ -111,7 +107,7 @@ pub record Demand2 (s : Sizes) (file : List ℕ) (workers : ℕ) : Type 0 where
       → LeavesAsRule (tableIn (openedIn s file workers)) (ruleFor file call σ) (wholeCall s file workers call cells)
   pub call-steps : (call : ℕ) → call < callCount file → (σ : State) → stateWithinLimit σ ≡ true → (cells : List ℤ)
       → Hold (tableIn (openedIn s file workers)) σ cells
-      → stepsTaken maxSteps (callView s file workers call) (begunCall s file workers call cells) ≡ stepsFor (ruleFor file call σ)
+      → stepsTaken (stepLimit (callOfBlock file call .fuel)) (callView s file workers call) (begunCall s file workers call cells) ≡ stepsFor (ruleFor file call σ)
   pub limit : (call : ℕ) → call < callCount file → (σ : State) → stateWithinLimit σ ≡ true → stateWithinLimit (ruleFor file call σ .state) ≡ true
   -- The rule's body of a function is its code, instruction by instruction.
   pub bodies : (i : ℕ) (f : Function) → getElem? (blockOf file .functions) i ≡ some f → (p : ℕ) → p < f .size → InstrOf file f p
@@ -124,7 +120,7 @@ pub record Demand2 (s : Sizes) (file : List ℕ) (workers : ℕ) : Type 0 where
       → (σ : State) → ruleFor file call σ .state k ≡ σ k
   pub elsewhere : (k : ℕ) → member k (tableIn (openedIn s file workers)) ≡ false
       → (openingState file k ≡ pos 0) × (closingState file k ≡ pos 0)
-  -- "A call's steps are its entry, its counted instructions, and one for reaching the end": the number that the tally takes for it.
+  -- "A call's steps are its entry, its counted instructions, and one for reaching the end", or by M-104 for running out of fuel: the number that the tally takes for it.
   pub steps : (call : ℕ) (l : Left) → getElem? (ruleLefts file) call ≡ some l → stepsIn file workers call ≡ stepsFor l
   -- "A call changes no cell outside its write set": after any number of steps, from any cells.
   pub frame : (call : ℕ) → call < callCount file → (cells : List ℤ) (k x : ℕ) → x < openedIn s file workers .head .cells

@@ -2,7 +2,7 @@
 use mathlib.Core.Path.{_≡_}
 use mathlib.Core.Bool.{true, false}
 use mathlib.Core.List.{List}
-use Prim.Native.Nat.{ℕ, _<_, _≤_}
+use Prim.Native.Nat.{ℕ, _+_, _<_, _≤_}
 use lib.ListN.{getD}
 use Rattle.schedule.specs.Tally.{running, finished, holds, isFinished, unfinishedEarlier, Forward}
 use Rattle.schedule.specs.declared.Move.{Move}
@@ -19,6 +19,7 @@ use Rattle.sheet.specs.Sheet.{sheetRecords, unwritten, written, sheetOf}
 use Rattle.guarantees.specs.BlockTally.{isBefore, stepsIn, tallyAfter, tallyAnswers}
 use Rattle.guarantees.specs.Agreement.{stateNumber, seatNumber, openedIn, runAfterMoves, stepsSince, mayWrite, serialRunOfFile, finishedAlone, serialPointAfter, SameSheet}
 use Rattle.analysis.specs.LayoutOfBlock.{callCount}
+use Rattle.guarantees.specs.RuleRun.{callOfBlock}
 
 -- The receipt of a call in two runs is one.
 pub record SameReceipt (r r′ : Run) (call : ℕ) : Type 0 where
@@ -87,8 +88,9 @@ pub record Demand3 (s : Sizes) (file : List ℕ) (workers : ℕ) (ms : List Move
   -- "While a call is unfinished, some begin or step would be accepted"
   pub progress : (call : ℕ) → call < callCount file → isFinished (tallyAfter file workers ms .phase call) ≡ false
       → Forwards s file workers ms
-  -- ".. and no call takes over 66 steps from its last begin."
-  pub bound : (call : ℕ) → call < callCount file → stepsSince file workers ms call ≤ 66
+  -- ".. and no call takes over 66 steps from its last begin", of which M-104 says: "In place of the 66 of demand 3, a call takes at most fuel plus 2 accepted steps
+  -- between its last begin and its finish."
+  pub bound : (call : ℕ) → call < callCount file → stepsSince file workers ms call ≤ callOfBlock file call .fuel + 2
   -- "27 sheet wanted with a call unfinished"
   pub unfinished : (call : ℕ) → call < callCount file → isFinished (tallyAfter file workers ms .phase call) ≡ false
       → (output : List ℕ) → sheetOf (runAfterMoves s file workers ms) output ≡ unwritten output CallUnfinished

@@ -9,7 +9,7 @@ use Rattle.block.specs.Reader.{readBlock}
 use Rattle.block.specs.Worked.{account0}
 use Rattle.console.specs.Register.{registerOf}
 use Rattle.console.specs.Computing as console
-use Rattle.rule.specs.Rule.{Left, transactions, update, assignChecked, transfer, execute, executeAt, runBody, withInstr, bodyOf, settle, runFunction, transactionBy}
+use Rattle.rule.specs.Rule.{Left, transactions, update, assignChecked, transfer, execute, executeAt, unfuelled, runBody, withInstr, bodyOf, settle, runFunction, transactionBy}
 use Rattle.guarantees.specs.OnP.{ruleOn, ruleReceipts}
 
 -- Calls 0 and 1, which pay account 0 from two contracts, together; then the others in order. Call 7 is begun once while call 6 runs, for which it waits, as
@@ -31,5 +31,5 @@ pub record OnAccount0 : Type 0 where
   pub rule-left : leftIn0 (ruleOn account0 (readBlock account0)) ≡ pos 5 ∷ pos 5 ∷ pos 5 ∷ pos 5 ∷ pos 5 ∷ pos 5 ∷ pos 2 ∷ pos 2 ∷ pos 2 ∷ []
 
 pub onAccount0 : OnAccount0
-unfolding console.computing text account0 moves0 printed0 leftIn0 ruleOn ruleReceipts transactions update assignChecked transfer execute executeAt runBody withInstr bodyOf settle runFunction transactionBy
+unfolding console.computing text account0 moves0 printed0 leftIn0 ruleOn ruleReceipts transactions update assignChecked transfer execute executeAt unfuelled runBody withInstr bodyOf settle runFunction transactionBy
 onAccount0 = record { printed = refl; rule-receipts = refl; rule-left = refl }

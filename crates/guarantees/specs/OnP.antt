@@ -22,7 +22,7 @@ use Rattle.block.specs.Assemble.{text}
 use Rattle.block.specs.Worked.{P}
 use Rattle.console.specs.Examples.{movesP, printedP}
 use Rattle.machine.specs.Opening.{openedForEight}
-use Rattle.rule.specs.Rule.{Left, transactions, update, assignChecked, transfer, execute, executeAt, runBody, withInstr, bodyOf, settle, runFunction, transactionBy}
+use Rattle.rule.specs.Rule.{Left, transactions, update, assignChecked, transfer, execute, executeAt, unfuelled, runBody, withInstr, bodyOf, settle, runFunction, transactionBy}
 use Rattle.analysis.specs.LayoutOfBlock.{blockIn}
 use Rattle.guarantees.specs.BlockTally.{tallyAnswers, stepsIn}
 use Rattle.guarantees.specs.RegisterByTally.{linesFrom, linesOf, movesOf, linesText, finishedBelow, registerByTally}
@@ -75,7 +75,7 @@ pub record OnP : Type 0 where
   pub alone : take 4 (serialRunOf (λ c. ltb c 2) P (openedForEight P) .cells) ≡ pos 1 ∷ pos 0 ∷ pos 1 ∷ pos 1 ∷ []
 
 pub onP : OnP
-unfolding console.computing tally.put tally.blocked tally.refusal tally.answer tally.next tally.place tally.step tally.cancel tally.accept tally.move tally.afterFrom tally.answersFrom tally.after tally.answers text P movesP printedP schedule scheduleAnswers ruleOn ruleReceipts valuesAfter blockIn transactions update assignChecked transfer execute executeAt runBody withInstr bodyOf settle runFunction transactionBy linesFrom movesOf linesText finishedBelow registerByTally
+unfolding console.computing tally.put tally.blocked tally.refusal tally.answer tally.next tally.place tally.step tally.cancel tally.accept tally.move tally.afterFrom tally.answersFrom tally.after tally.answers text P movesP printedP schedule scheduleAnswers ruleOn ruleReceipts valuesAfter blockIn transactions update assignChecked transfer execute executeAt unfuelled runBody withInstr bodyOf settle runFunction transactionBy linesFrom movesOf linesText finishedBelow registerByTally
 onP =
     record {
       serial = refl;

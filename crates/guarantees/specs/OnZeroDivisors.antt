@@ -9,7 +9,7 @@ use Rattle.block.specs.Reader.{readBlock}
 use Rattle.block.specs.Worked.{zeroDivisors}
 use Rattle.console.specs.Register.{registerOf}
 use Rattle.console.specs.Computing as console
-use Rattle.rule.specs.Rule.{Left, transactions, update, assignChecked, transfer, execute, executeAt, runBody, withInstr, bodyOf, settle, runFunction, transactionBy}
+use Rattle.rule.specs.Rule.{Left, transactions, update, assignChecked, transfer, execute, executeAt, unfuelled, runBody, withInstr, bodyOf, settle, runFunction, transactionBy}
 use Rattle.guarantees.specs.OnP.{ruleOn, ruleReceipts}
 
 -- Calls 0, 1 and 4, which divide by zero, together; call 5 is begun once while call 4 runs, for which it waits; then 5 and 2 together, and 3.
@@ -31,5 +31,5 @@ pub record OnZeroDivisors : Type 0 where
   pub rule-left : leftInD (ruleOn zeroDivisors (readBlock zeroDivisors)) ≡ (pos 7 ∷ pos 0 ∷ pos 9 ∷ []) ∷ (pos 7 ∷ pos 0 ∷ pos 9 ∷ []) ∷ (pos 7 ∷ pos 0 ∷ pos 9 ∷ []) ∷ (pos 7 ∷ pos 0 ∷ pos 9 ∷ []) ∷ (pos 7 ∷ pos 0 ∷ pos 9 ∷ []) ∷ (pos 0 ∷ pos 7 ∷ pos 3 ∷ []) ∷ []
 
 pub onZeroDivisors : OnZeroDivisors
-unfolding console.computing text zeroDivisors movesD printedD leftInD ruleOn ruleReceipts transactions update assignChecked transfer execute executeAt runBody withInstr bodyOf settle runFunction transactionBy
+unfolding console.computing text zeroDivisors movesD printedD leftInD ruleOn ruleReceipts transactions update assignChecked transfer execute executeAt unfuelled runBody withInstr bodyOf settle runFunction transactionBy
 onZeroDivisors = record { printed = refl; rule-receipts = refl; rule-left = refl }

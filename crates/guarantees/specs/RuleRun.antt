@@ -5,6 +5,7 @@ use lib.ListN.{getD}
 use Rattle.block.specs.declared.Call.{Call}
 use Rattle.block.specs.declared.CallBody.the-variants.{OutOfRange, InRange}
 use Rattle.block.specs.declared.CallBody.{CallBody}
+use Rattle.analysis.specs.LayoutOfBlock.{blockOf}
 
 -- A call as its record in the block has it; for a record out of range, which no opened block has, some call.
 unfoldable pub bodyCall : CallBody → Call
@@ -19,8 +20,12 @@ bodyCall OutOfRange =
       arg2 = 0;
       arg3 = 0;
       arg4 = 0;
+      fuel = 0;
     }
 
 -- The call at a place of a block's calls; behind the last, some call, which nothing is asked of.
 abbrev pub callIn : List Call → ℕ → Call
 callIn calls c = getD calls c (bodyCall OutOfRange)
+
+abbrev pub callOfBlock : List ℕ → ℕ → Call
+callOfBlock file call = callIn (blockOf file .calls) call

@@ -30,7 +30,8 @@ use Rattle.machine.specs.Action.{doing, instrAction}
 use Rattle.machine.specs.Step.{cellAt}
 use Rattle.machine.specs.declared.Next.the-variants.{End}
 use Rattle.guarantees.specs.Agreement.{openedIn, runAfterMoves}
-use Rattle.guarantees.specs.Demand2.{callOfBlock, ruleFor, openingState, closingState}
+use Rattle.guarantees.specs.RuleRun.{callOfBlock}
+use Rattle.guarantees.specs.Demand2.{ruleFor, openingState, closingState}
 
 -- A PAY in a call whose source names account 0, whatever source that is: in the rule, in a step, and in the sets.
 pub record PaysNobody (c : Call) (x : ℕ) (target : Source) : Type 0 where

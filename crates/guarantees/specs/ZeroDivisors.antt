@@ -4,13 +4,13 @@ use mathlib.Core.Path.{_≡_}
 use mathlib.Core.Bool.{Bool, true, false, not}
 use mathlib.Core.List.{List}
 use mathlib.Core.Option.{some}
-use Prim.Native.Nat.{ℕ, zero, suc, _+_}
+use Prim.Native.Nat.{ℕ, zero, suc, _+_, _<_}
 use lib.IntN.{ℤ, pos, negsuc, negℤ, _+ℤ_, _-ℤ_, _*ℤ_}
 use lib.ListN.{getElem?}
 use lib.Signed.{ltZ}
 use Rattle.arith.specs.Choice.{if_then_else_}
 use Rattle.arith.specs.Exact.{fits64, floorBy}
-use Rattle.block.specs.Key.{accountBalance, contractBalance}
+use Rattle.block.specs.Key.{accountBalance}
 use Rattle.block.specs.Outcomes.{outOfRange, zeroDivisor}
 use Rattle.block.specs.Naming.{functionOf}
 use Rattle.block.specs.Record.{Function}
@@ -19,10 +19,10 @@ use Rattle.block.specs.declared.Decoded.the-variants.{Valid}
 use Rattle.block.specs.declared.Instr.{Instr}
 use Rattle.block.specs.declared.Instr.the-variants.{Stop, Throw, Set, Arg, Sender, Value, Add, Sub, Mul, Div, Get, Put, Bal, Pay, Jeq, Jlt}
 use Rattle.footprint.specs.SetsInWords.{instructionsOf}
-use Rattle.rule.specs.Rule.{State, credit, debit, fails, Course, before, over, executeAt, Left, transaction}
-use Rattle.machine.specs.Run.{zeroRegisters}
+use Rattle.rule.specs.Rule.{State, fails, before, over, executeAt, transaction}
 use Rattle.machine.specs.Action.{register}
 use Rattle.machine.specs.Step.{View, ending, damaged, done, restorable, restored, stepDecoded, finish}
+use Rattle.guarantees.specs.Turns.{turned, entered, failedWith}
 
 -- What an instruction reckons, exactly: nothing; an integer; or a quotient by zero, which is none.
 pub data Reckoned : Type 0 where
@@ -66,18 +66,8 @@ isOutside nothing = false
 isOutside (exactly z) = not (fits64 z)
 isOutside byZero = false
 
--- Where a body is after so many turns of the rule.
-unfoldable pub turned : (turns : ℕ) → Call → List Instr → Course → Course
-turned zero c body x = x
-turned (suc turns) c body (before p ρ n σ) = turned turns c body (executeAt c p ρ n σ (getElem? body p))
-turned (suc turns) c body (over r) = over r
-
--- Where it is at first: behind the entry, at which the value has moved.
-abbrev pub entered : Call → State → Course
-entered c σ = before 0 zeroRegisters 0 (credit (debit σ (accountBalance (c .sender)) (c .value)) (contractBalance (c .contract)) (c .value))
-
 -- A transaction comes to an instruction of which a test holds: its function is known, its sender has the value, and after `count` turns, each of which counted 1,
--- that instruction is due.
+-- that instruction is due, with fuel left for it.
 pub record ComesTo (test : Reckoned → Bool) (block : List ℕ) (functions : List Function) (c : Call) (σ : State) : Type 0 where
   pub function : Function
   pub known : functionOf functions c ≡ some function
@@ -89,11 +79,8 @@ pub record ComesTo (test : Reckoned → Bool) (block : List ℕ) (functions : Li
   pub instr : Instr
   pub stands : turned count c (instructionsOf block function) (entered c σ) ≡ before place regs count state
   pub due : getElem? (instructionsOf block function) place ≡ some instr
+  pub fuelled : count < c .fuel
   pub tested : test (reckoned regs instr) ≡ true
-
--- What a failed transaction leaves: the state as it was.
-abbrev pub failedWith : (outcome count : ℕ) → State → Left
-failedWith outcome count σ = record { outcome = outcome; count = count; behind = false; state = σ }
 
 -- An outcome tells that a test holds.
 pub record Tells (outcome : ℕ) (test : Reckoned → Bool) : Type 0 where

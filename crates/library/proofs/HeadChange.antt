@@ -10,12 +10,11 @@ use lib.ListN.{drop}
 use lib.Seq.{set-set}
 use Rattle.arith.proofs.ChoiceLaws.{if-all, neither}
 use Rattle.block.specs.Limits.{maxCalls, maxCode, maxWorkers}
-use Rattle.block.specs.Outcomes.{maxCount}
 use Rattle.block.specs.Record.{headBytes, callRecordBytes, callOf}
 use Rattle.block.specs.declared.CallBody.{CallBody}
 use Rattle.block.specs.declared.CallBody.the-variants.{InRange, OutOfRange}
 use Rattle.footprint.specs.Plan.{codeLength}
-use Rattle.machine.specs.Run.{Run, sizesOf, largeEnough, heldAt, withHeld, placeIn, countIn, planWord, stateOf, isState, waiting}
+use Rattle.machine.specs.Run.{Run, sizesOf, largeEnough, heldAt, withHeld, placeIn, planWord, stateOf, isState, waiting}
 use Rattle.machine.specs.Waits.{waitsLowerable}
 use Rattle.machine.specs.Step.{Stepped, damaged, more, done, restorable, stepCall}
 use Rattle.machine.specs.Moves.{Moved, callKeyCount, ownEntries, Waits, waitsByCount, beginCall, beginChecked, beginBy, beginOf, viewOf, localOf, stepped, stepRecord, stepHeld, cancelHeld, Held, answered, holds, heldBy, stepFor, cancelFor, stepOf, cancelOf}
@@ -107,7 +106,6 @@ module _ (r : Run) (w : ℕ) where
     unfolding stepHeld
     held-change block =
         if-all Changes (ltb (maxCode + 1) (planWord (r .plan) call codeLength) || ltb (planWord (r .plan) call codeLength) (placeIn (r .seats) w)) (λ _. kept refl) λ _.
-        if-all Changes (ltb maxCount (countIn (r .seats) w)) (λ _. kept refl) λ _.
         record-change block (callOf (drop (r .head .«first_call» + callRecordBytes * call + headBytes) block))
 
     cancelled-change : Changes (cancelHeld r w call)

@@ -1,14 +1,13 @@
 -- A call of a made run, stepped to its end, leaves what the published transaction rule gives: the outcome, the count, and cells that
--- hold the rule's state. "A call's steps are its entry, its counted instructions, and one for reaching the end, so at most 66."
+-- hold the rule's state. "A call's steps are its entry, its counted instructions, and one for reaching the end"; M-104: "at most fuel plus 2".
 use mathlib.Core.Path.{_≡_, refl, sym, _∙_, subst}
 use mathlib.Core.Bool.{Bool, true, false}
 use mathlib.Core.List.{List, [], _∷_, map}
 use mathlib.Core.Option.{Option, none, some}
 use Prim.Native.Nat.{ℕ, zero, suc, _+_, _-_, _*_, _^_, _≤_, _<_, suc-le-suc}
 use native.Mathlib.Decide.{decLt, ℕ-discrete}
-use native.Mathlib.Nat.{le-of-suc-le-suc}
 use native.Mathlib.Omega.{arith}
-use borrow.Author.Tests.{eq-eqb, ne-eqb, le-leb}
+use borrow.Author.Tests.{eq-eqb, ne-eqb, le-leb, le-ltb}
 use lib.Dec.{eqb}
 use lib.IntN.{ℤ, pos, _+ℤ_, _-ℤ_}
 use lib.ListN.{length, getD, getElem?, drop}
@@ -17,6 +16,7 @@ use Rattle.arith.specs.Choice.{if_then_else_}
 use Rattle.arith.proofs.IntegerLaws.{equal, sum, diff, ltZ-true, ltZ-false, nonNeg-true}
 use Rattle.wire.specs.Bytes.{padded}
 use Rattle.block.specs.Limits.{maxCallKeys, maxKeys}
+use Rattle.block.specs.Outcomes.{ended, outOfFuel}
 use Rattle.block.specs.Instruction.{instrBytes, decode}
 use Rattle.block.proofs.DecodeLaws.{InstrLawful, Decodes}
 use Rattle.block.specs.Record.{Function, functionId, callId, codeAt}
@@ -32,22 +32,22 @@ use Rattle.footprint.specs.Sets.{functionSets, setsOf, writeSet}
 use Rattle.block.specs.Naming.{functionOf}
 use Rattle.footprint.proofs.SetLaws.{EachAccess}
 use Rattle.footprint.specs.Plan.{entryWord, codeWords, tableWords}
-use Rattle.rule.specs.Rule.{State, update, credit, debit, stateWithinLimit, Course, before, over, executeAt, runBody, bodyOf, settle, Left, stepsFor, unbegun, runFunction, transactionBy, transaction}
+use Rattle.rule.specs.Rule.{State, update, credit, debit, stateWithinLimit, ends, Course, before, over, executeAt, unfuelled, runBody, bodyOf, settle, Left, stepsFor, unbegun, runFunction, transactionBy, transaction}
 use Rattle.rule.proofs.LimitLaws.{update-same, update-other, balanceKey, limit-balance, limit-move}
 use Rattle.footprint.specs.SafeSets.{CallBounded}
 use Rattle.footprint.proofs.SafeSetsProof.{no-amount}
-use Rattle.rule.proofs.TurnLaws.{bodySteps, OneMore, turn-one, body-over}
+use Rattle.rule.proofs.TurnLaws.{bodySteps, OneMore, turn-one, last-one, body-over}
 use Rattle.machine.specs.Run.{zeroRegisters}
 use Rattle.machine.specs.Action.{instrAction, entryAction}
-use Rattle.machine.specs.Step.{View, Local, Stepped, damaged, more, done, savedOf, finish, concluded, perform, performAction, stepEntry, stepDecoded, stepInstr, stepPlace, stepCall}
+use Rattle.machine.specs.Step.{View, Local, ending, Stepped, damaged, more, done, savedOf, finish, concluded, perform, performAction, stepEntry, stepDecoded, stepInstr, stepBody, stepPlace, stepCall}
 use Rattle.machine.specs.CallInRun.{InstrOf, madeView, begunLocal, stepTimes, stepsTaken, Hold, LeavesAsRule}
-use Rattle.machine.specs.Serial.{maxSteps}
-use Rattle.machine.proofs.CodeLaws.{instr-of, function-body-length, function-end}
+use Rattle.machine.specs.Serial.{stepLimit}
+use Rattle.machine.proofs.CodeLaws.{instr-of, function-end}
 use Rattle.machine.proofs.LookupLaws.{Covered, entry-covered, instr-covered, sets-distinct, lookup-covered, KeysInTable}
 use Rattle.machine.proofs.RestoreLaws.{made-restorable}
 use Rattle.machine.proofs.HoldLaws.{Now, movedCells, hold-alike}
-use Rattle.machine.proofs.StepLaws.{Ranged, stepsLeft, ranged-left, begun-ranged, Lowers, entry-leads, StepLowers, step-lowers}
-use Rattle.machine.proofs.StepRule.{Completes, MadeOf, ruleLocal, Match, transfer-short, transfer-moves, transfer-now, instr-match}
+use Rattle.machine.proofs.StepLaws.{FuelInRange, Ranged, begun-ranged, Lowers, entry-leads, StepLowers, step-lowers}
+use Rattle.machine.proofs.StepRule.{Completes, MadeOf, ruleLocal, Match, transfer-short, transfer-moves, transfer-now, fails-match, instr-match}
 
 -- ---- nothing moves
 
@@ -72,23 +72,14 @@ zero-moved σ a b m z l =
 
 -- ---- steps and turns
 
-none-taken : (fuel : ℕ) (v : View) (outcome count : ℕ) (cells : List ℤ) → stepsTaken fuel v (done outcome count cells) ≡ 0
-unfolding stepsTaken
-none-taken zero v outcome count cells = refl
-none-taken (suc fuel) v outcome count cells = refl
-
-steps-done : (fuel : ℕ) (v : View) (outcome count : ℕ) (cells : List ℤ) → stepTimes fuel v (done outcome count cells) ≡ done outcome count cells
-unfolding stepTimes
-steps-done zero v outcome count cells = refl
-steps-done (suc fuel) v outcome count cells = refl
-
--- A call begun in these cells comes to its end in at most 66 steps, with what the rule leaves, in as many steps as the rule says.
+-- A call begun in these cells comes to its end in at most fuel plus 2 steps, with what the rule leaves, in as many steps as the rule says.
 pub record CallCompletes (table : List ℕ) (left : Left) (v : View) (cells : List ℤ) : Type 0 where
-  pub leaves : LeavesAsRule table left (stepTimes maxSteps v (more (begunLocal v cells) cells))
-  pub steps : stepsTaken maxSteps v (more (begunLocal v cells) cells) ≡ stepsFor left
+  pub leaves : LeavesAsRule table left (stepTimes (stepLimit (v .call .fuel)) v (more (begunLocal v cells) cells))
+  pub steps : stepsTaken (stepLimit (v .call .fuel)) v (more (begunLocal v cells) cells) ≡ stepsFor left
 
 -- The entry is one step.
-by-entry : (table : List ℕ) (left : Left) (v : View) (cells : List ℤ) → Completes table left 65 v (stepCall v (begunLocal v cells) cells) 0
+by-entry : (table : List ℕ) (left : Left) (v : View) (cells : List ℤ)
+    → Completes table left (suc (v .call .fuel)) v (stepCall v (begunLocal v cells) cells) 0
     → CallCompletes table left v cells
 unfolding stepTimes stepsTaken
 by-entry table left v cells h = record { leaves = h .leaves; steps = omega (arith, h .steps) }
@@ -128,7 +119,7 @@ viewIn file room table c f =
     }
 
 -- A call of the function f, begun at a state that the old cells hold.
-module _ (file : List ℕ) (bytes : AreBytes file) (c : Call) (fits : CallBounded c) (f : Function) (sound : FunctionSound file f) (table : List ℕ)
+module _ (file : List ℕ) (bytes : AreBytes file) (c : Call) (fits : CallBounded c) (fuelled : FuelInRange (c .fuel)) (f : Function) (sound : FunctionSound file f) (table : List ℕ)
     (few : length table ≤ maxKeys) (known : KeysInTable table (functionSets file c (some f))) (small : length (functionSets file c (some f)) ≤ maxCallKeys)
     (room : ℕ) (start : State) (within : stateWithinLimit start ≡ true) (old : List ℤ) (first : Hold table start old) where
   abbrev es : List Access
@@ -138,7 +129,7 @@ module _ (file : List ℕ) (bytes : AreBytes file) (c : Call) (fits : CallBounde
   view = viewIn file room table c f
 
   abbrev body : List Instr
-  body = bodyOf (f .size) 0 (f .size) (codeAt file (f .start) (f .size))
+  body = bodyOf (f .size) (f .size) (codeAt file (f .start) (f .size))
 
   made : MadeOf view table es
   made = made-of file c (some f) table room view few known small refl refl
@@ -157,81 +148,119 @@ module _ (file : List ℕ) (bytes : AreBytes file) (c : Call) (fits : CallBounde
 
   -- ---- one step from an instruction
 
-  lawful-file : (p : ℕ) (i : Instr) → decode p (f .size) (drop (f .start + instrBytes * p) file) ≡ Valid i → InstrLawful (2 ^ 16) p (f .size) i
+  lawful-file : (p : ℕ) (i : Instr) → decode (f .size) (drop (f .start + instrBytes * p) file) ≡ Valid i → InstrLawful (2 ^ 16) (f .size) i
   lawful-file p i e =
-      subst (Decodes (InstrLawful (2 ^ 16) p (f .size))) e
-      (decode-sound p (f .size) (drop (f .start + instrBytes * p) file) (drop-bytes (f .start + instrBytes * p) file bytes))
+      subst (Decodes (InstrLawful (2 ^ 16) (f .size))) e
+      (decode-sound (f .size) (drop (f .start + instrBytes * p) file) (drop-bytes (f .start + instrBytes * p) file bytes))
 
-  step-instr : (p : ℕ) (ρ : List ℤ) (n : ℕ) (cells : List ℤ) (i : Instr) → p < f .size → decode p (f .size) (drop (f .start + instrBytes * p) file) ≡ Valid i
+  -- Behind the entry, at a count within the fuel.
+  body-step : (p : ℕ) (ρ : List ℤ) (n : ℕ) (cells : List ℤ) → n ≤ c .fuel
+      → stepCall view (at (p + 1) ρ n) cells
+      ≡ concluded view kept cells
+      (if eqb (p + 1) (f .size + 1) then ending ended n else if eqb n (c .fuel) then ending outOfFuel n else stepInstr view (p + 1) n ρ cells)
+  unfolding stepCall stepPlace stepBody
+  body-step p ρ n cells within =
+      rw (ne-eqb (p + 1) 0 (omega arith), ne-eqb (c .fuel) 0 (λ e. omega (arith, e, fuelled .0)), le-ltb (c .fuel) n within)
+
+  step-instr : (p : ℕ) (ρ : List ℤ) (n : ℕ) (cells : List ℤ) (i : Instr) → p < f .size → n < c .fuel → decode (f .size) (drop (f .start + instrBytes * p) file) ≡ Valid i
       → stepCall view (at (p + 1) ρ n) cells ≡ concluded view kept cells (performAction view (p + 1) (n + 1) (accesses c i) (instrAction c (p + 1) ρ i) cells)
-  unfolding stepCall stepPlace stepInstr stepDecoded
-  step-instr p ρ n cells i l e =
+  unfolding stepInstr stepDecoded
+  step-instr p ρ n cells i l m e =
       let index : p + 1 - 1 ≡ p = omega arith in
       let length′ : f .size + 1 - 1 ≡ f .size = omega arith in
-      rw (
-        ne-eqb (p + 1) 0 (omega arith),
+      body-step p ρ n cells (omega arith)
+      ∙ rw (
         ne-eqb (p + 1) (f .size + 1) (omega arith),
+        ne-eqb n (c .fuel) (omega arith),
         index,
         length′,
         le-leb (f .start + instrBytes * f .size) (length file) (sound .within),
         e,
       )
 
-  instr-step : (p : ℕ) (ρ : List ℤ) (n : ℕ) (σ : State) (cells : List ℤ) → p < f .size → Here σ cells
+  instr-step : (p : ℕ) (ρ : List ℤ) (n : ℕ) (σ : State) (cells : List ℤ) → p < f .size → n < c .fuel → Here σ cells
       → Matches (executeAt c p ρ n σ (getElem? body p)) (stepCall view (at (p + 1) ρ n) cells)
   unfolding executeAt
-  instr-step p ρ n σ cells l now =
+  instr-step p ρ n σ cells l m now =
       let this : InstrOf file f p = instr-of file f sound p l in
-      rw (this .listed, step-instr p ρ n cells (this .instr) l (this .decoded))
+      rw (this .listed, step-instr p ρ n cells (this .instr) l m (this .decoded))
       (instr-match view table es made start old first p σ cells now ρ (n + 1) c fits (this .instr)
       (lawful-file p (this .instr) (this .decoded) .0) (instr-covered file c f p l (this .instr) (this .decoded)))
 
-  -- "At place = length: outcome 0."
-  end-step : (ρ : List ℤ) (n : ℕ) (σ : State) (cells : List ℤ) → Here σ cells
-      → Matches (executeAt c (f .size) ρ n σ (getElem? body (f .size))) (stepCall view (at (f .size + 1) ρ n) cells)
-  unfolding executeAt stepCall stepPlace concluded finish settle
-  end-step ρ n σ cells now =
-      rw (function-end file f sound, ne-eqb (f .size + 1) 0 (omega arith), eq-eqb (f .size + 1) (f .size + 1) refl)
+  -- "At place = length: outcome 0."; "Reaching the end needs no fuel."
+  end-step : (ρ : List ℤ) (n : ℕ) (σ : State) (cells : List ℤ) → n ≤ c .fuel → Here σ cells
+      → Matches (over (ends σ n true)) (stepCall view (at (f .size + 1) ρ n) cells)
+  unfolding concluded finish settle
+  end-step ρ n σ cells m now =
+      rw (body-step (f .size) ρ n cells m, eq-eqb (f .size + 1) (f .size + 1) refl)
       (record { same-outcome = refl; same-count = refl; hold = now .hold })
 
-  any-step : (p : ℕ) (ρ : List ℤ) (n : ℕ) (σ : State) (cells : List ℤ) → p ≤ f .size → Here σ cells
+  any-step : (p : ℕ) (ρ : List ℤ) (n : ℕ) (σ : State) (cells : List ℤ) → p ≤ f .size → n < c .fuel → Here σ cells
       → Matches (executeAt c p ρ n σ (getElem? body p)) (stepCall view (at (p + 1) ρ n) cells)
-  any-step p ρ n σ cells l now = go (decLt p (f .size))
+  unfolding executeAt
+  any-step p ρ n σ cells l m now = go (decLt p (f .size))
     where
       go : Dec (p < f .size) → Matches (executeAt c p ρ n σ (getElem? body p)) (stepCall view (at (p + 1) ρ n) cells)
-      go (yes less) = instr-step p ρ n σ cells less now
-      go (no not-less) = let e : p ≡ f .size = omega arith in rw e (end-step ρ n σ cells now)
+      go (yes less) = instr-step p ρ n σ cells less m now
+      go (no not-less) = let e : p ≡ f .size = omega arith in rw (e, function-end file f sound) (end-step ρ n σ cells (omega arith) now)
+
+  -- "If the count already equals the fuel when an instruction is due, that instruction doesn't run".
+  last-step : (p : ℕ) (ρ : List ℤ) (σ : State) (cells : List ℤ) → p ≤ f .size → Here σ cells
+      → Matches (over (unfuelled (c .fuel) σ (getElem? body p))) (stepCall view (at (p + 1) ρ (c .fuel)) cells)
+  unfolding unfuelled
+  last-step p ρ σ cells l now = go (decLt p (f .size))
+    where
+      go : Dec (p < f .size) → Matches (over (unfuelled (c .fuel) σ (getElem? body p))) (stepCall view (at (p + 1) ρ (c .fuel)) cells)
+      go (yes less) =
+          rw (
+            instr-of file f sound p less .listed,
+            body-step p ρ (c .fuel) cells (omega arith),
+            ne-eqb (p + 1) (f .size + 1) (omega arith),
+            eq-eqb (c .fuel) (c .fuel) refl,
+          )
+          (fails-match view table es made start old first σ cells now outOfFuel (c .fuel) refl)
+      go (no not-less) = let e : p ≡ f .size = omega arith in rw (e, function-end file f sound) (end-step ρ (c .fuel) σ cells (omega arith) now)
 
   -- ---- all steps
 
-  -- Each turn of the rule is one step, and the call can take at most as many as turns are left.
-  run : (turns fuel p : ℕ) (ρ : List ℤ) (n : ℕ) (σ : State) (cells : List ℤ) → Ranged view (p + 1) n → stepsLeft view (p + 1) n ≤ turns → turns ≤ fuel → Here σ cells
-      → Completes table (settle start (runBody turns c body (before p ρ n σ))) fuel view (more (at (p + 1) ρ n) cells) n
+  -- Each turn of the rule is one step, and so is its end without fuel: with so much fuel left, the call takes at most one step more.
+  run : (left p : ℕ) (ρ : List ℤ) (n : ℕ) (σ : State) (cells : List ℤ) → Ranged view (p + 1) n → n + left ≡ c .fuel → Here σ cells
+      → Completes table (settle start (runBody left c body (before p ρ n σ))) (suc left) view (more (at (p + 1) ρ n) cells) n
   unfolding runBody stepTimes stepsTaken
-  run zero fuel p ρ n σ cells range enough more′ now = absurd (omega (arith, ranged-left range))
-  run (suc turns) zero p ρ n σ cells range enough more′ now = absurd (omega arith)
-  run (suc turns) (suc fuel) p ρ n σ cells range enough more′ now =
+  run zero p ρ n σ cells range all now =
+      let spent : c .fuel ≡ n = omega arith in
+      let last : Matches (over (unfuelled n σ (getElem? body p))) (stepCall view (at (p + 1) ρ n) cells) =
+      subst (λ (m : ℕ). Matches (over (unfuelled m σ (getElem? body p))) (stepCall view (at (p + 1) ρ m) cells)) spent
+      (last-step p ρ σ cells (omega (arith, range .within)) now) in
+      record { leaves = ended-there (stepCall view (at (p + 1) ρ n) cells) last; steps = omega (arith, last-one start c p ρ n σ (getElem? body p)) }
+    where
+      ended-there : (s : Stepped) → Matches (over (unfuelled n σ (getElem? body p))) s
+          → LeavesAsRule table (settle start (unfuelled n σ (getElem? body p))) s
+      ended-there damaged match = absurd match
+      ended-there (more l′ cells′) match = absurd match
+      ended-there (done outcome count cells′) match = match
+  run (suc left) p ρ n σ cells range all now =
       let next =
       go (executeAt c p ρ n σ (getElem? body p)) (stepCall view (at (p + 1) ρ n) cells)
-      (any-step p ρ n σ cells (omega (arith, range .within)) now)
-      (step-lowers view (at (p + 1) ρ n) cells range) (turn-one start c p ρ n σ (getElem? body p)) (run turns fuel) in
+      (any-step p ρ n σ cells (omega (arith, range .within)) (omega arith) now)
+      (step-lowers view (at (p + 1) ρ n) cells range) (turn-one start c p ρ n σ (getElem? body p)) (run left) in
       record { leaves = next .0; steps = next .1 }
     where
       go : (t : Course) (s : Stepped) → Matches t s → StepLowers view (at (p + 1) ρ n) s → OneMore start n t
-          → ((q : ℕ) (ρ′ : List ℤ) (m : ℕ) (τ : State) (cells′ : List ℤ) → Ranged view (q + 1) m → stepsLeft view (q + 1) m ≤ turns → turns ≤ fuel → Here τ cells′
-          → Completes table (settle start (runBody turns c body (before q ρ′ m τ))) fuel view (more (at (q + 1) ρ′ m) cells′) m)
-          → (LeavesAsRule table (settle start (runBody turns c body t)) (stepTimes fuel view s))
-          × (n + suc (stepsTaken fuel view s) ≡ bodySteps (settle start (runBody turns c body t)))
+          → ((q : ℕ) (ρ′ : List ℤ) (m : ℕ) (τ : State) (cells′ : List ℤ) → Ranged view (q + 1) m → m + left ≡ c .fuel → Here τ cells′
+          → Completes table (settle start (runBody left c body (before q ρ′ m τ))) (suc left) view (more (at (q + 1) ρ′ m) cells′) m)
+          → (LeavesAsRule table (settle start (runBody left c body t)) (stepTimes (suc left) view s))
+          × (n + suc (stepsTaken (suc left) view s) ≡ bodySteps (settle start (runBody left c body t)))
       go (before q ρ′ m τ) damaged match low one ih = absurd match
       go (before q ρ′ m τ) (more l′ cells′) match low one ih =
           let next : Lowers view (p + 1) n (q + 1) m = subst (λ (l : Local). Lowers view (p + 1) n (l .place) (l .count)) (match .here) (low .lowers) in
-          let rest = ih q ρ′ m τ cells′ (next .range) (omega (arith, next .lower)) (le-of-suc-le-suc more′) (match .now) in
+          let rest = ih q ρ′ m τ cells′ (next .range) (omega (arith, one, all)) (match .now) in
           rw (match .here) (rest .leaves, omega (arith, rest .steps, one))
       go (before q ρ′ m τ) (done outcome count cells′) match low one ih = absurd match
       go (over r) damaged match low one ih = absurd match
       go (over r) (more l′ cells′) match low one ih = absurd match
       go (over r) (done outcome count cells′) match low one ih =
-          rw (body-over turns c body r, steps-done fuel view outcome count cells′, none-taken fuel view outcome count cells′) (match, omega (arith, one))
+          rw (body-over left c body r) (match, omega (arith, one))
 
   -- ---- the entry
 
@@ -318,21 +347,21 @@ module _ (file : List ℕ) (bytes : AreBytes file) (c : Call) (fits : CallBounde
 
   -- ---- the call
 
-  -- The body behind the entry, in the 65 steps that are left.
-  body-run : (cells : List ℤ) → Here entered cells → Completes table (runFunction file c start f) 65 view (more (at 1 zeroRegisters 0) cells) 0
+  -- The body behind the entry, in the steps that are left.
+  body-run : (cells : List ℤ) → Here entered cells
+      → Completes table (runFunction file c start f) (suc (c .fuel)) view (more (at 1 zeroRegisters 0) cells) 0
   unfolding runFunction
   body-run cells now =
-      let size : length body ≡ f .size = function-body-length file f sound in
       let few′ : f .size ≤ 64 = sound .few in
-      let next : Lowers view 0 0 1 0 = entry-leads view 0 0 (λ e. omega arith) refl (begun-ranged view (omega arith)) in
-      run (length body + 1) 65 0 zeroRegisters 0 entered cells (next .range) (omega (arith, next .lower)) (omega arith) now
+      let next : Lowers view 0 0 1 0 = entry-leads view 0 0 (λ e. omega arith) refl (begun-ranged view (omega arith) fuelled) in
+      run (c .fuel) 0 zeroRegisters 0 entered cells (next .range) (omega arith) now
 
-  entered-completes : Completes table (transactionBy file c start (some f)) 65 view (stepCall view (at 0 zeroRegisters 0) old) 0
+  entered-completes : Completes table (transactionBy file c start (some f)) (suc (c .fuel)) view (stepCall view (at 0 zeroRegisters 0) old) 0
   unfolding transactionBy stepTimes stepsTaken
   entered-completes = go (ltZ (pos 0) (c .value)) refl (ltZ (start (balanceKey payer)) (c .value)) refl
     where
       go : (t : Bool) → ltZ (pos 0) (c .value) ≡ t → (u : Bool) → ltZ (start (balanceKey payer)) (c .value) ≡ u
-          → Completes table (if u then unbegun start 2 else runFunction file c start f) 65 view (stepCall view (at 0 zeroRegisters 0) old) 0
+          → Completes table (if u then unbegun start 2 else runFunction file c start f) (suc (c .fuel)) view (stepCall view (at 0 zeroRegisters 0) old) 0
       go true above true less =
           rw (entry-short above less) (record { leaves = record { same-outcome = refl; same-count = refl; hold = first }; steps = refl })
       go true above false enough =
@@ -367,15 +396,15 @@ unknown-function file c table σ v cells e first =
     by-entry table (transactionBy file c σ none) v cells
     (rw e (record { leaves = record { same-outcome = refl; same-count = refl; hold = first }; steps = refl }))
 
--- A call of any accepted block, begun in cells that hold a state within the balance limit and stepped at most 66 times, has ended: its
+-- A call of any accepted block, begun in cells that hold a state within the balance limit and stepped at most fuel plus 2 times, has ended: its
 -- outcome and count are those of the published rule at that state, its cells hold the state that the rule leaves, and its steps are as many
 -- as the rule says.
-pub call-rule : (file : List ℕ) → AreBytes file → (functions : List Function) → reader.EachAt (λ i f. FunctionSound file f) functions → (c : Call) → CallBounded c
+pub call-rule : (file : List ℕ) → AreBytes file → (functions : List Function) → reader.EachAt (λ i f. FunctionSound file f) functions → (c : Call) → CallBounded c → FuelInRange (c .fuel)
     → (table : List ℕ) → length table ≤ maxKeys → KeysInTable table (setsOf file functions c) → length (setsOf file functions c) ≤ maxCallKeys → (room : ℕ)
     → (σ : State) → stateWithinLimit σ ≡ true → (cells : List ℤ) → Hold table σ cells
     → CallCompletes table (transaction file functions c σ) (madeView file room functions table c) cells
 unfolding codeWords
-call-rule file bytes functions all c fits table few known small room σ within cells first =
+call-rule file bytes functions all c fits fuelled table few known small room σ within cells first =
     go (functionOf functions c) (found-sound file functions c all) known small
   where
     viewBy : Option Function → View
@@ -393,4 +422,4 @@ call-rule file bytes functions all c fits table few known small room σ within c
     go : (o : Option Function) → OfSound file o → KeysInTable table (functionSets file c o) → length (functionSets file c o) ≤ maxCallKeys
         → CallCompletes table (transactionBy file c σ o) (viewBy o) cells
     go none sound known′ small′ = unknown-function file c table σ (viewBy none) cells refl first
-    go (some f) sound known′ small′ = known-function file bytes c fits f sound table few known′ small′ room σ within cells first
+    go (some f) sound known′ small′ = known-function file bytes c fits fuelled f sound table few known′ small′ room σ within cells first

@@ -5,7 +5,7 @@ use mathlib.Core.Bool.{Bool, true, false, false≢true}
 use mathlib.Core.List.{List, [], _∷_}
 use mathlib.Core.Option.{none, some}
 use Prim.Native.Nat.{ℕ, zero, suc, _+_, _*_, _<_}
-use native.Mathlib.Nat.{not-suc-le-zero, le-of-suc-le-suc, add-zero, zero-add}
+use native.Mathlib.Nat.{not-suc-le-zero, le-of-suc-le-suc, zero-add}
 use native.Mathlib.Omega.{arith}
 use lib.ListN.{length, getD, getElem?, drop}
 use lib.Seq.{getD-drop, getD-take, drop-drop}
@@ -29,8 +29,8 @@ Agree n s t = (i : ℕ) → i < n → getD s i 0 ≡ getD t i 0
 agree-drop : (n m : ℕ) (s t : List ℕ) → Agree (n + m) s t → Agree m (drop n s) (drop n t)
 agree-drop n m s t h i l = getD-drop n s i 0 ∙ h (n + i) (omega arith) ∙ sym (getD-drop n t i 0)
 
-decode-same : (index size : ℕ) (s t : List ℕ) → Agree 8 s t → decode index size s ≡ decode index size t
-decode-same index size s t h =
+decode-same : (size : ℕ) (s t : List ℕ) → Agree 8 s t → decode size s ≡ decode size t
+decode-same size s t h =
     let op : number 1 s ≡ number 1 t = read-same 1 s t 0 (λ i l r. h i (omega arith)) in
     let x : number 1 (drop 1 s) ≡ number 1 (drop 1 t) = read-same 1 s t 1 (λ i l r. h i (omega arith)) in
     let y : number 1 (drop 2 s) ≡ number 1 (drop 2 t) = read-same 1 s t 2 (λ i l r. h i (omega arith)) in
@@ -41,9 +41,9 @@ decode-same index size s t h =
 -- ---- the instruction at an index
 
 -- The instruction at index p of a valid code, as its bytes s and the rule's body have it.
-record InstrAt (size : ℕ) (s : List ℕ) (index p : ℕ) (body : List Instr) : Type 0 where
+record InstrAt (size : ℕ) (s : List ℕ) (p : ℕ) (body : List Instr) : Type 0 where
   instr : Instr
-  decoded : decode (index + p) size (drop (instrBytes * p) s) ≡ Valid instr
+  decoded : decode size (drop (instrBytes * p) s) ≡ Valid instr
   listed : getElem? body p ≡ some instr
 
 valid-instr : (d : Decoded) → isValid d ≡ true → (i : Instr) × (d ≡ Valid i)
@@ -52,12 +52,12 @@ valid-instr Invalid e = absurd (false≢true e)
 
 -- A code with no invalid instruction has a valid one, and then such a code again.
 valid-first : (left index size : ℕ) (s : List ℕ) → firstInvalid (suc left) index size s ≡ index + suc left
-    → (isValid (decode index size s) ≡ true) × (firstInvalid left (index + 1) size (drop instrBytes s) ≡ index + 1 + left)
+    → (isValid (decode size s) ≡ true) × (firstInvalid left (index + 1) size (drop instrBytes s) ≡ index + 1 + left)
 unfolding firstInvalid
-valid-first left index size s h = go (isValid (decode index size s)) refl
+valid-first left index size s h = go (isValid (decode size s)) refl
   where
-    go : (t : Bool) → isValid (decode index size s) ≡ t
-        → (isValid (decode index size s) ≡ true) × (firstInvalid left (index + 1) size (drop instrBytes s) ≡ index + 1 + left)
+    go : (t : Bool) → isValid (decode size s) ≡ t
+        → (isValid (decode size s) ≡ true) × (firstInvalid left (index + 1) size (drop instrBytes s) ≡ index + 1 + left)
     go true e = let f : firstInvalid left (index + 1) size (drop instrBytes s) ≡ index + suc left = rw (e, firstInvalid) at h in (e, omega arith)
     go false e = let f : index ≡ index + suc left = rw (e, firstInvalid) at h in absurd (omega arith)
 
@@ -67,47 +67,45 @@ body-first d i rest e = rw e
 
 -- The rule's body from bytes t that are those of s as far as the code goes.
 instr-at : (left index size : ℕ) (s t : List ℕ) → firstInvalid left index size s ≡ index + left → Agree (instrBytes * left) t s
-    → (p : ℕ) → p < left → InstrAt size s index p (bodyOf left index size t)
+    → (p : ℕ) → p < left → InstrAt size s p (bodyOf left size t)
 unfolding bodyOf
 instr-at zero index size s t ok same p l = absurd (not-suc-le-zero l)
 instr-at (suc left) index size s t ok same zero l =
-    let first = valid-instr (decode index size s) (valid-first left index size s ok .0) in
-    let again : decode index size t ≡ Valid (first .0) = decode-same index size t s (λ i h. same i (omega arith)) ∙ first .1 in
+    let first = valid-instr (decode size s) (valid-first left index size s ok .0) in
+    let again : decode size t ≡ Valid (first .0) = decode-same size t s (λ i h. same i (omega arith)) ∙ first .1 in
     record {
       instr = first .0;
-      decoded = ap (λ (n : ℕ). decode n size s) (add-zero index) ∙ first .1;
-      listed = ap (λ (b : List Instr). getElem? b 0) (body-first (decode index size t) (first .0) (bodyOf left (index + 1) size (drop instrBytes t)) again);
+      decoded = first .1;
+      listed = ap (λ (b : List Instr). getElem? b 0) (body-first (decode size t) (first .0) (bodyOf left size (drop instrBytes t)) again);
     }
 instr-at (suc left) index size s t ok same (suc p) l =
     let all = valid-first left index size s ok in
-    let first = valid-instr (decode index size s) (all .0) in
-    let again : decode index size t ≡ Valid (first .0) = decode-same index size t s (λ i h. same i (omega arith)) ∙ first .1 in
-    let rest : InstrAt size (drop instrBytes s) (index + 1) p (bodyOf left (index + 1) size (drop instrBytes t)) =
+    let first = valid-instr (decode size s) (all .0) in
+    let again : decode size t ≡ Valid (first .0) = decode-same size t s (λ i h. same i (omega arith)) ∙ first .1 in
+    let rest : InstrAt size (drop instrBytes s) p (bodyOf left size (drop instrBytes t)) =
     instr-at left (index + 1) size (drop instrBytes s) (drop instrBytes t) (all .1)
     (agree-drop instrBytes (instrBytes * left) t s (λ i h. same i (omega arith))) p (le-of-suc-le-suc l) in
-    let next : index + suc p ≡ index + 1 + p = omega arith in
     let far : 8 * suc p ≡ 8 + 8 * p = omega arith in
     record {
       instr = rest .instr;
       decoded =
-          ap (λ (n : ℕ). decode n size (drop (instrBytes * suc p) s)) next
-          ∙ ap (λ (r : List ℕ). decode (index + 1 + p) size r) (ap (λ (n : ℕ). drop n s) far ∙ sym (drop-drop (8 * p) 8 s))
+          ap (λ (r : List ℕ). decode size r) (ap (λ (n : ℕ). drop n s) far ∙ sym (drop-drop (8 * p) 8 s))
           ∙ rest .decoded;
       listed =
-          ap (λ (b : List Instr). getElem? b (suc p)) (body-first (decode index size t) (first .0) (bodyOf left (index + 1) size (drop instrBytes t)) again)
+          ap (λ (b : List Instr). getElem? b (suc p)) (body-first (decode size t) (first .0) (bodyOf left size (drop instrBytes t)) again)
           ∙ rest .listed;
     }
 
 -- The body has all of them.
 body-length : (left index size : ℕ) (s t : List ℕ) → firstInvalid left index size s ≡ index + left → Agree (instrBytes * left) t s
-    → length (bodyOf left index size t) ≡ left
+    → length (bodyOf left size t) ≡ left
 unfolding bodyOf
 body-length zero index size s t ok same = refl
 body-length (suc left) index size s t ok same =
     let all = valid-first left index size s ok in
-    let first = valid-instr (decode index size s) (all .0) in
-    let again : decode index size t ≡ Valid (first .0) = decode-same index size t s (λ i h. same i (omega arith)) ∙ first .1 in
-    ap length (body-first (decode index size t) (first .0) (bodyOf left (index + 1) size (drop instrBytes t)) again)
+    let first = valid-instr (decode size s) (all .0) in
+    let again : decode size t ≡ Valid (first .0) = decode-same size t s (λ i h. same i (omega arith)) ∙ first .1 in
+    ap length (body-first (decode size t) (first .0) (bodyOf left size (drop instrBytes t)) again)
     ∙ ap suc (body-length left (index + 1) size (drop instrBytes s) (drop instrBytes t) (all .1)
     (agree-drop instrBytes (instrBytes * left) t s (λ i h. same i (omega arith))))
 
@@ -121,29 +119,29 @@ module _ (file : List ℕ) (f : Function) where
   stretch-agrees i l = getD-take (instrBytes * f .size) (drop (f .start) file) i 0 l
 
   pub stretch-decode : (p : ℕ) → p < f .size
-      → decode p (f .size) (drop (instrBytes * p) (codeAt file (f .start) (f .size))) ≡ decode p (f .size) (drop (f .start + instrBytes * p) file)
+      → decode (f .size) (drop (instrBytes * p) (codeAt file (f .start) (f .size))) ≡ decode (f .size) (drop (f .start + instrBytes * p) file)
   stretch-decode p l =
-      decode-same p (f .size) (drop (instrBytes * p) (codeAt file (f .start) (f .size))) (drop (instrBytes * p) (drop (f .start) file))
+      decode-same (f .size) (drop (instrBytes * p) (codeAt file (f .start) (f .size))) (drop (instrBytes * p) (drop (f .start) file))
       (agree-drop (instrBytes * p) 8 (codeAt file (f .start) (f .size)) (drop (f .start) file) (λ i h. stretch-agrees i (omega arith)))
-      ∙ ap (λ (r : List ℕ). decode p (f .size) r) (drop-drop (instrBytes * p) (f .start) file)
+      ∙ ap (λ (r : List ℕ). decode (f .size) r) (drop-drop (instrBytes * p) (f .start) file)
 
   module _ (sound : FunctionSound file f) where
     pub instr-of : (p : ℕ) → p < f .size → InstrOf file f p
     instr-of p l =
-        let here : InstrAt (f .size) (drop (f .start) file) 0 p (bodyOf (f .size) 0 (f .size) (codeAt file (f .start) (f .size))) =
+        let here : InstrAt (f .size) (drop (f .start) file) p (bodyOf (f .size) (f .size) (codeAt file (f .start) (f .size))) =
         instr-at (f .size) 0 (f .size) (drop (f .start) file) (codeAt file (f .start) (f .size)) (sound .valid ∙ sym (zero-add (f .size))) stretch-agrees p l in
         record {
           instr = here .instr;
           decoded =
-              ap (λ (r : List ℕ). decode p (f .size) r) (sym (drop-drop (instrBytes * p) (f .start) file))
-              ∙ ap (λ (n : ℕ). decode n (f .size) (drop (instrBytes * p) (drop (f .start) file))) (sym (zero-add p)) ∙ here .decoded;
+              ap (λ (r : List ℕ). decode (f .size) r) (sym (drop-drop (instrBytes * p) (f .start) file))
+              ∙ here .decoded;
           listed = here .listed;
         }
 
-    pub function-body-length : length (bodyOf (f .size) 0 (f .size) (codeAt file (f .start) (f .size))) ≡ f .size
+    pub function-body-length : length (bodyOf (f .size) (f .size) (codeAt file (f .start) (f .size))) ≡ f .size
     function-body-length =
         body-length (f .size) 0 (f .size) (drop (f .start) file) (codeAt file (f .start) (f .size)) (sound .valid ∙ sym (zero-add (f .size))) stretch-agrees
 
     -- Behind the last there is none.
-    pub function-end : getElem? (bodyOf (f .size) 0 (f .size) (codeAt file (f .start) (f .size))) (f .size) ≡ none
-    function-end = past-end (bodyOf (f .size) 0 (f .size) (codeAt file (f .start) (f .size))) (f .size) function-body-length
+    pub function-end : getElem? (bodyOf (f .size) (f .size) (codeAt file (f .start) (f .size))) (f .size) ≡ none
+    function-end = past-end (bodyOf (f .size) (f .size) (codeAt file (f .start) (f .size))) (f .size) function-body-length

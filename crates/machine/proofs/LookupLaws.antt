@@ -5,7 +5,7 @@ use mathlib.Core.Bool.{Bool, true, false, _&&_, _||_, not, false≢true, or-true
 use mathlib.Core.List.{List, [], _∷_, _++_, map}
 use mathlib.Core.Option.{Option, none, some}
 use Prim.Native.Nat.{ℕ, zero, suc, _+_, _-_, _*_, _%_, _≤_, _<_}
-use native.Mathlib.Nat.{not-suc-le-zero, le-of-suc-le-suc, add-zero, zero-add}
+use native.Mathlib.Nat.{not-suc-le-zero, le-of-suc-le-suc}
 use native.Mathlib.Omega.{arith}
 use borrow.Author.Tests.{eqb-true, eqb-false, eq-eqb, ne-eqb, lt-ltb, le-leb}
 use lib.Dec.{eqb}
@@ -109,26 +109,24 @@ covered-self (e ∷ es) =
     (covered-first e es, each-map (Covered es) (Covered (e ∷ es)) (λ a h. covered-later a e es h) es (covered-self es))
 
 -- The accesses of every instruction of a code are covered by those of the code.
-code-covered : (c : Call) (left index size : ℕ) (s : List ℕ) (p : ℕ) → p < left
-    → EachAccess (Covered (codeAccesses c left index size s)) (decodedAccesses c (decode (index + p) size (drop (instrBytes * p) s)))
+code-covered : (c : Call) (left size : ℕ) (s : List ℕ) (p : ℕ) → p < left
+    → EachAccess (Covered (codeAccesses c left size s)) (decodedAccesses c (decode size (drop (instrBytes * p) s)))
 unfolding codeAccesses
-code-covered c zero index size s p l = absurd (not-suc-le-zero l)
-code-covered c (suc left) index size s zero l =
-    rw (add-zero index) (covered-append (decodedAccesses c (decode index size s)) (codeAccesses c left (index + 1) size (drop instrBytes s)))
-code-covered c (suc left) index size s (suc p) l =
-    let next : index + suc p ≡ index + 1 + p = omega arith in
+code-covered c zero size s p l = absurd (not-suc-le-zero l)
+code-covered c (suc left) size s zero l =
+    covered-append (decodedAccesses c (decode size s)) (codeAccesses c left size (drop instrBytes s))
+code-covered c (suc left) size s (suc p) l =
     let far : 8 * suc p ≡ 8 + 8 * p = omega arith in
-    let here : decodedAccesses c (decode (index + suc p) size (drop (instrBytes * suc p) s))
-    ≡ decodedAccesses c (decode (index + 1 + p) size (drop (instrBytes * p) (drop instrBytes s))) =
-    ap (λ (n : ℕ). decodedAccesses c (decode n size (drop (instrBytes * suc p) s))) next
-    ∙ ap (λ (r : List ℕ). decodedAccesses c (decode (index + 1 + p) size r)) (ap (λ (n : ℕ). drop n s) far ∙ sym (drop-drop (8 * p) 8 s))
+    let here : decodedAccesses c (decode size (drop (instrBytes * suc p) s))
+    ≡ decodedAccesses c (decode size (drop (instrBytes * p) (drop instrBytes s))) =
+    ap (λ (r : List ℕ). decodedAccesses c (decode size r)) (ap (λ (n : ℕ). drop n s) far ∙ sym (drop-drop (8 * p) 8 s))
     in
-    let first : List Access = decodedAccesses c (decode index size s) in
-    let rest : List Access = codeAccesses c left (index + 1) size (drop instrBytes s) in
+    let first : List Access = decodedAccesses c (decode size s) in
+    let rest : List Access = codeAccesses c left size (drop instrBytes s) in
     subst (λ (as′ : List Access). EachAccess (Covered (first ++ rest)) as′) (sym here)
     (each-map (Covered rest) (Covered (first ++ rest)) (covered-behind first rest)
-    (decodedAccesses c (decode (index + 1 + p) size (drop (instrBytes * p) (drop instrBytes s))))
-    (code-covered c left (index + 1) size (drop instrBytes s) p (le-of-suc-le-suc l)))
+    (decodedAccesses c (decode size (drop (instrBytes * p) (drop instrBytes s))))
+    (code-covered c left size (drop instrBytes s) p (le-of-suc-le-suc l)))
 
 -- The sets of a call of a function cover its entry and each of its instructions.
 module _ (file : List ℕ) (c : Call) (f : Function) where
@@ -139,21 +137,21 @@ module _ (file : List ℕ) (c : Call) (f : Function) where
   unfolding functionSets
   entry-covered =
       let own : List Access = entryAccesses c in
-      let code : List Access = codeAccesses c (f .size) 0 (f .size) stretch in
+      let code : List Access = codeAccesses c (f .size) (f .size) stretch in
       each-map (Covered own) (Covered (mergeAll (mergeAll [] own) code))
       (λ a h. covered-kept (mergeAll [] own) code a (covered-merged [] own a h)) own (covered-self own)
 
   stretch-covered : (p : ℕ) → p < f .size
-      → EachAccess (Covered (functionSets file c (some f))) (decodedAccesses c (decode p (f .size) (drop (instrBytes * p) stretch)))
+      → EachAccess (Covered (functionSets file c (some f))) (decodedAccesses c (decode (f .size) (drop (instrBytes * p) stretch)))
   unfolding functionSets
   stretch-covered p l =
       let own : List Access = entryAccesses c in
-      let code : List Access = codeAccesses c (f .size) 0 (f .size) stretch in
+      let code : List Access = codeAccesses c (f .size) (f .size) stretch in
       each-map (Covered code) (Covered (mergeAll (mergeAll [] own) code)) (covered-merged (mergeAll [] own) code)
-      (decodedAccesses c (decode p (f .size) (drop (instrBytes * p) stretch)))
-      (rw zero-add at (code-covered c (f .size) 0 (f .size) stretch p l))
+      (decodedAccesses c (decode (f .size) (drop (instrBytes * p) stretch)))
+      (code-covered c (f .size) (f .size) stretch p l)
 
-  pub instr-covered : (p : ℕ) → p < f .size → (i : Instr) → decode p (f .size) (drop (f .start + instrBytes * p) file) ≡ Valid i
+  pub instr-covered : (p : ℕ) → p < f .size → (i : Instr) → decode (f .size) (drop (f .start + instrBytes * p) file) ≡ Valid i
       → EachAccess (Covered (functionSets file c (some f))) (accesses c i)
   instr-covered p l i e =
       subst (λ (d : Decoded). EachAccess (Covered (functionSets file c (some f))) (decodedAccesses c d)) (stretch-decode file f p l ∙ e) (stretch-covered p l)
@@ -163,7 +161,7 @@ pub sets-distinct : (file : List ℕ) (c : Call) (f : Option Function) → Disti
 unfolding functionSets
 sets-distinct file c none = tt
 sets-distinct file c (some f) =
-    merged-distinct (mergeAll [] (entryAccesses c)) (codeAccesses c (f .size) 0 (f .size) (codeAt file (f .start) (f .size)))
+    merged-distinct (mergeAll [] (entryAccesses c)) (codeAccesses c (f .size) (f .size) (codeAt file (f .start) (f .size)))
     (merged-distinct [] (entryAccesses c) tt)
 
 -- ---- the entry of an access

@@ -1,11 +1,11 @@
 -- One step of a call: what its place can come to; its range, how many steps it can still take at most, and the law that a step which goes on
 -- stays in range with fewer steps left.
 use mathlib.Core.Path.{_≡_, refl, sym, subst, _∙_}
-use mathlib.Core.Bool.{Bool, true, _&&_, not}
+use mathlib.Core.Bool.{Bool, true, false, _&&_, not}
 use mathlib.Core.List.{List, [], _∷_}
 use Prim.Native.Nat.{ℕ, _+_, _-_, _*_, _≤_, _<_}
 use native.Mathlib.Omega.{arith}
-use borrow.Author.Tests.{eqb-true, eqb-false}
+use borrow.Author.Tests.{eqb-true, eqb-false, ne-eqb, le-ltb}
 use lib.IntN.{ℤ, pos, _+ℤ_}
 use lib.Signed.{ltZ, leZ, nonNeg}
 use lib.Dec.{eqb, leb, ltb}
@@ -18,10 +18,10 @@ use Rattle.arith.specs.Compare.{eqZ}
 use Rattle.arith.specs.declared.Checked.{Checked}
 use Rattle.arith.specs.declared.Checked.the-variants as checked
 use Rattle.block.specs.Key.{accountBalance, contractBalance, isBalance}
-use Rattle.block.specs.Limits.{maxCode}
-use Rattle.block.specs.Instruction.{instrBytes, decode}
-use Rattle.block.proofs.DecodeLaws.{JumpsForward, Decodes, decode-forward}
-use Rattle.block.specs.Outcomes.{ended, unknownFunction, balanceTooLow, thrown, lastOutcome, maxCount}
+use Rattle.block.specs.Limits.{maxCode, maxFuel}
+use Rattle.block.specs.Instruction.{instrBytes}
+use Rattle.block.proofs.DecodeLaws.{JumpsWithin, Decodes, decode-within}
+use Rattle.block.specs.Outcomes.{balanceTooLow, thrown, outOfFuel, lastOutcome, maxCount}
 use Rattle.block.specs.declared.Call.{Call}
 use Rattle.block.specs.declared.Payee.{Payee}
 use Rattle.block.specs.declared.Payee.the-variants.{To, Nobody}
@@ -33,8 +33,8 @@ use Rattle.block.specs.Record.{argument}
 use Rattle.footprint.specs.Access.{Access, changing, writing, entryAccesses, payAccesses, accesses}
 use Rattle.block.specs.Naming.{targetOf}
 use Rattle.machine.specs.Action.{placeOf, register, assign, doing, jump, checkedAction, payAction, instrAction, entryAction}
-use Rattle.machine.specs.Step.{View, Local, Performed, broken, onward, ending, Stepped, damaged, more, done, cellAt, lookup, restorable, finish, concluded, loadCell, storeCell, depositCell, transferCells, accessAt, perform, performAction, stepEntry, stepDecoded, stepInstr, stepPlace, stepCall}
-use Rattle.machine.specs.Serial.{maxSteps}
+use Rattle.machine.specs.Step.{View, Local, Performed, broken, onward, ending, Stepped, damaged, more, done, cellAt, lookup, restorable, finish, concluded, loadCell, storeCell, depositCell, transferCells, accessAt, perform, performAction, fuelBroken, stepEntry, stepDecoded, stepInstr, stepBody, stepPlace, stepCall}
+use Rattle.machine.specs.Serial.{stepLimit}
 use Rattle.machine.specs.declared.Action.{Action}
 use Rattle.machine.specs.declared.Next.{Next}
 use Rattle.machine.specs.declared.Next.the-variants.{Go, End, Load, Store, Transfer}
@@ -43,28 +43,39 @@ use Rattle.machine.specs.declared.Lookup.the-variants.{Cell, NoCell}
 
 -- ---- range and steps left
 
--- A call in its range: its code within the limit, its place at most the code's length word, its count below its place.
+-- "fuel .. 1 to 65,535"
+abbrev pub FuelInRange : (fuel : ℕ) → Type 0
+FuelInRange fuel = (0 < fuel) × (fuel ≤ maxFuel)
+
+-- A call in its range: its code within the limit, its place at most the code's length word, its count at most its fuel, and 0 at the entry.
 pub record Ranged (v : View) (place count : ℕ) : Type 0 where
   pub code : v .code ≤ maxCode + 1
   pub within : place ≤ v .code
-  pub counted : count ≤ place - 1
+  pub fuel : FuelInRange (v .call .fuel)
+  pub counted : count ≤ v .call .fuel
+  pub entry : place ≡ 0 → count ≡ 0
 
--- The steps that it can still take at most: one for each place from its own on, with the end's.
+-- The steps that it can still take at most: one for each instruction that it has fuel for, one for the end, and at the entry one for that.
 abbrev pub stepsLeft : View → (place count : ℕ) → ℕ
-stepsLeft v place count = v .code + 1 - place
+stepsLeft v place count = v .call .fuel + 1 - count + (1 - place)
 
 pub ranged-count : {v : View} {place count : ℕ} → Ranged v place count → count ≤ maxCount
-ranged-count r = omega (arith, r .code, r .within, r .counted)
+ranged-count r = omega (arith, r .fuel .1, r .counted)
 
 pub ranged-left : {v : View} {place count : ℕ} → Ranged v place count → 0 < stepsLeft v place count
-ranged-left r = omega (arith, r .within)
+ranged-left r = omega (arith, r .counted)
 
--- A begun call. "A call's steps are its entry, its counted instructions, and one for reaching the end, so at most 66."
-pub begun-ranged : (v : View) → v .code ≤ maxCode + 1 → Ranged v 0 0
-begun-ranged v few = record { code = few; within = omega arith; counted = omega arith }
+-- "a lent fuel of zero or a count above the fuel": neither is so.
+pub ranged-fuel : {v : View} {place count : ℕ} → Ranged v place count → fuelBroken (v .call .fuel) count ≡ false
+ranged-fuel {v} {place} {count} r =
+    rw (ne-eqb (v .call .fuel) 0 (λ e. omega (arith, e, r .fuel .0)), le-ltb (v .call .fuel) count (r .counted))
 
-pub begun-left : (v : View) → v .code ≤ maxCode + 1 → stepsLeft v 0 0 ≤ maxSteps
-begun-left v few = omega arith
+-- A begun call. "a call takes at most fuel plus 2 accepted steps".
+pub begun-ranged : (v : View) → v .code ≤ maxCode + 1 → FuelInRange (v .call .fuel) → Ranged v 0 0
+begun-ranged v few fuel = record { code = few; within = omega arith; fuel = fuel; counted = omega arith; entry = λ e. refl }
+
+pub begun-left : (v : View) → stepsLeft v 0 0 ≤ stepLimit (v .call .fuel)
+begun-left v = omega arith
 
 -- On to a place and a count in range, with fewer steps left.
 pub record Lowers (v : View) (place count to n : ℕ) : Type 0 where
@@ -75,35 +86,54 @@ pub record Lowers (v : View) (place count to n : ℕ) : Type 0 where
 abbrev pub Leads : View → (place count to n : ℕ) → Type 0
 Leads v place count to n = Ranged v place count → Lowers v place count to n
 
--- To a later place within the code, with a count below it.
-leads : (v : View) (place count to n : ℕ) → (Ranged v place count → (place < to) × (to ≤ v .code) × (n ≤ to - 1)) → Leads v place count to n
+-- To an instruction's place within the code, with a count within the fuel and fewer steps left.
+leads : (v : View) (place count to n : ℕ)
+    → (Ranged v place count → (0 < to) × (to ≤ v .code) × (n ≤ v .call .fuel) × (stepsLeft v to n < stepsLeft v place count))
+    → Leads v place count to n
 leads v place count to n f r =
     let there = f r in
-    record { range = record { code = r .code; within = there .1; counted = there .2 }; lower = omega (arith, there .0, there .1) }
+    record {
+      range = record { code = r .code; within = there .1; fuel = r .fuel; counted = there .2; entry = λ e. omega (arith, e, there .0) };
+      lower = there .3;
+    }
 
--- A place that is not the code's end leads on to the next one; an instruction's, with the count 1 higher, to a jump's target too.
+-- An instruction takes one of the steps that are left.
+one-fewer : (fuel count place to : ℕ) → 0 < place → 0 < to → count < fuel → fuel + 1 - (count + 1) + (1 - to) < fuel + 1 - count + (1 - place)
+one-fewer fuel count place to some there less =
+    let at : 1 - place ≡ 0 = omega arith in
+    let next : 1 - to ≡ 0 = omega arith in
+    omega arith
+
+-- A place that is not the code's end leads on to the next one: the entry's with the count 0; an instruction's that has fuel, with the count 1 higher, to a
+-- jump's target too.
 module _ (v : View) (place count : ℕ) (inside : ¬ (place ≡ v .code)) where
-  pub entry-leads : place ≡ 0 → Leads v place count (place + 1) count
-  entry-leads e = leads v place count (place + 1) count (λ r. omega (arith, r .within, r .counted))
+  pub entry-leads : place ≡ 0 → Leads v place count (place + 1) 0
+  entry-leads e = leads v place count (place + 1) 0 (λ r. omega (arith, e, inside, r .within, r .entry e))
 
-  module _ (some : ¬ (place ≡ 0)) where
+  module _ (some : ¬ (place ≡ 0)) (fuelled : ¬ (count ≡ v .call .fuel)) where
     next-leads : Leads v place count (place + 1) (count + 1)
-    next-leads = leads v place count (place + 1) (count + 1) (λ r. omega (arith, r .within, r .counted))
+    next-leads =
+        leads v place count (place + 1) (count + 1) λ r.
+        let less : count < v .call .fuel = omega (arith, fuelled, r .counted) in
+        (omega arith, omega (arith, inside, r .within), omega arith, one-fewer (v .call .fuel) count place (place + 1) (omega (arith, some)) (omega arith) less)
 
-    jump-leads : (to : ℕ) → place - 1 < to → to ≤ v .code - 1 → Leads v place count (placeOf to) (count + 1)
-    jump-leads to low high = leads v place count (placeOf to) (count + 1) (λ r. omega (arith, r .within, r .counted))
+    jump-leads : (to : ℕ) → to ≤ v .code - 1 → Leads v place count (placeOf to) (count + 1)
+    jump-leads to high =
+        leads v place count (placeOf to) (count + 1) λ r.
+        let less : count < v .call .fuel = omega (arith, fuelled, r .counted) in
+        (omega arith, omega (arith, some, high, r .within), omega arith, one-fewer (v .call .fuel) count place (placeOf to) (omega (arith, some)) (omega arith) less)
 
 -- ---- what fits a place
 
--- A place that acts leads on to the next one. A load has a first access that reads; a store one that writes; a transfer one that does both, and
--- a second that writes. `n` is the count with the place's own instruction.
+-- A place that acts leads on to the next one, or ends with an outcome below 7, which the fuel alone gives. A load has a first access that reads; a store one that
+-- writes; a transfer one that does both, and a second that writes. `n` is the count with the place's own instruction.
 abbrev pub NextFits : View → (place count n : ℕ) → List Access → Next → Type 0
 NextFits v place count n as′ (Go to) = Leads v place count to n
-NextFits v place count n as′ (End outcome) = outcome ≤ lastOutcome
+NextFits v place count n as′ (End outcome) = outcome < outOfFuel
 NextFits v place count n as′ (Load x) = accessAt as′ 0 .reads ≡ true
 NextFits v place count n as′ (Store value) = accessAt as′ 0 .writes ≡ true
 NextFits v place count n as′ (Transfer amount short) =
-    (accessAt as′ 0 .reads ≡ true) × (accessAt as′ 0 .writes ≡ true) × (accessAt as′ 1 .writes ≡ true) × (short ≤ lastOutcome)
+    (accessAt as′ 0 .reads ≡ true) × (accessAt as′ 0 .writes ≡ true) × (accessAt as′ 1 .writes ≡ true) × (short < outOfFuel)
 
 pub record ActionFits (v : View) (place count n : ℕ) (as′ : List Access) (regs : List ℤ) (a : Action) : Type 0 where
   pub behind : Leads v place count (place + 1) n
@@ -143,12 +173,12 @@ module _ (v : View) (place count n : ℕ) (regs : List ℤ) (behind : Leads v pl
       (ltZ (pos 0) (c .value)) (λ t. does-fit _ _ (refl, refl, refl, omega arith))
       (λ t. does-fit _ _ (subst (λ (q : ℕ). Leads v place count (q + 1) n) e behind))
 
-  module _ (jumps : (to : ℕ) → place - 1 < to → to ≤ v .code - 1 → Leads v place count (placeOf to) n) where
-    jump-fits : (to : ℕ) (t : Bool) → place - 1 < to → to ≤ v .code - 1 → Fits [] (jump place regs to t)
-    jump-fits to t low high =
-        does-fit [] _ (if-all (λ (q : ℕ). Leads v place count q n) t (λ e. jumps to low high) (λ e. behind))
+  module _ (jumps : (to : ℕ) → to ≤ v .code - 1 → Leads v place count (placeOf to) n) where
+    jump-fits : (to : ℕ) (t : Bool) → to ≤ v .code - 1 → Fits [] (jump place regs to t)
+    jump-fits to t high =
+        does-fit [] _ (if-all (λ (q : ℕ). Leads v place count q n) t (λ e. jumps to high) (λ e. behind))
 
-    instr-fits : (c : Call) (i : Instr) → JumpsForward (place - 1) (v .code - 1) i → Fits (accesses c i) (instrAction c place regs i)
+    instr-fits : (c : Call) (i : Instr) → JumpsWithin (v .code - 1) i → Fits (accesses c i) (instrAction c place regs i)
     unfolding accesses instrAction
     instr-fits c Stop j = does-fit [] _ (omega arith)
     instr-fits c Throw j = does-fit [] _ (omega arith)
@@ -164,71 +194,68 @@ module _ (v : View) (place count n : ℕ) (regs : List ℤ) (behind : Leads v pl
     instr-fits c (Put x field a b) j = does-fit _ (Store (register regs x)) refl
     instr-fits c (Bal x) j = does-fit _ (Load x) refl
     instr-fits c (Pay x target) j = pay-fits c (register regs x) (targetOf c target)
-    instr-fits c (Jeq x y to) j = jump-fits to (eqZ (register regs x) (register regs y)) (j .0) (j .1)
-    instr-fits c (Jlt x y to) j = jump-fits to (ltZ (register regs x) (register regs y)) (j .0) (j .1)
+    instr-fits c (Jeq x y to) j = jump-fits to (eqZ (register regs x) (register regs y)) j
+    instr-fits c (Jlt x y to) j = jump-fits to (ltZ (register regs x) (register regs y)) j
 
 -- ---- every place
 
--- What holds of a broken place, of an end, of the entry's action and of that of each instruction that may stand there, holds of what each place
--- comes to.
+-- What holds of a broken place, of an end, of one for want of fuel, of the entry's action and of that of each instruction that may stand there, holds of what each
+-- place comes to.
 module _ (v : View) (place count : ℕ) (regs : List ℤ) (P : (List ℤ → Performed) → Type 0) (breaks : P (λ cells. broken))
-    (ends : (outcome : ℕ) → outcome ≤ lastOutcome → P (λ cells. ending outcome count))
+    (ends : (outcome n : ℕ) → outcome < outOfFuel → n ≤ count → P (λ cells. ending outcome n))
+    (spends : ¬ (place ≡ 0) → ¬ (place ≡ v .code) → count ≡ v .call .fuel → P (λ cells. ending outOfFuel count))
     (enters : place ≡ 0 → ¬ (place ≡ v .code)
-    → P (λ cells. performAction v place count (entryAccesses (v .call)) (entryAction (v .call) regs) cells))
-    (executes : ¬ (place ≡ 0) → ¬ (place ≡ v .code) → (i : Instr) → JumpsForward (place - 1) (v .code - 1) i
+    → P (λ cells. performAction v place 0 (entryAccesses (v .call)) (entryAction (v .call) regs) cells))
+    (executes : ¬ (place ≡ 0) → ¬ (place ≡ v .code) → ¬ (count ≡ v .call .fuel) → (i : Instr) → JumpsWithin (v .code - 1) i
     → P (λ cells. performAction v place (count + 1) (accesses (v .call) i) (instrAction (v .call) place regs i) cells)) where
-  entry-each : place ≡ 0 → P (λ cells. stepEntry v place count regs cells)
+  -- A test that looks at no cell.
+  tested : (t : Bool) (x y : List ℤ → Performed) → (t ≡ true → P x) → (t ≡ false → P y) → P (λ cells. if t then x cells else y cells)
+  tested true x y f g = f refl
+  tested false x y f g = g refl
+
+  entry-each : place ≡ 0 → P (λ cells. stepEntry v place regs cells)
   unfolding stepEntry
   entry-each e =
-      by-test
-      (λ t. P (λ cells.
-      if t
-      then ending unknownFunction count
-      else performAction v place count (entryAccesses (v .call)) (entryAction (v .call) regs) cells))
-      (eqb (v .code) 0) (λ h. ends unknownFunction (omega arith)) (λ h. enters e (λ q. eqb-false (v .code) 0 h (sym q ∙ e)))
+      tested (eqb (v .code) 0) _ _ (λ h. ends _ _ (omega arith) (omega arith)) (λ h. enters e (λ q. eqb-false (v .code) 0 h (sym q ∙ e)))
 
-  module _ (some : ¬ (place ≡ 0)) (inside : ¬ (place ≡ v .code)) where
-    decoded-each : (d : Decoded) → Decodes (JumpsForward (place - 1) (v .code - 1)) d → P (λ cells. stepDecoded v place count regs cells d)
+  module _ (some : ¬ (place ≡ 0)) (inside : ¬ (place ≡ v .code)) (fuelled : ¬ (count ≡ v .call .fuel)) where
+    decoded-each : (d : Decoded) → Decodes (JumpsWithin (v .code - 1)) d → P (λ cells. stepDecoded v place count regs cells d)
     unfolding stepDecoded
-    decoded-each (Valid i) j = executes some inside i j
+    decoded-each (Valid i) j = executes some inside fuelled i j
     decoded-each Invalid j = breaks
 
     instr-each : P (λ cells. stepInstr v place count regs cells)
     unfolding stepInstr
     instr-each =
-        let d : Decoded = decode (place - 1) (v .code - 1) (drop (v .start + instrBytes * (place - 1)) (v .block)) in
-        by-test (λ t. P (λ cells. if t then stepDecoded v place count regs cells d else broken))
-        (leb (v .start + instrBytes * (v .code - 1)) (length (v .block)))
-        (λ h. decoded-each d (decode-forward (place - 1) (v .code - 1) (drop (v .start + instrBytes * (place - 1)) (v .block))))
-        (λ h. breaks)
+        tested (leb (v .start + instrBytes * (v .code - 1)) (length (v .block))) _ _
+        (λ h. decoded-each _ (decode-within (v .code - 1) (drop (v .start + instrBytes * (place - 1)) (v .block)))) (λ h. breaks)
+
+  body-each : ¬ (place ≡ 0) → P (λ cells. stepBody v place count regs cells)
+  unfolding stepBody
+  body-each some =
+      tested (fuelBroken (v .call .fuel) count) _ _ (λ e. breaks) λ e.
+      tested (eqb place (v .code)) _ _ (λ f. ends _ _ (omega arith) (omega arith)) λ f.
+      tested (eqb count _) _ _ (λ g. spends some (eqb-false place (v .code) f) (eqb-true count _ g))
+      (λ g. instr-each some (eqb-false place (v .code) f) (eqb-false count _ g))
 
   pub place-each : P (λ cells. stepPlace v place count regs cells)
   unfolding stepPlace
-  place-each =
-      by-test
-      (λ t. P (λ cells.
-      if t
-      then stepEntry v place count regs cells
-      else if eqb place (v .code) then ending ended count else stepInstr v place count regs cells))
-      (eqb place 0) (λ e. entry-each (eqb-true place 0 e))
-      (λ e.
-      by-test (λ t. P (λ cells. if t then ending ended count else stepInstr v place count regs cells)) (eqb place (v .code))
-      (λ h. ends ended (omega arith))
-      (λ h. instr-each (eqb-false place 0 e) (eqb-false place (v .code) h)))
+  place-each = tested (eqb place 0) _ _ (λ e. entry-each (eqb-true place 0 e)) (λ e. body-each (eqb-false place 0 e))
 
 -- The same of every action that fits.
 pub place-all : (v : View) (place count : ℕ) (regs : List ℤ) (P : (List ℤ → Performed) → Type 0) → P (λ cells. broken)
-    → ((outcome : ℕ) → outcome ≤ lastOutcome → P (λ cells. ending outcome count))
+    → ((outcome n : ℕ) → outcome < outOfFuel → n ≤ count → P (λ cells. ending outcome n))
+    → (¬ (place ≡ 0) → ¬ (place ≡ v .code) → count ≡ v .call .fuel → P (λ cells. ending outOfFuel count))
     → ((n : ℕ) (as′ : List Access) (a : Action) → ActionFits v place count n as′ regs a → P (λ cells. performAction v place n as′ a cells))
     → P (λ cells. stepPlace v place count regs cells)
-place-all v place count regs P breaks ends acts =
-    place-each v place count regs P breaks ends
+place-all v place count regs P breaks ends spends acts =
+    place-each v place count regs P breaks ends spends
     (λ e inside.
-    acts count (entryAccesses (v .call)) (entryAction (v .call) regs)
-    (entry-fits v place count count regs (entry-leads v place count inside e) (v .call) e))
-    (λ some inside i j.
+    acts 0 (entryAccesses (v .call)) (entryAction (v .call) regs)
+    (entry-fits v place count 0 regs (entry-leads v place count inside e) (v .call) e))
+    (λ some inside fuelled i j.
     acts _ (accesses (v .call) i) (instrAction (v .call) place regs i)
-    (instr-fits v place count _ regs (next-leads v place count inside some) (jump-leads v place count inside some) (v .call) i j))
+    (instr-fits v place count _ regs (next-leads v place count inside some fuelled) (jump-leads v place count inside some fuelled) (v .call) i j))
 
 -- ---- a step from a place in range
 
@@ -274,25 +301,26 @@ module _ (v : View) (place count : ℕ) (regs : List ℤ) (range : Ranged v plac
     deposit-lowers amount m (Cell k) =
         if-all Low (nonNeg (cellAt cells k) && leZ (cellAt cells k +ℤ amount) largest) (λ h. record { lowers = on; registers = same }) (λ h. tt)
 
-    transfer-lowers : (amount : ℤ) (short : ℕ) → short ≤ lastOutcome → (to : Access) (found : Lookup)
+    transfer-lowers : (amount : ℤ) (short : ℕ) → short < outOfFuel → (to : Access) (found : Lookup)
         → Low (transferCells v place n regs′ amount short to cells found)
     unfolding transferCells
     transfer-lowers amount short few to NoCell = tt
     transfer-lowers amount short few to (Cell m) =
         if-all Low (not (nonNeg (cellAt cells m))) (λ h. tt) λ h.
-        if-all Low (ltZ (cellAt cells m) amount) (λ h. (few, ranged-count (on .range))) (λ h. deposit-lowers amount m (lookup v to))
+        if-all Low (ltZ (cellAt cells m) amount) (λ h. (omega (arith, few), ranged-count (on .range))) (λ h. deposit-lowers amount m (lookup v to))
 
     perform-lowers : (as′ : List Access) (next : Next) → NextFits v place count n as′ next → Low (perform v place n as′ regs′ next cells)
     unfolding perform
     perform-lowers as′ (Go to) f = record { lowers = f range; registers = same }
-    perform-lowers as′ (End outcome) f = (f, ranged-count (on .range))
+    perform-lowers as′ (End outcome) f = (omega (arith, f), ranged-count (on .range))
     perform-lowers as′ (Load x) f = load-lowers x (accessAt as′ 0) (lookup v (accessAt as′ 0))
     perform-lowers as′ (Store z) f = store-lowers z (lookup v (accessAt as′ 0))
     perform-lowers as′ (Transfer amount short) f = transfer-lowers amount short (f .3) (accessAt as′ 1) (lookup v (accessAt as′ 0))
 
   place-lowers : Low (stepPlace v place count regs cells)
   place-lowers =
-      place-all v place count regs (λ f. Low (f cells)) tt (λ outcome few. (few, ranged-count range))
+      place-all v place count regs (λ f. Low (f cells)) tt (λ outcome n few less. (omega (arith, few), omega (arith, less, ranged-count range)))
+      (λ some inside spent. (omega arith, ranged-count range))
       (λ n as′ a f. perform-lowers n (f .behind range) (a .regs) (f .registers) as′ (a .next) (f .next))
 
 -- A step that goes on from a place in range stays in range, with fewer steps left.

@@ -25,8 +25,8 @@ use Rattle.machine.specs.Step.{View, Local, Stepped, damaged, more, done
 -- The instruction at an index of a function: a step decodes it from the file, and the rule's body has it there.
 pub record InstrOf (file : List ℕ) (f : Function) (p : ℕ) : Type 0 where
   pub instr : Instr
-  pub decoded : decode p (f .size) (drop (f .start + instrBytes * p) file) ≡ Valid instr
-  pub listed : getElem? (bodyOf (f .size) 0 (f .size) (codeAt file (f .start) (f .size))) p ≡ some instr
+  pub decoded : decode (f .size) (drop (f .start + instrBytes * p) file) ≡ Valid instr
+  pub listed : getElem? (bodyOf (f .size) (f .size) (codeAt file (f .start) (f .size))) p ≡ some instr
 
 -- The view of a call: its code as the function table has it, its sets as entries by the table of keys, which stands in a buffer of `room` words.
 abbrev pub madeView : (file : List ℕ) (room : ℕ) → List Function → (table : List ℕ) → Call → View

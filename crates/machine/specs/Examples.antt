@@ -1,13 +1,13 @@
 -- The answers 20 to 26 of the three moves, computed on block P's run and on damaged ones.
 use mathlib.Core.Path.{_≡_, refl}
 use mathlib.Core.List.{List, [], _∷_, _++_, map, flatten}
-use Prim.Native.Nat.{ℕ, _+_, _-_, _^_}
+use Prim.Native.Nat.{ℕ, _+_, _-_, _*_, _^_}
 use lib.IntN.{pos, negsuc}
-use lib.ListN.{take, set}
+use lib.ListN.{take, drop, set}
 use Rattle.wire.specs.Bytes.{below}
 use Rattle.schedule.specs.declared.Move.the-variants.{Begin, Step, Cancel}
 use Rattle.block.specs.Assemble.{text, STOP, THROW, SET, PUT, function, cell, call, end}
-use Rattle.block.specs.Worked.{P, account0, zeroDivisors}
+use Rattle.block.specs.Worked.{P, account0, zeroDivisors, fuelled}
 use Rattle.machine.specs.Answer.{answerNumber}
 use Rattle.machine.specs.Run.{Run, statusWord, outcomeWord, countWord, waitCount}
 use Rattle.machine.specs.Opening.{openedForEight}
@@ -108,15 +108,15 @@ pub record Damaged : Type 0 where
   pub begin-entries : begins 0 1 (planAt 34 25 one ∷ planAt 35 0 one ∷ planAt 35 4098 one ∷ planAt 37 4097 one ∷ []) ≡ 20 ∷ 20 ∷ 20 ∷ 0 ∷ []
   -- What a lower number answers first is not looked at: a damaged number of calls behind 21, a held call that is none behind 22, a damaged state behind 23.
   pub begin-order : begins 8 0 (callsAs 257 startP ∷ []) ++ begins 0 3 (heldAs 0 4 startP ∷ []) ++ begins 0 0 (statusAt 0 3 begunP ∷ []) ≡ 21 ∷ 22 ∷ 23 ∷ []
-  -- STEP: the held call, the place, the count, the call's record; the state word is not looked at.
+  -- STEP: the held call, the place, the call's record; the state word is not looked at, and at the entry the count is not.
   pub step-sizes : steps P (tooShort begunP) ≡ 20 ∷ 20 ∷ 20 ∷ 20 ∷ 20 ∷ 20 ∷ []
   pub step-head : steps P (workersAs 0 begunP ∷ workersAs 9 begunP ∷ callsAs 257 begunP ∷ heldAs 0 4 begunP ∷ statusAt 0 7 begunP ∷ []) ≡ 20 ∷ 20 ∷ 20 ∷ 20 ∷ 0 ∷ []
-  pub step-place : steps P (seatAs 0 4 0 begunP ∷ seatAs 0 3 0 begunP ∷ planAt 1 66 begunP ∷ seatAs 0 0 65 begunP ∷ seatAs 0 0 64 begunP ∷ []) ≡ 20 ∷ 0 ∷ 20 ∷ 20 ∷ 0 ∷ []
+  pub step-place : steps P (seatAs 0 4 0 begunP ∷ seatAs 0 3 0 begunP ∷ planAt 1 66 begunP ∷ seatAs 0 0 65 begunP ∷ seatAs 0 1 65 begunP ∷ seatAs 0 1 63 begunP ∷ []) ≡ 20 ∷ 0 ∷ 20 ∷ 0 ∷ 20 ∷ 0 ∷ []
   pub step-record : steps P (firstAs 200 begunP ∷ firstAs 0 begunP ∷ []) ++ steps (set P 125 128) (begunP ∷ []) ≡ 20 ∷ 20 ∷ 20 ∷ []
-  -- The record of call 0 is bytes 120 to 153: one byte fewer is no record.
-  pub step-cut : steps (take 153 P) (begunP ∷ []) ++ steps (take 154 P) (begunP ∷ []) ≡ 20 ∷ 0 ∷ []
+  -- The record of call 0 is bytes 120 to 155: one byte fewer is no record.
+  pub step-cut : steps (take 155 P) (begunP ∷ []) ++ steps (take 156 P) (begunP ∷ []) ≡ 20 ∷ 0 ∷ []
   -- At an instruction: the code stretch, the instruction, the cell among the entries with the flag that is wanted.
-  pub step-code : steps P (planAt 0 215 atPut ∷ []) ++ steps (set P 16 16) (atPut ∷ begunP ∷ []) ≡ 20 ∷ 20 ∷ 0 ∷ []
+  pub step-code : steps P (planAt 0 217 atPut ∷ []) ++ steps (set P 16 16) (atPut ∷ begunP ∷ []) ≡ 20 ∷ 20 ∷ 0 ∷ []
   pub step-cell : steps P (withKeyAt 6 0 atPut ∷ planAt 3 13 atPut ∷ planAt 3 4098 atPut ∷ planAt 2 0 atPut ∷ planAt 2 25 atPut ∷ atPut ∷ []) ≡ 20 ∷ 20 ∷ 20 ∷ 20 ∷ 20 ∷ 0 ∷ []
   -- At the entry of call 1: the sender's balance, and the contract's where the sender's suffices.
   pub step-entry : steps P (valueAt 0 (negsuc 0) second ∷ valueAt 2 (negsuc 0) second ∷ valueAt 2 (pos (2 ^ 63 - 1)) second ∷ valueAt 2 (negsuc 0) (valueAt 0 (pos 0) second) ∷ second ∷ []) ≡ 20 ∷ 20 ∷ 20 ∷ 0 ∷ 0 ∷ []
@@ -298,5 +298,77 @@ zero-divisors =
       changed = refl;
       restored = refl;
       freed = refl;
+      damaged = refl;
+    }
+
+-- M-104, "Fuel and loops". The table of this block has the balances of 5 and 32768, and fields 1 and 2 of 32768, as cells 0 to 3. Call 6 loops over its PUT with the
+-- fuel 9: its plan starts at word 192, and its fuel is bytes 554 and 555 of the block.
+unfoldable pub startF : Run
+startF = openedForEight fuelled
+
+-- Its serial run.
+unfoldable pub closedF : Run
+closedF = serialRun fuelled startF
+
+-- Call 6 at its entry; before the PUT for which it has two left; and before the one for which it has none: the value has moved, and field 1 is 7.
+unfoldable pub begunF : Run
+begunF = runAfter fuelled startF (Begin 0 6 ∷ [])
+
+unfoldable pub twoLeft : Run
+twoLeft = runAfter fuelled begunF (Step 0 ∷ Step 0 ∷ Step 0 ∷ Step 0 ∷ Step 0 ∷ Step 0 ∷ Step 0 ∷ Step 0 ∷ [])
+
+unfoldable pub noneLeft : Run
+noneLeft = runAfter fuelled twoLeft (Step 0 ∷ Step 0 ∷ [])
+
+-- It is finished.
+unfoldable pub behindFuel : Run
+behindFuel = runAfter fuelled noneLeft (Step 0 ∷ [])
+
+pub record Fuelled : Type 0 where
+  -- Fuel for all instructions, for one fewer and for one more; STOP due without and with fuel for it; a jump to its own index; the loop; a jump to the code's length;
+  -- interest, with just enough fuel and with one too little.
+  pub outcomes : ofCalls outcomeWord closedF ≡ 0 ∷ 7 ∷ 0 ∷ 7 ∷ 0 ∷ 7 ∷ 7 ∷ 0 ∷ 0 ∷ 7 ∷ 0 ∷ []
+  pub counts : ofCalls countWord closedF ≡ 2 ∷ 1 ∷ 2 ∷ 1 ∷ 2 ∷ 5 ∷ 9 ∷ 1 ∷ 25 ∷ 24 ∷ 2 ∷ []
+  -- "in a step of its own that counts nothing": one step more than by STOP, as for the end. Calls 0, 5, 6, 7 and 8 take "fuel plus 2".
+  pub stepped : map (serialSteps fuelled startF) (below 11) ≡ 4 ∷ 3 ∷ 4 ∷ 3 ∷ 3 ∷ 7 ∷ 11 ∷ 3 ∷ 27 ∷ 26 ∷ 4 ∷ []
+  -- 1000 over three periods at 10 in 100; the other calls of the loop left no trace.
+  pub opened : take 4 (startF .cells) ≡ pos 7 ∷ pos 0 ∷ pos 9 ∷ pos 1000 ∷ []
+  pub closed : take 4 (closedF .cells) ≡ pos 0 ∷ pos 7 ∷ pos 9 ∷ pos 1331 ∷ []
+  -- "all is restored": the value that moved at the entry, and field 1; the worker is free.
+  pub changed : take 3 (noneLeft .cells) ≡ pos 0 ∷ pos 7 ∷ pos 7 ∷ []
+  pub restored : take 3 (behindFuel .cells) ≡ pos 7 ∷ pos 0 ∷ pos 9 ∷ []
+  pub freed : answersOf fuelled behindFuel (Step 0 ∷ Begin 0 10 ∷ []) ≡ 26 ∷ 0 ∷ []
+  -- "a lent fuel of zero or a count above the fuel is 20"; another fuel is believed. At the code's length too; there a count that is the fuel ends well.
+  pub lent-fuel : map (λ fuel. answerNumber (stepOf (set fuelled 554 fuel) noneLeft 0 .answer)) (0 ∷ 8 ∷ 9 ∷ 10 ∷ []) ≡ 20 ∷ 20 ∷ 0 ∷ 0 ∷ []
+  pub lent-none : steps (set fuelled 554 0) (runAfter fuelled begunF (Step 0 ∷ []) ∷ []) ≡ 20 ∷ []
+  pub lent-count : steps fuelled (seatAs 0 2 10 noneLeft ∷ seatAs 0 2 65536 noneLeft ∷ seatAs 0 2 8 noneLeft ∷ seatAs 0 4 10 noneLeft ∷ seatAs 0 4 9 noneLeft ∷ []) ≡ 20 ∷ 20 ∷ 0 ∷ 20 ∷ 0 ∷ []
+  -- At the entry neither is looked at; behind it the count is 0, and in the receipt of a call that ends there.
+  pub entry-fuel : steps (set fuelled 554 0) (begunF ∷ []) ≡ 0 ∷ []
+  pub entry-count : take 2 (runAfter fuelled (seatAs 0 0 65536 begunF) (Step 0 ∷ []) .seats) ≡ 1 ∷ 0 ∷ []
+  pub ended-at-entry : map (λ call. take 3 (drop (4 * call) (runAfter endings (seatAs 0 0 9 (runAfter endings (openedForEight endings) (Begin 0 call ∷ []))) (Step 0 ∷ []) .status))) (4 ∷ 5 ∷ []) ≡ (2 ∷ 1 ∷ 0 ∷ []) ∷ (2 ∷ 2 ∷ 0 ∷ []) ∷ []
+  -- "that instruction doesn't run", and is not looked at: neither that its bytes hold none, nor that its code is not in the block.
+  pub unseen : map (λ r. answerNumber (stepOf (set fuelled 80 16) r 0 .answer)) (twoLeft ∷ noneLeft ∷ []) ++ steps fuelled (planAt 192 9999 twoLeft ∷ planAt 192 9999 noneLeft ∷ []) ≡ 20 ∷ 0 ∷ 20 ∷ 0 ∷ []
+  -- As on 4 the entries are needed, from word 195 of the plan on, and "kept old values are restored untested".
+  pub damaged : steps fuelled (planAt 194 25 noneLeft ∷ planAt 195 0 noneLeft ∷ frameAt 8 (negsuc 4) noneLeft ∷ []) ≡ 20 ∷ 20 ∷ 0 ∷ []
+
+pub fuel-and-loops : Fuelled
+unfolding computing fuelled endings startF closedF begunF twoLeft noneLeft behindFuel
+fuel-and-loops =
+    record {
+      outcomes = refl;
+      counts = refl;
+      stepped = refl;
+      opened = refl;
+      closed = refl;
+      changed = refl;
+      restored = refl;
+      freed = refl;
+      lent-fuel = refl;
+      lent-none = refl;
+      lent-count = refl;
+      entry-fuel = refl;
+      entry-count = refl;
+      ended-at-entry = refl;
+      unseen = refl;
       damaged = refl;
     }

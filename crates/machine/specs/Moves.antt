@@ -12,7 +12,6 @@ use lib.ListN.{drop}
 use Rattle.footprint.specs.Plan.{codeStart, codeLength, keyCount}
 use Rattle.arith.specs.Choice.{if_then_else_}
 use Rattle.block.specs.Limits.{maxCalls, maxCode, maxWorkers}
-use Rattle.block.specs.Outcomes.{maxCount}
 use Rattle.block.specs.Record.{headBytes, callRecordBytes, callOf}
 use Rattle.block.specs.declared.Call.{Call}
 use Rattle.block.specs.declared.CallBody.{CallBody}
@@ -161,12 +160,10 @@ unfoldable pub stepRecord : List ℕ → Run → ℕ → ℕ → CallBody → Mo
 stepRecord block r worker call OutOfRange = stay r Damaged
 stepRecord block r worker call (InRange body) = stepped r worker call (stepCall (viewOf block r call body) (localOf r worker call) (r .cells))
 
--- The place (entry, or 0 to the code's length), the count, and the call's record.
+-- The place (entry, or 0 to the code's length), and the call's record; the count is tested with the record's fuel.
 unfoldable pub stepHeld : List ℕ → Run → ℕ → ℕ → Moved
 stepHeld block r worker call =
     if ltb (maxCode + 1) (planWord (r .plan) call codeLength) || ltb (planWord (r .plan) call codeLength) (placeIn (r .seats) worker)
-    then stay r Damaged
-    else if ltb maxCount (countIn (r .seats) worker)
     then stay r Damaged
     else stepRecord block r worker call (callOf (drop (r .head .«first_call» + callRecordBytes * call + headBytes) block))
 

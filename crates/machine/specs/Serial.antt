@@ -1,17 +1,21 @@
 -- "Serial run: calls 0, 1, .. each begun and stepped to its end."
 use mathlib.Core.Bool.{Bool, true, false}
 use mathlib.Core.List.{List, [], _∷_}
-use Prim.Native.Nat.{ℕ, zero, suc, _+_, min}
+use Prim.Native.Nat.{ℕ, zero, suc, min}
 use lib.Dec.{eqb}
 use Rattle.arith.specs.Choice.{if_then_else_}
 use Rattle.wire.specs.Bytes.{below}
-use Rattle.block.specs.Limits.{maxCode, maxCalls}
+use Rattle.block.specs.Limits.{maxCalls, maxFuel}
 use Rattle.machine.specs.Run.{Run, heldAt}
 use Rattle.machine.specs.Moves.{beginOf, stepOf}
 
--- "A call's steps are its entry, its counted instructions, and one for reaching the end, so at most 66."
+-- M-104: "In place of the 66 .., a call takes at most fuel plus 2 accepted steps": its entry, its counted instructions, and one for reaching the end or for
+-- running out of fuel. So no call takes more than one of the highest fuel may.
+abbrev pub stepLimit : (fuel : ℕ) → ℕ
+stepLimit fuel = suc (suc fuel)
+
 abbrev pub maxSteps : ℕ
-maxSteps = maxCode + 2
+maxSteps = stepLimit maxFuel
 
 -- The serial run uses worker 0.
 abbrev pub isSerialIdle : Run → Bool

@@ -19,7 +19,7 @@ use Rattle.footprint.specs.Access.{Access, reading, accesses, entryAccesses}
 use Rattle.machine.specs.Run.{hasKey}
 use Rattle.footprint.specs.Plan.{entryCell, entryReads, entryWrites, entryFlags}
 use Rattle.machine.specs.Action.{instrAction, entryAction}
-use Rattle.block.specs.Outcomes.{ended, unknownFunction, thrown}
+use Rattle.block.specs.Outcomes.{ended, unknownFunction, thrown, outOfFuel}
 use Rattle.machine.specs.declared.Action.{Action}
 use Rattle.machine.specs.declared.Next.{Next}
 use Rattle.machine.specs.declared.Next.the-variants.{Go, End, Load, Store, Transfer}
@@ -144,12 +144,12 @@ perform v place count as′ regs (Transfer amount short) cells =
 abbrev pub performAction : View → (place count : ℕ) → List Access → Action → List ℤ → Performed
 performAction v place count as′ a cells = perform v place count as′ (a .regs) (a .next) cells
 
--- "STEP(worker), at entry: unknown function, outcome 1"
-unfoldable pub stepEntry : View → (place count : ℕ) → (regs cells : List ℤ) → Performed
-stepEntry v place count regs cells =
+-- "STEP(worker), at entry: unknown function, outcome 1". M-104: neither fuel nor count is looked at; behind the entry the count is 0.
+unfoldable pub stepEntry : View → (place : ℕ) → (regs cells : List ℤ) → Performed
+stepEntry v place regs cells =
     if eqb (v .code) 0
-    then ending unknownFunction count
-    else performAction v place count (entryAccesses (v .call)) (entryAction (v .call) regs) cells
+    then ending unknownFunction 0
+    else performAction v place 0 (entryAccesses (v .call)) (entryAction (v .call) regs) cells
 
 -- "Else one instruction runs and counts 1, also the one that fails."
 unfoldable pub stepDecoded : View → (place count : ℕ) → (regs cells : List ℤ) → Decoded → Performed
@@ -160,22 +160,33 @@ stepDecoded v place count regs cells (Valid i) =
 -- The code stretch lies in the lent block, and its instruction at this place is valid; 20 otherwise.
 unfoldable pub stepInstr : View → (place count : ℕ) → (regs cells : List ℤ) → Performed
 stepInstr v place count regs cells =
-    let index : ℕ = place - 1 in
     let size : ℕ = v .code - 1 in
     if leb (v .start + instrBytes * size) (length (v .block))
-    then stepDecoded v place count regs cells (decode index size (drop (v .start + instrBytes * index) (v .block)))
+    then stepDecoded v place count regs cells (decode size (drop (v .start + instrBytes * (place - 1)) (v .block)))
     else broken
 
--- The place of a call. "At place = length: outcome 0."
-unfoldable pub stepPlace : View → (place count : ℕ) → (regs cells : List ℤ) → Performed
-stepPlace v place count regs cells =
-    if eqb place 0
-    then stepEntry v place count regs cells
+-- M-104: "In a step behind the entry, a lent fuel of zero or a count above the fuel is 20."
+abbrev pub fuelBroken : (fuel count : ℕ) → Bool
+fuelBroken fuel count = eqb fuel 0 || ltb fuel count
+
+-- A place behind the entry. "At place = length: outcome 0." M-104: "Reaching the end needs no fuel."; "If the count already equals the fuel when an instruction is
+-- due, that instruction doesn't run, all is restored and the outcome is 7, in a step of its own that counts nothing."
+unfoldable pub stepBody : View → (place count : ℕ) → (regs cells : List ℤ) → Performed
+stepBody v place count regs cells =
+    if fuelBroken (v .call .fuel) count
+    then broken
     else if eqb place (v .code)
     then ending ended count
+    else if eqb count (v .call .fuel)
+    then ending outOfFuel count
     else stepInstr v place count regs cells
 
--- The end of a call. "On 3, 4, 5 the same step restores every cell of the write set"; M-103: on 6 "as 4 does".
+-- The place of a call.
+unfoldable pub stepPlace : View → (place count : ℕ) → (regs cells : List ℤ) → Performed
+stepPlace v place count regs cells =
+    if eqb place 0 then stepEntry v place regs cells else stepBody v place count regs cells
+
+-- The end of a call. "On 3, 4, 5 the same step restores every cell of the write set"; M-103: on 6 "as 4 does"; M-104: on 7 "all is restored".
 unfoldable pub finish : View → (saved : List ℤ) → (outcome count : ℕ) → (cells : List ℤ) → Stepped
 finish v saved outcome count cells =
     if ltb outcome thrown

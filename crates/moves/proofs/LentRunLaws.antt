@@ -1,6 +1,6 @@
 -- The mathematics of the proofs of `step` on a run, over plain variables: the tests before a turn, the run behind it, and the held call.
 use mathlib.Core.Path.{_≡_, refl, sym, ap, _∙_}
-use mathlib.Core.Bool.{Bool, true, false, _&&_, _||_, not}
+use mathlib.Core.Bool.{Bool, true, false, _||_, not}
 use mathlib.Core.List.{List}
 use Prim.Native.Nat.{ℕ, _+_, _-_, _*_, _≤_, _<_}
 use native.Mathlib.Omega.{arith}
@@ -11,7 +11,7 @@ use lib.ListN.{length, set, drop, length-drop}
 use Rattle.arith.specs.Choice.{if_then_else_}
 use Rattle.arith.proofs.ChoiceLaws.{if-all}
 use Rattle.block.specs.Limits.{maxCode}
-use Rattle.block.specs.Outcomes.{maxCount, thrown}
+use Rattle.block.specs.Outcomes.{thrown}
 use Rattle.block.specs.Record.{headBytes, callBytes, callRecordBytes, callOf}
 use Rattle.block.proofs.Laws.{call-cut}
 use Rattle.block.specs.declared.Call.{Call}
@@ -47,19 +47,16 @@ not-above a b = go (leb a b) refl
     go true e = rw (le-ltb b a (leb-true a b e))
     go false e = rw (lt-ltb b a (leb-false a b e))
 
--- The place and the count are in their ranges.
-abbrev pub inRange : ℕ → Site → Bool
-inRange code s = not (ltb (maxCode + 1) code || ltb code (s .place)) && not (ltb maxCount (s .count))
+-- The place is in its range.
+abbrev pub inRange : (code place : ℕ) → Bool
+inRange code place = not (ltb (maxCode + 1) code || ltb code place)
 
-module _ (s : Site) {code : ℕ} {word : ℕ} (own : code ≡ word) where
-  pub range-code : maxCode + 1 < code → false ≡ inRange word s
+module _ (place : ℕ) {code : ℕ} {word : ℕ} (own : code ≡ word) where
+  pub range-code : maxCode + 1 < code → false ≡ inRange word place
   range-code h = rw (← own, lt-ltb (maxCode + 1) code h)
 
-  pub range-place : code ≤ maxCode + 1 → code < s .place → false ≡ inRange word s
-  range-place g h = rw (← own, le-ltb (maxCode + 1) code g, lt-ltb code (s .place) h)
-
-  pub range-count : code ≤ maxCode + 1 → s .place ≤ code → leb (s .count) maxCount ≡ inRange word s
-  range-count g h = rw (← own, le-ltb (maxCode + 1) code g, le-ltb code (s .place) h) (not-above (s .count) maxCount)
+  pub range-place : code ≤ maxCode + 1 → leb place code ≡ inRange word place
+  range-place g = rw (← own, le-ltb (maxCode + 1) code g) (not-above place code)
 
 -- A record behind the end of the block.
 pub record-short : (block : List ℕ) (first c : ℕ) → length block < first + callRecordBytes * c + headBytes
@@ -68,31 +65,27 @@ record-short block first c h =
     let cut : length (drop (first + callRecordBytes * c + headBytes) block) < callBytes = simp length-drop (omega arith) in
     call-cut (drop (first + callRecordBytes * c + headBytes) block) cut
 
--- Two tests in a row, as one.
-two-tests : {A : Type 0} (p q ok : Bool) (x y : A) → ok ≡ (not p && not q) → ok ≡ false → x ≡ (if p then x else if q then x else y)
-two-tests true q ok x y e f = refl
-two-tests false true ok x y e f = refl
-two-tests false false ok x y e f = let z : _≡_ {A = ℕ} 0 1 = cc in absurd (omega arith)
+-- A test that is made the other way round: it fails, or it passes.
+test-failed : {A : Type 0} (p : Bool) {ok : Bool} (x y : A) → ok ≡ not p → ok ≡ false → x ≡ (if p then x else y)
+test-failed true x y e f = refl
+test-failed false x y e f = let z : _≡_ {A = ℕ} 0 1 = cc in absurd (omega arith)
 
-both-passed : {A : Type 0} (p q ok : Bool) (x y : A) → ok ≡ (not p && not q) → ok ≡ true → y ≡ (if p then x else if q then x else y)
-both-passed false false ok x y e f = refl
-both-passed true q ok x y e f = let z : _≡_ {A = ℕ} 0 1 = cc in absurd (omega arith)
-both-passed false true ok x y e f = let z : _≡_ {A = ℕ} 0 1 = cc in absurd (omega arith)
+test-passed : {A : Type 0} (p : Bool) {ok : Bool} (x y : A) → ok ≡ not p → ok ≡ true → y ≡ (if p then x else y)
+test-passed false x y e f = refl
+test-passed true x y e f = let z : _≡_ {A = ℕ} 0 1 = cc in absurd (omega arith)
 
-pub in-place : (plan : List ℕ) (s : Site) {ok : Bool} → ok ≡ inRange (planWord plan (s .call) 1) s → ok ≡ true → SiteInRange plan s
+pub in-place : (plan : List ℕ) (s : Site) {ok : Bool} → ok ≡ inRange (planWord plan (s .call) 1) (s .place) → ok ≡ true → SiteInRange plan s
 in-place plan s {ok} e f =
-    let all = go (ltb (maxCode + 1) (planWord plan (s .call) 1)) (ltb (planWord plan (s .call) 1) (s .place)) (ltb maxCount (s .count)) ok e f in
+    let all = go (ltb (maxCode + 1) (planWord plan (s .call) 1)) (ltb (planWord plan (s .call) 1) (s .place)) ok e f in
     record {
       code = ltb-false (maxCode + 1) (planWord plan (s .call) 1) (all .0);
       place = ltb-false (planWord plan (s .call) 1) (s .place) (all .1);
-      count = ltb-false maxCount (s .count) (all .2);
     }
   where
-    go : (p q r ok : Bool) → ok ≡ (not (p || q) && not r) → ok ≡ true → (p ≡ false) × (q ≡ false) × (r ≡ false)
-    go false false false ok e f = (refl, refl, refl)
-    go true q r ok e f = let z : _≡_ {A = ℕ} 0 1 = cc in absurd (omega arith)
-    go false true r ok e f = let z : _≡_ {A = ℕ} 0 1 = cc in absurd (omega arith)
-    go false false true ok e f = let z : _≡_ {A = ℕ} 0 1 = cc in absurd (omega arith)
+    go : (p q ok : Bool) → ok ≡ not (p || q) → ok ≡ true → (p ≡ false) × (q ≡ false)
+    go false false ok e f = (refl, refl)
+    go true q ok e f = let z : _≡_ {A = ℕ} 0 1 = cc in absurd (omega arith)
+    go false true ok e f = let z : _≡_ {A = ℕ} 0 1 = cc in absurd (omega arith)
 
 -- ---- a step on a run
 
@@ -132,33 +125,29 @@ module _ (head : Head) (block plan keys : List ℕ) (cells : List ℤ) (status s
       ∙ stands-settled (cellView plan keys c) (workerSaved plan frames w c) here
       ∙ ap (stepped run w c) (concluded-view block plan keys c call (workerSaved plan frames w c) cells here)
 
-  -- A step behind the tests of the seat, with the first call record at a place.
-  abbrev behindSeat : ℕ → Moved
-  behindSeat first = stepRecord block run w c (callOf (drop (first + callRecordBytes * c + headBytes) block))
+  -- A step behind the test of the place, with the first call record at a place.
+  abbrev behindPlace : ℕ → Moved
+  behindPlace first = stepRecord block run w c (callOf (drop (first + callRecordBytes * c + headBytes) block))
 
   abbrev badPlace : Bool
   badPlace = ltb (maxCode + 1) (planWord plan c 1) || ltb (planWord plan c 1) (placeIn seats w)
 
-  abbrev badCount : Bool
-  badCount = ltb maxCount (countIn seats w)
-
-  module _ {place count : ℕ} {ok : Bool} (placed : place ≡ placeIn seats w) (counted : count ≡ countIn seats w)
-      (tested : ok ≡ inRange (planWord plan c 1) (record { call = c; place = place; count = count })) where
-    same-test : ok ≡ inRange (planWord plan c 1) (record { call = c; place = placeIn seats w; count = countIn seats w })
-    same-test = rw (← placed, ← counted) tested
+  module _ {place : ℕ} {ok : Bool} (placed : place ≡ placeIn seats w) (tested : ok ≡ inRange (planWord plan c 1) place) where
+    same-test : ok ≡ not badPlace
+    same-test = rw (← placed) tested
 
     pub held-unseated : ok ≡ false → stay run Damaged ≡ stepHeld block run w c
     unfolding stepHeld
-    held-unseated = two-tests badPlace badCount ok (stay run Damaged) (behindSeat (head .«first_call»)) same-test
+    held-unseated = test-failed badPlace (stay run Damaged) (behindPlace (head .«first_call»)) same-test
 
     module _ (seated : ok ≡ true) {first : ℕ} (starts : first ≡ head .«first_call»)
         {body : CallBody} (read : body ≡ callOf (drop (first + callRecordBytes * c + headBytes) block)) where
-      on-head : behindSeat (head .«first_call») ≡ stepHeld block run w c
+      on-head : behindPlace (head .«first_call») ≡ stepHeld block run w c
       unfolding stepHeld
-      on-head = both-passed badPlace badCount ok (stay run Damaged) (behindSeat (head .«first_call»)) same-test seated
+      on-head = test-passed badPlace (stay run Damaged) (behindPlace (head .«first_call»)) same-test seated
 
       on-record : stepRecord block run w c body ≡ stepHeld block run w c
-      on-record = ap (stepRecord block run w c) read ∙ ap behindSeat starts ∙ on-head
+      on-record = ap (stepRecord block run w c) read ∙ ap behindPlace starts ∙ on-head
 
       pub held-broken : body ≡ OutOfRange → stay run Damaged ≡ stepHeld block run w c
       unfolding stepRecord

@@ -10,7 +10,6 @@ use lib.Signed.{nonNeg}
 use lib.ListN.{length}
 use Rattle.arith.specs.Choice.{if_then_else_}
 use Rattle.block.specs.Limits.{maxCalls, maxCallKeys, maxCode, maxKeys, maxWorkers}
-use Rattle.block.specs.Outcomes.{maxCount}
 use Rattle.block.specs.declared.Call.{Call}
 use Rattle.footprint.specs.Access.{Access}
 use Rattle.footprint.specs.Plan.{planWords, keyWords, codeStart, codeLength}
@@ -57,6 +56,7 @@ noCall =
       arg2 = 0;
       arg3 = 0;
       arg4 = 0;
+      fuel = 0;
     }
 
 abbrev pub cellView : List ℕ → List ℕ → ℕ → View
@@ -89,11 +89,10 @@ pub record Ready (plan keys : List ℕ) (frames : List ℤ) (worker call : ℕ) 
   pub framed : maxWorkers * frameValues ≤ length frames
   pub seated : worker < maxWorkers
 
--- The place (entry, or 0 to the code's length) and the count of a call are in their ranges.
+-- The place of a call is in its range: entry, or 0 to the code's length.
 pub record SiteInRange (plan : List ℕ) (site : Site) : Type 0 where
   pub code : planWord plan (site .call) codeLength ≤ maxCode + 1
   pub place : site .place ≤ planWord plan (site .call) codeLength
-  pub count : site .count ≤ maxCount
 
 -- The words of a key stand for it.
 abbrev pub KeyWorded : KeyUse → Type 0

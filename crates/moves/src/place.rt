@@ -8,6 +8,7 @@ use block::Call;
 use block::Decoded;
 use block::Instr;
 use block::outcomes::ENDED;
+use block::outcomes::OUT_OF_FUEL;
 use block::outcomes::UNKNOWN_FUNCTION;
 use block::record::INSTR_BYTES;
 use block::record::code_at;
@@ -30,11 +31,12 @@ ghost use lib.ListN.{drop, length};
 ghost use Rattle.block.specs.Instruction.{decode, instrBytes};
 ghost use Rattle.block.specs.Limits.{maxCalls, maxCode};
 ghost use Rattle.block.specs.Outcomes.{maxCount};
+ghost use Rattle.block.specs.declared.Call.{Call};
 ghost use Rattle.footprint.specs.Access.{accesses};
 ghost use Rattle.footprint.specs.Plan.{codeLength, planWords};
 ghost use Rattle.footprint.specs.Uses.{usesOf};
 ghost use Rattle.machine.specs.Run.{planWord};
-ghost use Rattle.machine.specs.Step.{stepDecoded, stepEntry, stepInstr, stepPlace};
+ghost use Rattle.machine.specs.Step.{stepBody, stepDecoded, stepEntry, stepInstr, stepPlace};
 ghost use Rattle.moves.specs.Turn.{cellView, dueDone, endDue, nothingDue, viewIn, DueDoable, SiteInRange};
 
 // Nothing is due: the lent block or run is damaged.
@@ -69,22 +71,23 @@ fn end_due(outcome: u64, count: u64) -> Due
     }
 }
 
-// "STEP(worker), at entry: unknown function, outcome 1"
+// "STEP(worker), at entry: unknown function, outcome 1". Neither fuel nor count is looked at there; behind it the count is 0.
 fn due_at_entry(plan: &[u64], site: Site, regs: [i64; 8], body: Call) -> Due
     requires { ⌜ maxCalls * planWords ≤ length (now plan) ⌝ }
     requires { ⌜ site .call < maxCalls ⌝ }
     requires { ⌜ site .place ≤ maxCode ⌝ }
     ensures { λ r. ⌜ ((block keys : List ℕ) (cells : List ℤ)
         → dueDone (cellView (now (plan .entry)) keys (site .call)) (site .place) r cells
-        ≡ stepEntry (viewIn block (now (plan .entry)) keys (site .call) body) (site .place) (site .count) regs cells) ⌝ }
+        ≡ stepEntry (viewIn block (now (plan .entry)) keys (site .call) body) (site .place) regs cells) ⌝ }
     ensures { λ r. ⌜ DueDoable (site .place) r ⌝ }
 {
+    let count = 0;
     if plan_word(plan, site.call, CODE_LENGTH) == 0 {
-        return end_due(UNKNOWN_FUNCTION, site.count);
+        return end_due(UNKNOWN_FUNCTION, count);
     }
     Due {
         sound: true,
-        count: site.count,
+        count,
         uses: entry_uses(body),
         action: enter(body, regs),
     }
@@ -111,7 +114,7 @@ fn due_decoded(code: &[u8], size: u16, site: Site, regs: [i64; 8], body: Call) -
     ensures { λ r. ⌜ ((block plan keys : List ℕ) (cells : List ℤ)
         → dueDone (cellView plan keys (site .call)) (site .place) r cells
         ≡ stepDecoded (viewIn block plan keys (site .call) body) (site .place) (site .count) regs cells
-        (decode (site .place - 1) size (drop (instrBytes * (site .place - 1)) (now (code .entry))))) ⌝ }
+        (decode size (drop (instrBytes * (site .place - 1)) (now (code .entry))))) ⌝ }
     ensures { λ r. ⌜ DueDoable (site .place) r ⌝ }
 {
     let index = site.place - 1;
@@ -154,7 +157,32 @@ fn due_at_instr(block: &[u8], plan: &[u64], site: Site, regs: [i64; 8], body: Ca
     due_decoded(code, size as u16, site, regs, body)
 }
 
-// What is due at a place. "At place = length: outcome 0."
+// Behind the entry, without fuel left. M-104: "a lent fuel of zero or a count above the fuel is 20"; an instruction that is due "doesn't run, all is restored and the
+// outcome is 7, in a step of its own that counts nothing"; "Reaching the end needs no fuel."
+fn due_unfuelled(plan: &[u64], site: Site, fuel: u16) -> Due
+    requires { ⌜ maxCalls * planWords ≤ length (now plan) ⌝ }
+    requires { ⌜ site .call < maxCalls ⌝ }
+    requires { ⌜ site .place ≤ maxCode + 1 ⌝ }
+    requires { ⌜ fuel ≤ site .count ⌝ }
+    ensures { λ r. ⌜ ((block keys : List ℕ) (body : Call) (regs cells : List ℤ) → fuel ≡ body .fuel
+        → dueDone (cellView (now (plan .entry)) keys (site .call)) (site .place) r cells
+        ≡ stepBody (viewIn block (now (plan .entry)) keys (site .call) body) (site .place) (site .count) regs cells) ⌝ }
+    ensures { λ r. ⌜ DueDoable (site .place) r ⌝ }
+{
+    if fuel == 0 {
+        return nothing_due();
+    }
+    if (fuel as u64) < site.count {
+        return nothing_due();
+    }
+    if site.place as u64 != plan_word(plan, site.call, CODE_LENGTH) {
+        return end_due(OUT_OF_FUEL, site.count);
+    }
+    end_due(ENDED, site.count)
+}
+
+// What is due at a place. "At place = length: outcome 0." Where fuel is left, every test of it passes: so one test stands before the others, and they are made
+// only where none is left.
 pub(crate) fn due(block: &[u8], plan: &[u64], site: Site, regs: [i64; 8], body: Call) -> Due
     requires { ⌜ maxCalls * planWords ≤ length (now plan) ⌝ }
     requires { ⌜ site .call < maxCalls ⌝ }
@@ -166,6 +194,9 @@ pub(crate) fn due(block: &[u8], plan: &[u64], site: Site, regs: [i64; 8], body: 
 {
     if site.place == 0 {
         return due_at_entry(plan, site, regs, body);
+    }
+    if body.fuel as u64 <= site.count {
+        return due_unfuelled(plan, site, body.fuel);
     }
     if site.place as u64 == plan_word(plan, site.call, CODE_LENGTH) {
         return end_due(ENDED, site.count);

@@ -25,7 +25,6 @@ use crate::waits::lower;
 use block::Call;
 use block::CallBody;
 use block::limits::MAX_CODE;
-use block::outcomes::MAX_COUNT;
 use block::outcomes::THROWN;
 use block::record::CALL_RECORD_BYTES;
 use block::record::HEAD_BYTES;
@@ -37,13 +36,12 @@ use machine::layout::FINISHED;
 use machine::layout::STATUS_WORDS;
 use machine::layout::large_enough;
 ghost use mathlib.Core.Path.{_≡_};
-ghost use mathlib.Core.Bool.{_&&_, _||_, not};
+ghost use mathlib.Core.Bool.{_||_, not};
 ghost use mathlib.Core.List.{List};
 ghost use Prim.Native.Nat.{ℕ, _+_, _-_, _*_, _≤_, _<_};
 ghost use lib.Dec.{ltb};
 ghost use lib.ListN.{length, drop};
 ghost use Rattle.block.specs.Limits.{maxCalls, maxCode, maxWorkers};
-ghost use Rattle.block.specs.Outcomes.{maxCount};
 ghost use Rattle.block.specs.Record.{callRecordBytes, headBytes, callOf};
 ghost use Rattle.footprint.specs.Plan.{codeLength, planWords};
 ghost use Rattle.machine.specs.Run.{fixedSizes, heldAt, planWord, withHeld, withReceipt};
@@ -88,23 +86,19 @@ fn step_place(
     perform(plan, keys, cells, counted, uses, action)
 }
 
-// The place (entry, or 0 to the code's length) and the count.
+// The place: entry, or 0 to the code's length.
 fn in_range(plan: &[u64], site: Site) -> bool
     requires { ⌜ maxCalls * planWords ≤ length (now plan) ⌝ }
     requires { ⌜ site .call < maxCalls ⌝ }
     ensures { λ r. ⌜ r
         ≡ (not (ltb (maxCode + 1) (planWord (now (plan .entry)) (site .call) codeLength)
-        || ltb (planWord (now (plan .entry)) (site .call) codeLength) (site .place))
-        && not (ltb maxCount (site .count))) ⌝ }
+        || ltb (planWord (now (plan .entry)) (site .call) codeLength) (site .place))) ⌝ }
 {
     let code = plan_word(plan, site.call, CODE_LENGTH) as usize;
     if LAST_PLACE < code {
         return false;
     }
-    if code < site.place {
-        return false;
-    }
-    site.count <= MAX_COUNT
+    site.place <= code
 }
 
 // The record of a call in a block whose first call record starts at `start`; one that the block does not hold whole is none.
@@ -197,8 +191,8 @@ fn freed() -> Seated
     }
 }
 
-// The end of a call. "On 3, 4, 5 the same step restores every cell of the write set", and on 6 "as 4 does"; behind all tests the receipt is
-// written, and the numbers of the calls that wait for it are lowered.
+// The end of a call. "On 3, 4, 5 the same step restores every cell of the write set", on 6 "as 4 does", and on 7 "all is restored"; behind all tests the
+// receipt is written, and the numbers of the calls that wait for it are lowered.
 fn finish(
     held: u16,
     calls: usize,

@@ -12,11 +12,11 @@ use borrow.Author.Tests.{ltb-true, ltb-false, leb-true, leb-false, le-leb, lt-le
 use Rattle.block.specs.Instruction.{decode, isValid, firstInvalid}
 
 -- A code is looked through from its first instruction on.
-invalid-here : (left index size : ℕ) (s : List ℕ) → isValid (decode index size s) ≡ false → firstInvalid (suc left) index size s ≡ index
+invalid-here : (left index size : ℕ) (s : List ℕ) → isValid (decode size s) ≡ false → firstInvalid (suc left) index size s ≡ index
 unfolding firstInvalid
 invalid-here left index size s e = rw (e, firstInvalid)
 
-valid-here : (left index size : ℕ) (s : List ℕ) → isValid (decode index size s) ≡ true
+valid-here : (left index size : ℕ) (s : List ℕ) → isValid (decode size s) ≡ true
     → firstInvalid (suc left) index size s ≡ firstInvalid left (index + 1) size (drop 8 s)
 unfolding firstInvalid
 valid-here left index size s e = rw (e, firstInvalid)
@@ -37,10 +37,10 @@ module _ (s : List ℕ) (size i : ℕ) (t : Through s size i) where
     one-more : size - i ≡ suc (size - (i + 1))
     one-more = omega arith
 
-    pub through-here : isValid (decode i size (drop (4 + 8 * i) s)) ≡ false → i ≡ firstInvalid size 0 size (drop 4 s)
+    pub through-here : isValid (decode size (drop (4 + 8 * i) s)) ≡ false → i ≡ firstInvalid size 0 size (drop 4 s)
     through-here e = rw (← t .same, one-more) (sym (invalid-here (size - (i + 1)) i size (drop (4 + 8 * i) s) e))
 
-    pub through-more : isValid (decode i size (drop (4 + 8 * i) s)) ≡ true → Through s size (i + 1)
+    pub through-more : isValid (decode size (drop (4 + 8 * i) s)) ≡ true → Through s size (i + 1)
     through-more e =
         let place : 4 + 8 * (i + 1) ≡ 4 + 8 * i + 8 = omega arith in
         record {

@@ -10,7 +10,7 @@ use lib.Dec.{eqb, leb, ltb}
 use lib.IntN.{ℤ, pos, _+ℤ_, +ℤ-assoc, +ℤ-idl, +ℤ-idr}
 use lib.ListN.{length, drop, length-append}
 use lib.Signed.{ltZ}
-use borrow.Author.Tests.{lt-ltb, le-ltb, le-leb, lt-leb, eq-eqb, ltb-true, ltb-false, eqb-true}
+use borrow.Author.Tests.{lt-ltb, le-ltb, le-leb, lt-leb, eq-eqb, ne-eqb, ltb-true, ltb-false, eqb-true}
 use Rattle.arith.specs.Choice.{if_then_else_}
 use Rattle.arith.specs.Balance.{total}
 use Rattle.arith.specs.Exact.{signed}
@@ -252,10 +252,14 @@ module _ (p : Progress) (b : Block) (h : NumbersOfBlock p b) (len : ℕ) (body :
     unfolding readCall withCall
     call-field bad = simp (call-room, bad) refl
 
-    pub call-more : (c : Call) → callOf body ≡ InRange c → TurnFollows p b (More (afterCall p len)) (readCall (p .at) len body b)
+    pub call-unfuelled : (c : Call) → callOf body ≡ InRange c → c .fuel ≡ 0 → TurnFollows p b (End (Refused (Field (p .at)))) (readCall (p .at) len body b)
     unfolding readCall withCall
-    call-more c good =
-        simp (call-room, good) (
+    call-unfuelled c good none′ = simp (call-room, good, eq-eqb (c .fuel) 0 none′) refl
+
+    pub call-more : (c : Call) → callOf body ≡ InRange c → ¬ (c .fuel ≡ 0) → TurnFollows p b (More (afterCall p len)) (readCall (p .at) len body b)
+    unfolding readCall withCall
+    call-more c good some =
+        simp (call-room, good, ne-eqb (c .fuel) 0 some) (
           record {
             kind = refl;
             at = refl;

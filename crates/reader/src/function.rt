@@ -30,7 +30,7 @@ fn first_invalid(body: &[u8], size: usize) -> usize
 {
     let mut i = 0;
     while i < size {
-        let d = decode(body, FUNCTION_BYTES + INSTR_BYTES * i, i, size);
+        let d = decode(body, FUNCTION_BYTES + INSTR_BYTES * i, size);
         if !is_valid(d) {
             return i;
         }

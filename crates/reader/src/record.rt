@@ -24,7 +24,7 @@ ghost use Rattle.block.specs.Record.{Block, lengthAllowed, headBytes};
 ghost use Rattle.block.specs.Reader.{readCall, readEnd, readBody, readRecord};
 ghost use Rattle.reader.specs.Standing.{Steady, afterCall, NumbersOfBlock, TurnFollows};
 
-// A call's body: 7, 5.
+// A call's body: 7, 5. M-104: fuel "zero is refusal 5".
 fn read_call(body: &[u8], len: usize, p: Progress) -> Turn
     requires { ⌜ p .at + headBytes + len ≤ maxBytes ⌝ }
     ensures { λ r. ⌜ ((b : Block) → NumbersOfBlock p b → TurnFollows p b r (readCall (p .at) len (now (body .entry)) b)) ⌝ }
@@ -33,10 +33,13 @@ fn read_call(body: &[u8], len: usize, p: Progress) -> Turn
     if MAX_CALLS <= p.calls {
         return Turn::End(Verdict::Refused(Refusal::BeyondLimit(at)));
     }
-    match call_at(body, 0) {
-        CallBody::InRange(_) => Turn::More(after_call(p, len)),
-        CallBody::OutOfRange => Turn::End(Verdict::Refused(Refusal::Field(at))),
+    let CallBody::InRange(c) = call_at(body, 0) else {
+        return Turn::End(Verdict::Refused(Refusal::Field(at)));
+    };
+    if c.fuel == 0 {
+        return Turn::End(Verdict::Refused(Refusal::Field(at)));
     }
+    Turn::More(after_call(p, len))
 }
 
 // Behind a call.

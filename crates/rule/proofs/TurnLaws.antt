@@ -1,10 +1,12 @@
 -- What one turn of the published rule adds to a call's steps: an instruction, whatever it does, counts one, and so does the end behind the last
--- one.
+-- one, or the end for want of fuel.
 use mathlib.Core.Path.{_≡_, refl}
+use mathlib.Core.Bool.{false, _||_}
 use mathlib.Core.List.{List}
 use mathlib.Core.Option.{Option, none, some}
 use Prim.Native.Nat.{ℕ, zero, suc, _+_}
 use native.Mathlib.Omega.{arith}
+use lib.Dec.{eqb}
 use lib.IntN.{ℤ, pos}
 use lib.ListN.{getD}
 use lib.Signed.{ltZ, nonNeg}
@@ -14,18 +16,18 @@ use Rattle.arith.specs.declared.Checked.{Checked}
 use Rattle.arith.specs.declared.Checked.the-variants as checked
 use Rattle.wire.specs.Rows.{bit}
 use Rattle.block.specs.Key.{contractBalance}
-use Rattle.block.specs.Outcomes.{outOfRange, zeroDivisor}
+use Rattle.block.specs.Outcomes.{outOfRange, zeroDivisor, outOfFuel}
 use Rattle.block.specs.declared.Call.{Call}
 use Rattle.block.specs.declared.Payee.{Payee}
 use Rattle.block.specs.declared.Payee.the-variants.{To, Nobody}
 use Rattle.block.specs.declared.Instr.{Instr}
 use Rattle.block.specs.declared.Instr.the-variants.{Stop, Throw, Set, Arg, Sender, Value, Add, Sub, Mul, Div, Get, Put, Bal, Pay, Jeq, Jlt}
 use Rattle.block.specs.Naming.{targetOf}
-use Rattle.rule.specs.Rule.{State, Result, fails, Course, before, over, assignChecked, transfer, execute, executeAt, runBody, Left, settle}
+use Rattle.rule.specs.Rule.{State, Result, fails, Course, before, over, assignChecked, transfer, execute, executeAt, unfuelled, runBody, Left, settle}
 
--- The steps of a body that is over: its counted instructions, and one for reaching the end.
+-- The steps of a body that is over: its counted instructions, and one for reaching the end or for running out of fuel.
 abbrev pub bodySteps : Left → ℕ
-bodySteps l = l .count + bit (l .behind)
+bodySteps l = l .count + bit (l .behind || eqb (l .outcome) outOfFuel)
 
 -- A course that is one step beyond a count of n, whatever state the call began in.
 abbrev pub OneMore : State → ℕ → Course → Type 0
@@ -36,26 +38,26 @@ module _ (start : State) (c : Call) (p : ℕ) (ρ : List ℤ) (n : ℕ) (σ : St
   abbrev Ok : Course → Type 0
   Ok = OneMore start n
 
-  failed : (outcome : ℕ) → Ok (over (fails outcome (n + 1)))
+  failed : (outcome : ℕ) → eqb outcome outOfFuel ≡ false → Ok (over (fails outcome (n + 1)))
   unfolding settle
-  failed outcome = omega arith
+  failed outcome e = rw e (omega arith)
 
   checked-one : (x : ℕ) (v : Checked) → Ok (assignChecked p ρ (n + 1) σ x v)
   unfolding assignChecked
   checked-one x (checked.Value v) = refl
-  checked-one x checked.Overflow = failed outOfRange
-  checked-one x checked.ZeroDivisor = failed zeroDivisor
+  checked-one x checked.Overflow = failed outOfRange refl
+  checked-one x checked.ZeroDivisor = failed zeroDivisor refl
 
   transfer-one : (amount : ℤ) (payee : Payee) → Ok (transfer c p ρ (n + 1) σ amount payee)
   unfolding transfer
-  transfer-one amount Nobody = failed 5
+  transfer-one amount Nobody = failed 5 refl
   transfer-one amount (To account) =
-      if-all Ok (nonNeg amount) (λ e. if-all Ok (ltZ (σ (contractBalance (c .contract))) amount) (λ f. failed 5) (λ f. refl)) (λ e. failed 5)
+      if-all Ok (nonNeg amount) (λ e. if-all Ok (ltZ (σ (contractBalance (c .contract))) amount) (λ f. failed 5 refl) (λ f. refl)) (λ e. failed 5 refl)
 
   execute-one : (i : Instr) → Ok (execute c p ρ (n + 1) σ i)
   unfolding execute settle
   execute-one Stop = omega arith
-  execute-one Throw = failed 3
+  execute-one Throw = failed 3 refl
   execute-one (Set x v) = refl
   execute-one (Arg x k) = refl
   execute-one (Sender x) = refl
@@ -76,6 +78,12 @@ module _ (start : State) (c : Call) (p : ℕ) (ρ : List ℤ) (n : ℕ) (σ : St
   unfolding executeAt settle
   turn-one none = refl
   turn-one (some i) = execute-one i
+
+  -- With no fuel left, the end is one step.
+  pub last-one : (i : Option Instr) → OneMore start n (over (unfuelled n σ i))
+  unfolding unfuelled settle
+  last-one none = refl
+  last-one (some i) = refl
 
 -- What has ended stays so.
 pub body-over : (turns : ℕ) (c : Call) (body : List Instr) (r : Result) → runBody turns c body (over r) ≡ r

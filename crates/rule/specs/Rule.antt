@@ -1,14 +1,14 @@
 -- The published transaction rule: document 003, figure 1, over the instruction set of document 01. States are functions from keys to
 -- values; nothing here mentions a run, a step or a worker.
-use mathlib.Core.Bool.{Bool, true, false}
+use mathlib.Core.Bool.{Bool, true, false, _||_}
 use mathlib.Core.List.{List, [], _∷_, map}
 use mathlib.Core.Option.{Option, none, some}
 use Prim.Native.Nat.{ℕ, zero, suc, _+_}
 use lib.IntN.{ℤ, pos, _+ℤ_, _-ℤ_}
 use lib.Signed.{ltZ, nonNeg}
 use lib.Dec.{eqb}
-use lib.ListN.{length, getD, getElem?, drop, set}
-use Rattle.block.specs.Outcomes.{ended, unknownFunction, balanceTooLow, thrown, outOfRange, notPaid, zeroDivisor}
+use lib.ListN.{getD, getElem?, drop, set}
+use Rattle.block.specs.Outcomes.{ended, unknownFunction, balanceTooLow, thrown, outOfRange, notPaid, zeroDivisor, outOfFuel}
 use Rattle.arith.specs.Choice.{if_then_else_}
 use Rattle.arith.specs.Exact.{addOf, subOf, mulOf, divOf}
 use Rattle.arith.specs.Balance.{withinLimit}
@@ -113,21 +113,26 @@ unfoldable pub executeAt : Call → ℕ → List ℤ → ℕ → State → Optio
 executeAt c p ρ n σ none = over (ends σ n true)
 executeAt c p ρ n σ (some i) = execute c p ρ (n + 1) σ i
 
--- Jumps go forward, so a body of k instructions is over after k + 1 turns.
-unfoldable pub runBody : ℕ → Call → List Instr → Course → Result
-runBody zero c body (before p ρ n σ) = ends σ n true
+-- M-104: with no fuel left an instruction that is due "doesn't run", and the body fails with 7; "Reaching the end needs no fuel."
+unfoldable pub unfuelled : (count : ℕ) → State → Option Instr → Result
+unfuelled n σ none = ends σ n true
+unfuelled n σ (some i) = fails outOfFuel n
+
+-- The body with so much fuel left; each instruction takes 1 of it.
+unfoldable pub runBody : (fuel : ℕ) → Call → List Instr → Course → Result
+runBody zero c body (before p ρ n σ) = unfuelled n σ (getElem? body p)
 runBody zero c body (over r) = r
-runBody (suc turns) c body (before p ρ n σ) = runBody turns c body (executeAt c p ρ n σ (getElem? body p))
-runBody (suc turns) c body (over r) = r
+runBody (suc fuel) c body (before p ρ n σ) = runBody fuel c body (executeAt c p ρ n σ (getElem? body p))
+runBody (suc fuel) c body (over r) = r
 
 -- The instructions of a code, from its bytes. In an accepted block every one is valid, and stands in the body at its index: `bodies` of `Demand2`.
 unfoldable pub withInstr : Decoded → List Instr → List Instr
 withInstr (Valid i) body = i ∷ body
 withInstr Invalid body = body
 
-unfoldable pub bodyOf : ℕ → ℕ → ℕ → List ℕ → List Instr
-bodyOf zero index size s = []
-bodyOf (suc left) index size s = withInstr (decode index size s) (bodyOf left (index + 1) size (drop instrBytes s))
+unfoldable pub bodyOf : ℕ → ℕ → List ℕ → List Instr
+bodyOf zero size s = []
+bodyOf (suc left) size s = withInstr (decode size s) (bodyOf left size (drop instrBytes s))
 
 -- What a transaction leaves: a state, and its receipt; and whether its body ended behind its last instruction.
 pub record Left : Type 0 where
@@ -136,9 +141,10 @@ pub record Left : Type 0 where
   pub behind : Bool
   pub state : State
 
--- "A call's steps are its entry, its counted instructions, and one for reaching the end."
+-- "A call's steps are its entry, its counted instructions, and one for reaching the end"; M-104: the outcome 7 too is "in a step of its own that counts
+-- nothing".
 abbrev pub stepsFor : Left → ℕ
-stepsFor l = 1 + l .count + bit (l .behind)
+stepsFor l = 1 + l .count + bit (l .behind || eqb (l .outcome) outOfFuel)
 
 -- A transaction that does not begin.
 abbrev pub unbegun : State → (outcome : ℕ) → Left
@@ -152,10 +158,10 @@ settle σ (fails outcome n) = record { outcome = outcome; count = n; behind = fa
 -- "n units of currency are transferred to C before starting to execute f"
 unfoldable pub runFunction : List ℕ → Call → State → Function → Left
 runFunction block c σ f =
-    let body : List Instr = bodyOf (f .size) 0 (f .size) (codeAt block (f .start) (f .size)) in
+    let body : List Instr = bodyOf (f .size) (f .size) (codeAt block (f .start) (f .size)) in
     let ρ : List ℤ = pos 0 ∷ pos 0 ∷ pos 0 ∷ pos 0 ∷ pos 0 ∷ pos 0 ∷ pos 0 ∷ pos 0 ∷ [] in
     settle σ
-    (runBody (length body + 1) c body
+    (runBody (c .fuel) c body
     (before 0 ρ 0 (credit (debit σ (accountBalance (c .sender)) (c .value)) (contractBalance (c .contract)) (c .value))))
 
 -- ⟦A →n C : f(v)⟧σ. [Tx2] also where A's balance is below n; that the function may be unknown is document 01's addition: outcome 1.

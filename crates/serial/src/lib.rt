@@ -1,7 +1,8 @@
 // The serial run on a run that the caller lends: calls 0, 1, .. each begun on worker 0 and stepped to its end.
 use block::limits::MAX_CALLS;
-use block::limits::MAX_CODE;
+use block::limits::MAX_FUEL;
 use machine::Head;
+use machine::numbers::answer_number;
 use moves::begin::begin;
 use moves::step::step;
 ghost use mathlib.Core.Path.{_≡_};
@@ -12,8 +13,8 @@ ghost use Rattle.machine.specs.Run.{heldAt};
 ghost use Rattle.machine.specs.Serial.{maxSteps, stepToEnd, runCall, serialRun};
 ghost use Rattle.moves.specs.Lent.{lent};
 
-// "A call's steps are its entry, its counted instructions, and one for reaching the end, so at most 66."
-const MAX_STEPS: usize = MAX_CODE + 2;
+// M-104: "a call takes at most fuel plus 2 accepted steps"; no fuel is above the limit.
+const MAX_STEPS: usize = MAX_FUEL + 2;
 
 // The worker of the serial run.
 const WORKER: usize = 0;
@@ -25,7 +26,7 @@ fn is_idle(head: Head) -> bool
     head.held[WORKER] == 0
 }
 
-// Steps until the worker is free.
+// Steps until the worker is free. A refused step changes nothing, so none behind it would: in a damaged run the first one ends them.
 fn step_to_end(
     mut head: Head,
     block: &[u8],
@@ -56,7 +57,11 @@ fn step_to_end(
             frames,
             WORKER,
         );
+        let answer = reply.answer;
         head = reply.head;
+        if answer_number(answer) != 0 {
+            return head;
+        }
         left -= 1;
     }
     head

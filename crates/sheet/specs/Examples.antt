@@ -1,16 +1,18 @@
--- The sheet's answers 20, 27 and 28, and its bytes, computed on block P's run; and the sheet of the block of divisions, whose receipts have a 6.
+-- The sheet's answers 20, 27 and 28, and its bytes, computed on block P's run; and the sheets of the block of divisions, whose receipts have a 6, and of the block
+-- of loops, whose receipts have a 7.
 use mathlib.Core.Path.{_≡_, refl}
 use mathlib.Core.List.{List, [], _∷_, _++_, map, flatten}
 use Prim.Native.Nat.{ℕ, _+_, _-_, _^_}
 use lib.IntN.{pos, negsuc}
+use lib.ListN.{getD}
 use Rattle.wire.specs.Bytes.{repeated, below}
 use Rattle.block.specs.Record.{recordOf}
 use Rattle.block.specs.Assemble.{cell, end}
-use Rattle.block.specs.Worked.{P, zeroDivisors}
+use Rattle.block.specs.Worked.{P, zeroDivisors, fuelled}
 use Rattle.machine.specs.Run.{Run}
 use Rattle.machine.specs.Opening.{openedForEight}
 use Rattle.machine.specs.Serial.{serialRun}
-use Rattle.machine.specs.Examples.{startD, closedD}
+use Rattle.machine.specs.Examples.{startD, closedD, startF, closedF}
 use Rattle.machine.specs.Damage.{tooShort, valueAt, statusAt, callsAs, cellsAs, workersAs}
 use Rattle.sheet.specs.Sheet.{closingNumber, closingLength, sheetOf, sheetRecords, sheetBytes, recordOffset, nextFile}
 use Rattle.sheet.specs.Computing.{computing}
@@ -72,12 +74,12 @@ pub record Sheet-P : Type 0 where
   pub numbers : closings (callsAs 257 closed ∷ cellsAs 1025 closed ∷ workersAs 0 closed ∷ []) ≡ 20 ∷ 20 ∷ 0 ∷ []
   pub states : closings (statusAt 0 3 closed ∷ statusAt 0 3 (openedForEight P) ∷ []) ≡ 20 ∷ 20 ∷ []
   pub balances : closings (valueAt 1 (negsuc 0) closed ∷ valueAt 3 (negsuc 0) closed ∷ []) ≡ 20 ∷ 0 ∷ []
-  pub receipts : closings (statusAt 1 6 closed ∷ statusAt 1 7 closed ∷ statusAt 2 65 closed ∷ statusAt 2 64 closed ∷ []) ≡ 0 ∷ 20 ∷ 20 ∷ 0 ∷ []
+  pub receipts : closings (statusAt 1 7 closed ∷ statusAt 1 8 closed ∷ statusAt 2 65536 closed ∷ statusAt 2 65535 closed ∷ []) ≡ 0 ∷ 20 ∷ 20 ∷ 0 ∷ []
   -- With an output too short, what 28 uses is still 20, and what only the writing uses is not looked at: the number of cells and a balance
   -- come before 28, an outcome and a count behind it.
   pub before-28 : shortClosings (cellsAs 1025 closed ∷ valueAt 1 (negsuc 0) closed ∷ closed ∷ []) ≡ 20 ∷ 20 ∷ 28 ∷ []
-  pub behind-28 : shortClosings (statusAt 1 7 closed ∷ statusAt 2 65 closed ∷ []) ≡ 28 ∷ 28 ∷ []
-  pub both : shortClosings (valueAt 1 (negsuc 0) (statusAt 1 7 closed) ∷ []) ≡ 20 ∷ []
+  pub behind-28 : shortClosings (statusAt 1 8 closed ∷ statusAt 2 65536 closed ∷ []) ≡ 28 ∷ 28 ∷ []
+  pub both : shortClosings (valueAt 1 (negsuc 0) (statusAt 1 8 closed) ∷ []) ≡ 20 ∷ []
 
 pub sheet-of-p : Sheet-P
 unfolding computing P closed recordsP sheetP tooShort
@@ -123,10 +125,39 @@ sheetD =
 
 pub record Sheet-D : Type 0 where
   pub written : sheetOf closedD (repeated 148 9) .output ≡ sheetD
-  -- 20 for 7 in place of the first 6, where the output is unchanged.
-  pub seven : closingNumber (sheetOf (statusAt 1 7 closedD) (repeated 148 9) .answer) ≡ 20
-  pub unchanged : sheetOf (statusAt 1 7 closedD) (repeated 148 9) .output ≡ repeated 148 9
+  -- 20 for 8 in place of the first 6, where the output is unchanged.
+  pub eight : closingNumber (sheetOf (statusAt 1 8 closedD) (repeated 148 9) .answer) ≡ 20
+  pub unchanged : sheetOf (statusAt 1 8 closedD) (repeated 148 9) .output ≡ repeated 148 9
 
 pub sheet-of-d : Sheet-D
 unfolding computing zeroDivisors startD closedD sheetD
-sheet-of-d = record { written = refl; seven = refl; unchanged = refl }
+sheet-of-d = record { written = refl; eight = refl; unchanged = refl }
+
+-- M-104, "the outcome is 7": three cells and eleven receipts, of 164 bytes.
+unfoldable pub sheetF : List ℕ
+sheetF =
+    flatten
+    (cell 32768 0 0 0 (pos 7)
+    ∷ cell 32768 1 0 0 (pos 9)
+    ∷ cell 32768 2 0 0 (pos 1331)
+    ∷ recordOf 5 (0 ∷ 0 ∷ 2 ∷ 0 ∷ [])
+    ∷ recordOf 5 (7 ∷ 0 ∷ 1 ∷ 0 ∷ [])
+    ∷ recordOf 5 (0 ∷ 0 ∷ 2 ∷ 0 ∷ [])
+    ∷ recordOf 5 (7 ∷ 0 ∷ 1 ∷ 0 ∷ [])
+    ∷ recordOf 5 (0 ∷ 0 ∷ 2 ∷ 0 ∷ [])
+    ∷ recordOf 5 (7 ∷ 0 ∷ 5 ∷ 0 ∷ [])
+    ∷ recordOf 5 (7 ∷ 0 ∷ 9 ∷ 0 ∷ [])
+    ∷ recordOf 5 (0 ∷ 0 ∷ 1 ∷ 0 ∷ [])
+    ∷ recordOf 5 (0 ∷ 0 ∷ 25 ∷ 0 ∷ [])
+    ∷ recordOf 5 (7 ∷ 0 ∷ 24 ∷ 0 ∷ []) ∷ recordOf 5 (0 ∷ 0 ∷ 2 ∷ 0 ∷ []) ∷ end ∷ [])
+
+pub record Sheet-F : Type 0 where
+  pub written : sheetOf closedF (repeated 164 9) .output ≡ sheetF
+  -- The highest count, in place of the first, has two bytes; 20 for one above it, where the output is unchanged.
+  pub highest : getD (sheetRecords (statusAt 2 65535 closedF)) 3 [] ≡ recordOf 5 (0 ∷ 0 ∷ 255 ∷ 255 ∷ [])
+  pub above : closingNumber (sheetOf (statusAt 2 65536 closedF) (repeated 164 9) .answer) ≡ 20
+  pub unchanged : sheetOf (statusAt 2 65536 closedF) (repeated 164 9) .output ≡ repeated 164 9
+
+pub sheet-of-f : Sheet-F
+unfolding computing fuelled startF closedF sheetF
+sheet-of-f = record { written = refl; highest = refl; above = refl; unchanged = refl }

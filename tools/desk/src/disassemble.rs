@@ -123,13 +123,13 @@ impl Text {
     }
 
     fn instruction(&mut self, parts: Parts, index: usize, length: usize) {
-        let (line, comment) = match decode(parts, index, length) {
+        let (line, comment) = match decode(parts, length) {
             Some(good) => {
                 let line = assembly::line_to(parts, &label(parts.w as usize));
                 (line, words::instruction(&good))
             }
             None => {
-                let broken = words::broken_rules(parts, index, length);
+                let broken = words::broken_rules(parts, length);
                 let comment = format!("{}: {}", assembly::line(parts), broken.join("; "));
                 (assembly::word(parts), comment)
             }
@@ -158,12 +158,14 @@ impl Text {
             function,
             value,
             arguments,
+            fuel,
         } = CallFields::read(body);
         let mut item = format!("call {sender} {contract} {function} {value}");
         let given = arguments.iter().rposition(|argument| *argument != 0);
         for argument in &arguments[..given.map_or(0, |last| last + 1)] {
             item += &format!(" {argument}");
         }
+        item += &format!(" fuel {fuel}");
         let known = self.functions.contains(&(contract, function));
         let unknown = if known { "" } else { ", unknown function" };
         let meaning = format!("call {}{unknown}", self.calls);
@@ -211,8 +213,7 @@ fn no_form(record: &Record) -> String {
 
 /// The places that the good jumps of a code go to.
 fn targets(code: &[Parts]) -> BTreeSet<usize> {
-    let decoded = code.iter().enumerate();
-    let decoded = decoded.filter_map(|(index, parts)| decode(*parts, index, code.len()));
+    let decoded = code.iter().filter_map(|parts| decode(*parts, code.len()));
     let target = |instruction| match instruction {
         Instruction::Jump { to, .. } => Some(to),
         _ => None,

@@ -5,9 +5,7 @@ use runner::bytes::u16_at;
 use runner::emit::RECEIPT_KIND;
 use runner::execute::Outcome;
 use runner::key::Key;
-use runner::limits::{
-    CELL_BYTES, HEAD_BYTES, MAX_CALLS, MAX_INSTRUCTIONS, MAX_KEYS, RECEIPT_BYTES,
-};
+use runner::limits::{CELL_BYTES, HEAD_BYTES, MAX_CALLS, MAX_KEYS, RECEIPT_BYTES};
 
 use crate::records::{records, Record};
 use crate::words;
@@ -143,16 +141,13 @@ fn cell(before: &[Record], record: &Record) -> Result<(), String> {
     Ok(())
 }
 
+/// Tests a receipt. Each number of 16 bits may be its count.
 fn receipt(before: &[Record], record: &Record) -> Result<(), String> {
-    let (outcome, count) = (u16_at(record.body, 0), u16_at(record.body, 2));
+    let outcome = u16_at(record.body, 0);
     let receipts = before.iter().filter(|record| record.kind == RECEIPT_KIND);
     if outcome > LAST_OUTCOME {
         Err(format!(
             "outcome {outcome}: outcomes are 0 to {LAST_OUTCOME}"
-        ))
-    } else if usize::from(count) > MAX_INSTRUCTIONS {
-        Err(format!(
-            "count {count}: a call counts at most {MAX_INSTRUCTIONS}"
         ))
     } else if receipts.count() == MAX_CALLS {
         Err(format!("a sheet has at most {MAX_CALLS} receipts"))

@@ -5,7 +5,7 @@ use crate::code::{decode, Instruction, Parts, Source};
 use crate::emit::CallFields;
 use crate::key::{Account, Contract, Key};
 use crate::limits::{
-    ARGUMENTS, CALL_BYTES, CELL_BYTES, FUNCTION_NAME_BYTES, HEAD_BYTES, INSTRUCTION_BYTES,
+    ARGUMENTS, CALL_BYTES, CELL_BYTES, FUEL_AT, FUNCTION_NAME_BYTES, HEAD_BYTES, INSTRUCTION_BYTES,
     KEY_BYTES, MAX_BALANCE_SUM, MAX_BLOCK_BYTES, MAX_CALLS, MAX_CELLS, MAX_FUNCTIONS,
     MAX_INSTRUCTIONS,
 };
@@ -90,6 +90,8 @@ pub struct Call {
     pub value: i64,
     /// The arguments.
     pub arguments: [u32; ARGUMENTS],
+    /// The most instructions that it may execute, 1 or more in an accepted block.
+    pub fuel: u16,
     /// The offset of the call's record.
     pub offset: usize,
 }
@@ -255,8 +257,9 @@ impl<'a> Reader<'a> {
         if self.block.calls.len() == MAX_CALLS {
             return Err(BlockFault::TooMany.at(record.offset));
         }
-        let call =
-            read_call(record.body, record.offset).ok_or(BlockFault::Field.at(record.offset))?;
+        let call = read_call(record.body, record.offset)
+            .filter(|call| call.fuel > 0)
+            .ok_or(BlockFault::Field.at(record.offset))?;
         self.block.calls.push(call);
         Ok(())
     }
@@ -274,7 +277,7 @@ fn read_code(record: &Record) -> Result<Vec<Instruction>, BlockRefusal> {
     code.chunks_exact(INSTRUCTION_BYTES)
         .enumerate()
         .map(|(index, bytes)| {
-            decode(Parts::read(bytes), index, length)
+            decode(Parts::read(bytes), length)
                 .ok_or(BlockFault::Code.at(code_offset(record) + index * INSTRUCTION_BYTES))
         })
         .collect()
@@ -289,7 +292,8 @@ fn opens_with(key: &Key, value: i64) -> bool {
     }
 }
 
-/// The call of a record's body, or `None` if a field is outside its range.
+/// The call of a record's body, or `None` if a field other than the fuel is outside
+/// its range.
 pub(crate) fn read_call(body: &[u8], offset: usize) -> Option<Call> {
     let fields = CallFields::read(body);
     if fields.value < 0 {
@@ -301,6 +305,7 @@ pub(crate) fn read_call(body: &[u8], offset: usize) -> Option<Call> {
         function: fields.function,
         value: fields.value,
         arguments: fields.arguments,
+        fuel: fields.fuel,
         offset,
     })
 }
@@ -314,6 +319,7 @@ impl CallFields {
             function: u16_at(body, 4),
             value: i64_at(body, 6),
             arguments: std::array::from_fn(|index| u32_at(body, 14 + 4 * index)),
+            fuel: u16_at(body, FUEL_AT),
         }
     }
 }

@@ -220,9 +220,9 @@ impl Instruction {
     }
 }
 
-/// The instruction at an index of a code of the given length, or `None` if its
-/// parts break a rule.
-pub fn decode(parts: Parts, index: usize, length: usize) -> Option<Instruction> {
+/// An instruction of a code of the given length, or `None` if its parts break a
+/// rule.
+pub fn decode(parts: Parts, length: usize) -> Option<Instruction> {
     let Parts { op, x, y, z, w } = parts;
     Some(match op {
         op::STOP => {
@@ -272,8 +272,8 @@ pub fn decode(parts: Parts, index: usize, length: usize) -> Option<Instruction> 
             Instruction::Balance { x: register(x)? }
         }
         op::PAY => pay(parts)?,
-        op::JEQ => jump(Test::Equal, parts, index, length)?,
-        op::JLT => jump(Test::Less, parts, index, length)?,
+        op::JEQ => jump(Test::Equal, parts, length)?,
+        op::JLT => jump(Test::Less, parts, length)?,
         _ => return None,
     })
 }
@@ -314,11 +314,11 @@ fn pay(parts: Parts) -> Option<Instruction> {
     })
 }
 
-/// Jumps go forward, at most to the code's length.
-fn jump(test: Test, parts: Parts, index: usize, length: usize) -> Option<Instruction> {
+/// Jumps go to any instruction, also to their own index, or to the code's length.
+fn jump(test: Test, parts: Parts, length: usize) -> Option<Instruction> {
     unused(&[parts.z], 0)?;
     let to = parts.w as usize;
-    (index < to && to <= length).then_some(Instruction::Jump {
+    (to <= length).then_some(Instruction::Jump {
         test,
         x: register(parts.x)?,
         y: register(parts.y)?,

@@ -37,6 +37,8 @@ pub struct Coverage {
     pub opcodes: [usize; MNEMONICS.len()],
     /// Jumps that passed over an instruction or more.
     pub jumps: usize,
+    /// Jumps to the own index or before it.
+    pub loops: usize,
 }
 
 impl Coverage {
@@ -87,6 +89,8 @@ impl Coverage {
             let after = stepped(machine, chosen).map(|held| held.running.place);
             let jumped = |place| matches!(place, Place::At(next) if next > index + 1);
             self.jumps += usize::from(after.is_some_and(jumped));
+            let looped = |place| matches!(place, Place::At(next) if next <= index);
+            self.loops += usize::from(after.is_some_and(looped));
         }
     }
 
@@ -109,6 +113,7 @@ impl Coverage {
             rows.push((format!("executed {name}"), count));
         }
         rows.push(("jumps over instructions".to_string(), self.jumps));
+        rows.push(("jumps back".to_string(), self.loops));
         let mut text = String::new();
         for (name, count) in rows {
             writeln!(text, "{name:<24}{count:>8}").expect("a string takes all text");
@@ -125,14 +130,14 @@ fn stepped<'a>(machine: &'a Machine, chosen: Move) -> Option<&'a Held> {
     }
 }
 
-/// The next instruction of a held call and its index.
+/// The next instruction of a held call and its index, if the call has fuel for it.
 fn place<'a>(machine: &Machine<'a>, held: &Held) -> Option<(usize, &'a Instruction)> {
     let block = &machine.opened().block;
+    let call = &block.calls[held.call];
     match held.running.place {
-        Place::Entry => None,
-        Place::At(index) => {
-            let code = block.code(&block.calls[held.call])?;
-            Some((index, code.get(index)?))
+        Place::At(index) if held.running.count < call.fuel => {
+            Some((index, block.code(call)?.get(index)?))
         }
+        _ => None,
     }
 }

@@ -22,6 +22,8 @@ pub struct CallFields {
     pub value: i64,
     /// Arguments.
     pub arguments: [u32; ARGUMENTS],
+    /// Fuel.
+    pub fuel: u16,
 }
 
 /// Appends a record with a body of at most 65,535 bytes.
@@ -62,6 +64,7 @@ pub fn call(out: &mut Vec<u8>, fields: &CallFields) {
     for argument in fields.arguments {
         body.extend(argument.to_le_bytes());
     }
+    body.extend(fields.fuel.to_le_bytes());
     record(out, Kind::Call.number(), &body);
 }
 

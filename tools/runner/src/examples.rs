@@ -1,4 +1,4 @@
-//! The examples of document 01, two of document 02, and those of document 003
+//! The examples of document 01, some of document 02, and those of document 003
 //! over the instructions, in the order of the documents. The files of `examples`
 //! hold them.
 
@@ -59,7 +59,7 @@ macro_rules! example {
 }
 
 /// All of them.
-pub const EXAMPLES: [Example; 27] = [
+pub const EXAMPLES: [Example; 32] = [
     example!("p", "block P of document 01"),
     example!("p_refused", "BEGIN(1, 1) first on P, STEP on an idle worker", on "p"),
     example!("divisions", "-7 by 2, 7 by -2, -2^63 by -1, 1 by 0"),
@@ -76,6 +76,17 @@ pub const EXAMPLES: [Example; 27] = [
     example!(
         "zero_divisor",
         "document 02, M-103: divisors of 0, and a quotient outside the range"
+    ),
+    example!(
+        "fuel",
+        "document 02, M-104: fuel at, before and after the end, STOP, loops, restored"
+    ),
+    example!("fuel_zero", "document 02, M-104: fuel 0, unknown function"),
+    example!("fuel_none", "document 02, M-104: a call without fuel"),
+    example!("fuel_past", "document 02, M-104: a jump past the length"),
+    example!(
+        "interest",
+        "document 02, M-104: interest over several periods by a loop"
     ),
     example!("paper_ex5", "document 003, example 5, serially"),
     example!("paper_ex5_workers", "document 003, example 5, T2 ends before T1", on "paper_ex5"),

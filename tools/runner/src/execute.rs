@@ -25,11 +25,13 @@ pub enum Outcome {
     Payment = 5,
     /// DIV by zero, whatever is divided (document 02, M-103).
     ZeroDivisor = 6,
+    /// An instruction is due and no fuel is left (document 02, M-104).
+    OutOfFuel = 7,
 }
 
 impl Outcome {
     /// The one with the highest number.
-    pub const LAST: Outcome = Outcome::ZeroDivisor;
+    pub const LAST: Outcome = Outcome::OutOfFuel;
 
     /// The number of document 01, or 02.
     pub fn number(self) -> u16 {
@@ -40,7 +42,11 @@ impl Outcome {
     pub(crate) fn aborts(self) -> bool {
         matches!(
             self,
-            Outcome::Thrown | Outcome::OutOfRange | Outcome::Payment | Outcome::ZeroDivisor
+            Outcome::Thrown
+                | Outcome::OutOfRange
+                | Outcome::Payment
+                | Outcome::ZeroDivisor
+                | Outcome::OutOfFuel
         )
     }
 }
@@ -95,13 +101,15 @@ impl Running {
         }
     }
 
-    /// Takes one step. Answers the receipt if the call ends by it.
+    /// Takes one step. Answers the receipt if the call ends by it. Reaching the end
+    /// needs no fuel; an instruction that is due needs some, or it does not run.
     pub fn step(&mut self, block: &Block, call: &Call, cells: &mut Cells) -> Option<Receipt> {
         let outcome = match (self.place, block.code(call)) {
             (_, None) => Some(Outcome::UnknownFunction),
             (Place::Entry, Some(_)) => self.enter(call, cells),
             (Place::At(index), Some(code)) => match code.get(index) {
                 None => Some(Outcome::Done),
+                Some(_) if self.count == call.fuel => Some(Outcome::OutOfFuel),
                 Some(instruction) => self.run(index, instruction, call, cells),
             },
         }?;

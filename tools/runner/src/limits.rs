@@ -16,8 +16,13 @@ pub const MAX_CALL_KEYS: usize = 24;
 pub const MAX_KEYS: usize = 1_024;
 /// Most workers; there is at least one.
 pub const MAX_WORKERS: usize = 8;
-/// Most steps of a call: its entry, its instructions, reaching the end.
-pub const MAX_STEPS: usize = 1 + MAX_INSTRUCTIONS + 1;
+/// Most fuel of a call, and so its highest count; the least is 1 (M-104).
+pub const MAX_FUEL: u16 = u16::MAX;
+/// The fuel of a call whose text names none.
+pub const COMMON_FUEL: u16 = 64;
+/// Most steps of a call: its entry, its instructions, and one for reaching the
+/// end or for having no fuel left.
+pub const MAX_STEPS: usize = 1 + MAX_FUEL as usize + 1;
 /// The largest sum of all balances.
 pub const MAX_BALANCE_SUM: i128 = i64::MAX as i128;
 
@@ -42,8 +47,10 @@ pub const INSTRUCTION_BYTES: usize = 8;
 pub const KEY_BYTES: usize = 12;
 /// Bytes of a cell's body: key and value.
 pub const CELL_BYTES: usize = KEY_BYTES + 8;
+/// Where the fuel stands in a call's body, behind the arguments.
+pub const FUEL_AT: usize = 2 + 2 + 2 + 8 + ARGUMENTS * 4;
 /// Bytes of a call's body.
-pub const CALL_BYTES: usize = 2 + 2 + 2 + 8 + ARGUMENTS * 4;
+pub const CALL_BYTES: usize = FUEL_AT + 2;
 /// Bytes of a receipt's body: outcome and count.
 pub const RECEIPT_BYTES: usize = 4;
 /// Bytes of the largest closing sheet.

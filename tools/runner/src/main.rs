@@ -1,13 +1,14 @@
 //! The commands of the runner.
 
 use std::fs;
-use std::io::{self, ErrorKind, Write};
+use std::io::{self, BufWriter, ErrorKind, Write};
 use std::path::Path;
 use std::process::ExitCode;
 
 use runner::assemble::assemble;
 use runner::console::{closing, read_input, refused_block, register};
 use runner::coverage::Coverage;
+use runner::generate::loops::Loops;
 use runner::generate::sized::{self, Sizes};
 use runner::generate::{large_cases, small_cases, Case};
 use runner::inspect::inspect;
@@ -29,6 +30,7 @@ const USAGE: &str = "usage:
   runner sized SEED CALLS KEYS LINES STEM
                                     a block of these sizes, run to its end, as files STEM.bin,
                                     STEM.moves, STEM.out
+  runner loops CALLS FUEL BLOCK     a block of endless loops; its moves on standard output
   runner vectors open SEED DIR      stdin and stdout of a program that lists many blocks
   runner vectors register SEED DIR  the same for one that runs many blocks
   runner vectors moves SEED COUNT DIR
@@ -90,6 +92,15 @@ fn run(words: &[&str]) -> Result<(), Failure> {
                 &sized::case(seed.parse()?, sizes)?,
                 Path::new(stem),
             )?)
+        }
+        ["loops", calls, fuel, block] => {
+            let loops = Loops {
+                calls: calls.parse()?,
+                fuel: fuel.parse()?,
+            };
+            fs::write(block, loops.block()?)?;
+            let mut output = BufWriter::new(io::stdout().lock());
+            Ok(loops.write_moves(&mut output)?)
         }
         ["vectors", "open", seed, directory] => {
             write_stream(&vectors::blocks::opened(seed.parse()?), directory)
@@ -184,6 +195,7 @@ fn write_vectors(seed: u64, count: usize, directory: &Path) -> Result<(), Failur
     cases.extend(vectors::sheets::cases(seed, count / MOVES_TO_SHEETS));
     cases.extend(vectors::serial::cases(seed, count / MOVES_TO_SERIAL));
     cases.extend(vectors::waits::cases());
+    cases.extend(vectors::fuel::cases());
     fs::create_dir_all(directory)?;
     fs::write(directory.join("stdin"), vectors::stream::input(&cases))?;
     fs::write(directory.join("stdout"), vectors::stream::output(&cases))?;

@@ -1,5 +1,8 @@
 //! A small deterministic generator of numbers (SplitMix64).
 
+/// What the state grows by with each number.
+const STRIDE: u64 = 0x9e37_79b9_7f4a_7c15;
+
 /// The state of the generator.
 #[derive(Clone, Debug)]
 pub struct Rng(u64);
@@ -10,9 +13,14 @@ impl Rng {
         Rng(seed)
     }
 
+    /// The generator of a seed behind so many numbers.
+    pub fn behind(seed: u64, numbers: u64) -> Rng {
+        Rng(seed.wrapping_add(numbers.wrapping_mul(STRIDE)))
+    }
+
     /// The next 64 bits.
     pub fn bits(&mut self) -> u64 {
-        self.0 = self.0.wrapping_add(0x9e37_79b9_7f4a_7c15);
+        self.0 = self.0.wrapping_add(STRIDE);
         let mut mixed = self.0;
         mixed = (mixed ^ (mixed >> 30)).wrapping_mul(0xbf58_476d_1ce4_e5b9);
         mixed = (mixed ^ (mixed >> 27)).wrapping_mul(0x94d0_49bb_1331_11eb);

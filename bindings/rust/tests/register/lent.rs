@@ -6,7 +6,7 @@ use runner::lent::Run;
 use runner::limits::MAX_WORKERS;
 use runner::machine::Move;
 use runner::rng::Rng;
-use runner::vectors::{moves, serial, sheets, waits, Case, Operation, Player, OUTPUT_BYTE};
+use runner::vectors::{fuel, moves, serial, sheets, waits, Case, Operation, Player, OUTPUT_BYTE};
 use zumbiqa::raw::{size, Size};
 use zumbiqa::Answer;
 
@@ -168,4 +168,9 @@ fn serial_runs_agree() {
 #[test]
 fn damaged_waiting_counts_agree() {
     compare_cases(4, &waits::cases());
+}
+
+#[test]
+fn fuel_agrees() {
+    compare_cases(5, &fuel::cases());
 }

@@ -199,4 +199,5 @@ fn answers_are_told() {
     assert_eq!(Answer::WorkerIdle.to_string(), "worker holds none");
     assert_eq!(Outcome::NotPaid.number(), 5);
     assert_eq!(Outcome::ZeroDivisor.number(), 6);
+    assert_eq!(Outcome::OutOfFuel.number(), 7);
 }

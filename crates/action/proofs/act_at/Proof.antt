@@ -22,15 +22,15 @@ act-requires : tie.Need-act-requires
 act-requires c κs =
     omega (
       arith,
-      decode-bounded (c .before .before .before .before .before .args .index) (c .before .before .before .before .before .args .size) (drop (c .before .before .before .before .before .args .at) (c .before .before .before .before .before .args .code .now))
+      decode-bounded (c .before .before .before .before .before .args .size) (drop (c .before .before .before .before .before .args .at) (c .before .before .before .before .before .args .code .now))
           (sym (c .before .before .before .decode .ensures) ∙ c .before .decoded .given .1),
     )
 
 enum-told : tie.Need-enum-told
 enum-told c = search needs
 
-add-t16 : tie.Need-add-t16
-add-t16 c = search needs
+add-t15 : tie.Need-add-t15
+add-t15 c = search needs
 
 returns : tie.Need-returns
 returns c =
@@ -51,6 +51,6 @@ act-at-spec =
     add-act
     act-requires
     enum-told
-    add-t16
+    add-t15
     returns
     returns-2)

@@ -126,7 +126,7 @@ module _ (s : Sizes) (file : List ℕ) (workers : ℕ) (bytes : (i : ℕ) → ge
   made-opened large low high =
       let r : Run = runWith s workers b (allSets file b) table in
       let calls : (j : ℕ) → j < length (b .calls) → (c : Call) × CallOpened file b table (s .keys) r j c =
-      call-opened file b whole table (complete .listed) (complete .short) r (s .plan) (s .keys) refl refl in
+      call-opened file bytes b whole table (complete .listed) (complete .short) r (s .plan) (s .keys) refl refl in
       record {
         large = large;
         sizes = made-sizes (large-sizes s large);

@@ -13,6 +13,8 @@ use Rattle.block.specs.Limits.{maxCallKeys}
 use Rattle.block.specs.Record.{Function, Block, functionId, callId, callOf, callRecordBytes, headBytes}
 use Rattle.block.proofs.ReaderLaws as reading
 use Rattle.block.proofs.ReaderLaws.{EndsFile}
+use Rattle.block.proofs.BodyLaws.{call-fuel-most}
+use Rattle.block.specs.Encoding.{AreBytes}
 use Rattle.block.specs.declared.Call.{Call}
 use Rattle.block.specs.declared.CallBody.the-variants.{InRange}
 use Rattle.footprint.specs.Access.{Access}
@@ -31,6 +33,8 @@ use Rattle.analysis.proofs.TableLaws.{cell-lt, number-key}
 use Rattle.machine.specs.Run.{Run, planWord, rowIn}
 use Rattle.machine.specs.Moves.{callKeyCount, ownEntries, viewOf}
 use Rattle.machine.specs.CallInRun.{madeView}
+use Rattle.machine.proofs.StepLaws.{FuelInRange}
+use Rattle.footprint.proofs.SetAccessLaws.{drop-bytes}
 use Rattle.guarantees.proofs.AcceptedOpening.PlanWords.{Planned, call-planned}
 
 -- ---- what holds
@@ -47,6 +51,8 @@ pub record CallOpened (file : List ℕ) (b : Block) (table : List ℕ) (room : �
   -- Its record, within the file.
   pub body : callOf (drop (b .firstCall + callRecordBytes * j + headBytes) file) ≡ InRange c
   pub within : b .firstCall + callRecordBytes * j + callRecordBytes ≤ length file
+  -- "fuel .. 1 to 65,535"
+  pub fuel : FuelInRange (c .fuel)
   -- Its sets: at most 24 keys, none twice, each used and in the table.
   pub own : getD (allSets file b) j [] ≡ setsOf file (b .functions) c
   pub few : length (setsOf file (b .functions) c) ≤ maxCallKeys
@@ -107,7 +113,7 @@ function-of P (g ∷ fs) c f all e = go (eqb (functionId g) (callId c)) e (funct
 
 -- ---- a call of the run
 
-module _ (file : List ℕ) (b : Block) (whole : EndsFile file b) (table : List ℕ)
+module _ (file : List ℕ) (bytes : AreBytes file) (b : Block) (whole : EndsFile file b) (table : List ℕ)
     (listed : EveryListed table (allSets file b)) (short : (i : ℕ) → length (getD (allSets file b) i []) ≤ maxCallKeys)
     (r : Run) (size room : ℕ)
     (plan : r .plan ≡ padded size 0 (plans (b .functions) table [] (b .calls) (allSets file b)))
@@ -131,12 +137,20 @@ module _ (file : List ℕ) (b : Block) (whole : EndsFile file b) (table : List �
     inside : b .firstCall + callRecordBytes * j + callRecordBytes ≤ length file
     inside = let end : b .firstCall + callRecordBytes * length (b .calls) + 4 ≡ length file = whole .end in omega arith
 
+    record-of : callOf (drop (b .firstCall + callRecordBytes * j + headBytes) file) ≡ InRange c
+    record-of = whole .laws .calls j c less ∙ ap InRange same
+
     opened : CallOpened file b table room r j c
     opened =
         record {
           at = found;
-          body = whole .laws .calls j c less ∙ ap InRange same;
+          body = record-of;
           within = inside;
+          fuel = (
+            subst (λ (d : Call). 0 < d .fuel) same (whole .laws .fuelled j c less),
+            call-fuel-most (drop (b .firstCall + callRecordBytes * j + headBytes) file)
+                (drop-bytes (b .firstCall + callRecordBytes * j + headBytes) file bytes) c record-of,
+          );
           own = own-sets;
           few = rw own-sets at (short j);
           distinct = function-distinct file c (functionOf (b .functions) c);

@@ -14,7 +14,8 @@ use Rattle.footprint.specs.Plan.{entryCell, entryReads, entryWrites}
 use Rattle.machine.specs.Step as machine
 use Rattle.machine.specs.Step.{View, Local, Stepped, cellAt, savedOf, restored, stepCall}
 use Rattle.machine.specs.Moves.{viewOf}
-use Rattle.machine.specs.Serial.{maxSteps}
+use Rattle.machine.specs.Serial.{stepLimit}
+use Rattle.machine.proofs.StepLaws.{FuelInRange}
 use Rattle.guarantees.specs.RuleRun.{bodyCall}
 
 -- "running (place, registers, count of executed instructions, ..)": without the old values, which the schedule keeps apart.
@@ -65,10 +66,10 @@ viewCalls view n before =
       save = λ c cells. savedOf (view c .entries) cells;
       step = λ c saved l cells. pointOf cells (stepCall (view c) (placeWithSaved l saved) cells);
       restore = λ c saved cells. restored (view c .entries) saved cells;
-      bound = λ c. maxSteps;
+      bound = λ c. stepLimit (view c .call .fuel);
     }
 
--- What an opening sees to: entries with a flag and a cell of the table, and code within its limit.
+-- What an opening sees to: entries with a flag and a cell of the table, and code and fuel within their limits.
 abbrev pub Proper : List ℕ → Type 0
 Proper [] = Unit {0}
 Proper (e ∷ es) = ((e % 4 ≡ 0 → ⊥) × (entryCell e < maxKeys)) × Proper es
@@ -78,6 +79,7 @@ pub record Tidy (v : View) : Type 0 where
   pub few : length (v .entries) ≤ maxCallKeys
   pub entries : Proper (v .entries)
   pub code : v .code ≤ maxCode + 1
+  pub fuel : FuelInRange (v .call .fuel)
 
 -- The view of call j of a run.
 abbrev pub runView : List ℕ → Run → ℕ → View

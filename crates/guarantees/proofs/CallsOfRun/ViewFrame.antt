@@ -14,7 +14,7 @@ use Rattle.block.specs.Limits.{maxKeys}
 use Rattle.block.specs.Key.{isBalance}
 use Rattle.footprint.specs.Access.{Access}
 use Rattle.footprint.specs.Plan.{entryReads, entryWrites}
-use Rattle.block.specs.Outcomes.{thrown}
+use Rattle.block.specs.Outcomes.{thrown, outOfFuel}
 use Rattle.machine.proofs.RestoreLaws.{restored-length}
 use Rattle.machine.specs.Step.{View, Local, Performed, broken, onward, ending, Stepped, damaged, done, cellAt, lookup, restorable, restored, finish, concluded, loadCell, storeCell, depositCell, transferCells, accessAt, perform, stepCall}
 use Rattle.machine.proofs.StepLaws.{NextFits, place-all}
@@ -194,5 +194,6 @@ module _ (v : View) (proper : Proper (v .entries)) (l : Local) (s s′ : List �
   pub step-like : StepEndsAlike (v .entries) s s′ (stepCall v l s) (stepCall v l s′)
   unfolding stepCall
   step-like =
-      place-all v (l .place) (l .count) (l .regs) (λ f. C′ (f s) (f s′)) like-broken (λ outcome few. ending-like outcome (l .count))
+      place-all v (l .place) (l .count) (l .regs) (λ f. C′ (f s) (f s′)) like-broken (λ outcome n few less. ending-like outcome n)
+      (λ some inside spent. ending-like outOfFuel (l .count))
       (λ n as′ a f. perform-like (l .place) (l .count) n as′ (a .regs) (a .next) (f .next))

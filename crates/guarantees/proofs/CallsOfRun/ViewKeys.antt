@@ -17,8 +17,8 @@ use Rattle.footprint.specs.Access.{Access, accesses, entryAccesses}
 use Rattle.footprint.specs.Plan.{highWord, lowWord, entryCell, entryReads, entryWrites}
 use Rattle.machine.specs.Run.{hasKey}
 use Rattle.machine.specs.Action.{instrAction, entryAction}
-use Rattle.block.specs.Outcomes.{ended, unknownFunction}
-use Rattle.machine.specs.Step.{View, Local, Performed, broken, onward, ending, cellAt, findEntry, lookup, finish, concluded, loadCell, storeCell, depositCell, transferCells, accessAt, perform, stepEntry, stepDecoded, stepInstr, stepPlace, stepCall}
+use Rattle.block.specs.Outcomes.{ended, unknownFunction, outOfFuel}
+use Rattle.machine.specs.Step.{View, Local, Performed, broken, onward, ending, cellAt, findEntry, lookup, finish, concluded, loadCell, storeCell, depositCell, transferCells, accessAt, perform, stepEntry, stepDecoded, fuelBroken, stepInstr, stepBody, stepPlace, stepCall}
 use Rattle.machine.specs.declared.Next.{Next}
 use Rattle.machine.specs.declared.Next.the-variants.{Go, End, Load, Store, Transfer}
 use Rattle.machine.specs.declared.Lookup.{Lookup}
@@ -95,11 +95,11 @@ module _ (v : View) (keys : List ℕ) (same : SameWords (v .keys) keys) (cells :
       ∙ transfer-same place count regs amount short (accessAt as′ 1) (lookup w (accessAt as′ 0))
 
   module _ (place count : ℕ) (regs : List ℤ) where
-    entry-same : stepEntry v place count regs cells ≡ stepEntry w place count regs cells
+    entry-same : stepEntry v place regs cells ≡ stepEntry w place regs cells
     unfolding stepEntry
     entry-same =
-        ap (λ (t : Performed). if eqb (v .code) 0 then ending unknownFunction count else t)
-        (perform-same place count (entryAccesses (v .call)) (entryAction (v .call) regs .regs) (entryAction (v .call) regs .next))
+        ap (λ (t : Performed). if eqb (v .code) 0 then ending unknownFunction 0 else t)
+        (perform-same place 0 (entryAccesses (v .call)) (entryAction (v .call) regs .regs) (entryAction (v .call) regs .next))
 
     decoded-same : (d : Decoded) → stepDecoded v place count regs cells d ≡ stepDecoded w place count regs cells d
     unfolding stepDecoded
@@ -111,15 +111,21 @@ module _ (v : View) (keys : List ℕ) (same : SameWords (v .keys) keys) (cells :
     unfolding stepInstr
     instr-same =
         ap (λ (t : Performed). if leb (v .start + instrBytes * (v .code - 1)) (length (v .block)) then t else broken)
-        (decoded-same (decode (place - 1) (v .code - 1) (drop (v .start + instrBytes * (place - 1)) (v .block))))
+        (decoded-same (decode (v .code - 1) (drop (v .start + instrBytes * (place - 1)) (v .block))))
+
+    body-same : stepBody v place count regs cells ≡ stepBody w place count regs cells
+    unfolding stepBody
+    body-same =
+        ap
+        (λ (t : Performed).
+        if fuelBroken (v .call .fuel) count
+        then broken
+        else if eqb place (v .code) then ending ended count else if eqb count (v .call .fuel) then ending outOfFuel count else t)
+        instr-same
 
     place-same : stepPlace v place count regs cells ≡ stepPlace w place count regs cells
     unfolding stepPlace
-    place-same =
-        ap₂
-        (λ (first other : Performed).
-        if eqb place 0 then first else if eqb place (v .code) then ending ended count else other)
-        entry-same instr-same
+    place-same = ap₂ (λ (first other : Performed). if eqb place 0 then first else other) entry-same body-same
 
   concluded-same : (saved : List ℤ) (x : Performed) → concluded v saved cells x ≡ concluded w saved cells x
   unfolding concluded finish

@@ -30,7 +30,7 @@ view-lawful view n before c tidy =
       restore-good = λ s₁ s g₁ g. room-kept (restored-length es (savedOf es s₁) s) g;
       restore-back = λ s₁ s g₁ g x. written-back es (tidy .entries) s₁ s x g;
       restore-frame = λ s₁ s g₁ g. restored-frame es (savedOf es s₁) s;
-      ends = λ s g. view-ends view n before c s (tidy .code);
+      ends = λ s g. view-ends view n before c s (tidy .code) (tidy .fuel);
     }
   where
     v : View

@@ -9,7 +9,7 @@ use lib.ListN.{set}
 use Rattle.arith.specs.Balance.{largest}
 use Rattle.arith.proofs.ChoiceLaws.{if-all}
 use Rattle.block.specs.Key.{isBalance}
-use Rattle.block.specs.Outcomes.{thrown}
+use Rattle.block.specs.Outcomes.{thrown, outOfFuel}
 use Rattle.block.specs.declared.Instr.{Instr}
 use Rattle.footprint.specs.Access.{Access, accesses, entryAccesses}
 use Rattle.machine.specs.Action.{entryAction, instrAction}
@@ -92,7 +92,8 @@ module _ (v : View) (l : Local) (s : List ℤ) (K : List ℤ → Type 0) (now : 
       → K (pointOf s (stepCall v l s) .state)
   unfolding stepCall concluded pointOf
   fitting-leaves fits =
-      place-all v (l .place) (l .count) (l .regs) (λ f. C (f s)) now (λ outcome few. ending-leaves outcome (l .count))
+      place-all v (l .place) (l .count) (l .regs) (λ f. C (f s)) now (λ outcome n few less. ending-leaves outcome n)
+      (λ some inside spent. ending-leaves outOfFuel (l .count))
       (λ n as′ a f. perform-leaves (l .place) n as′ (a .regs) (a .next) (fits as′ (a .next) (l .place) (l .count) n (f .next)))
 
   -- Where it holds of the entry's action and of that of each instruction.
@@ -101,6 +102,7 @@ module _ (v : View) (l : Local) (s : List ℤ) (K : List ℤ → Type 0) (now : 
       → K (pointOf s (stepCall v l s) .state)
   unfolding stepCall concluded pointOf
   each-leaves enters executes =
-      place-each v (l .place) (l .count) (l .regs) (λ f. C (f s)) now (λ outcome few. ending-leaves outcome (l .count))
-      (λ e inside. perform-leaves (l .place) (l .count) _ _ _ (enters (l .regs)))
-      (λ some inside i j. perform-leaves (l .place) _ _ _ _ (executes (l .place) (l .regs) i))
+      place-each v (l .place) (l .count) (l .regs) (λ f. C (f s)) now (λ outcome n few less. ending-leaves outcome n)
+      (λ some inside spent. ending-leaves outOfFuel (l .count))
+      (λ e inside. perform-leaves (l .place) 0 _ _ _ (enters (l .regs)))
+      (λ some inside fuelled i j. perform-leaves (l .place) _ _ _ _ (executes (l .place) (l .regs) i))

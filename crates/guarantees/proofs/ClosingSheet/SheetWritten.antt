@@ -147,4 +147,4 @@ serial-written s file workers bytes after =
     bounded c l =
         let r₀ : Run = openedRun s file workers in
         subst (WithinBound (runView file r₀ c) _) (serial-follows s file bytes workers after (isBefore file) .course c l)
-        (whole-within (runView file r₀) (callCount file) (isBefore file) c (serialCells file b r₀ (isBefore file) c) (tidy s file workers after c l .code))
+        (whole-within (runView file r₀) (callCount file) (isBefore file) c (serialCells file b r₀ (isBefore file) c) (tidy s file workers after c l .code) (tidy s file workers after c l .fuel))

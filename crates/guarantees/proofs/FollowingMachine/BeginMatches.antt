@@ -98,7 +98,7 @@ module _ (file : List ℕ) (workers n : ℕ) (before : ℕ → ℕ → Bool) (r�
                 count = seat .1;
                 regs = old-leaves-regs zeroed w own-saved ∙ regs-own (r .frames) w zeroRegisters refl (omega (arith, frame-room));
                 old = ap (savedIn frames w) (sym saved-size) ∙ old-own zeroed w own-saved (omega (arith, few-saved, frame-room, zeroed-length));
-                range = begun-ranged (runView file r₀ c) (base .tidy c call .code);
+                range = begun-ranged (runView file r₀ c) (base .tidy c call .code) (base .tidy c call .fuel);
               };
           elsewhere = begin-elsewhere (r .frames) w (r .seats) 0 0 zeroRegisters own-saved refl few-saved;
         }

@@ -31,7 +31,9 @@ use Rattle.analysis.proofs.MaskLaws.{entriesWait, waits-conflict}
 use Rattle.machine.specs.Run.{Run, Sizes, largeEnough, heldAt, statusWords, stateWord, stateOf, finished, waitCount}
 use Rattle.machine.specs.Waits.{namedIn, finishedIn}
 use Rattle.machine.specs.Moves.{ownEntries, viewOf}
+use Rattle.machine.specs.Step.{View}
 use Rattle.machine.specs.CallInRun.{madeView}
+use Rattle.machine.proofs.StepLaws.{FuelInRange}
 use Rattle.machine.specs.Opening.{openingOf}
 use Rattle.machine.proofs.WaitLaws.{each-word, each-new}
 use Rattle.machine.specs.declared.Head.{Head}
@@ -93,6 +95,7 @@ module _ (s : Sizes) (file : List ℕ) (workers : ℕ) (after : AfterOpening s f
         few = subst⁻¹ (λ (k : ℕ). k ≤ maxCallKeys) size (o .few);
         entries = subst⁻¹ Proper (o .entries) (entries-proper (after .table) (setsOf file (b .functions) c) (after .opened .fewKeys) (o .listed));
         code = subst⁻¹ (λ (k : ℕ). k ≤ maxCode + 1) (o .code) (code-few file (functionOf (b .functions) c) (o .sound));
+        fuel = subst⁻¹ (λ (v : View). FuelInRange (v .call .fuel)) (view-is j c o) (o .fuel);
       }
     where
       size : length (ownEntries (r₀ .plan) j) ≡ length (setsOf file (b .functions) c)

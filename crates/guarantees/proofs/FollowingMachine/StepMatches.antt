@@ -11,7 +11,6 @@ use lib.ListN.{length, drop}
 use lib.Seq.{set-getD}
 use Rattle.wire.proofs.BytesLaws.{stored-length}
 use Rattle.block.specs.Limits.{maxCode}
-use Rattle.block.specs.Outcomes.{maxCount}
 use Rattle.block.specs.Record.{headBytes, callRecordBytes, callOf}
 use Rattle.block.specs.declared.Call.{Call}
 use Rattle.block.specs.declared.CallBody.the-variants.{InRange}
@@ -21,14 +20,14 @@ use Rattle.schedule.specs.declared.Move.the-variants.{Step}
 use Rattle.schedule.specs.Machine as schedule
 use Rattle.schedule.specs.Machine.{active, ended, isReady, isEnded, activity, Machine, settleCall, stepWorker}
 use Rattle.analysis.proofs.GatheredLaws.{if-false}
-use Rattle.machine.specs.Run.{Run, seatWords, registers, frameValues, withHeld, placeIn, countIn, withSeat, withRegs, savedIn, planWord, withReceipt}
+use Rattle.machine.specs.Run.{Run, seatWords, registers, frameValues, withHeld, placeIn, withSeat, withRegs, savedIn, planWord, withReceipt}
 use Rattle.machine.specs.Waits.{waitsLowered}
 use Rattle.machine.specs.Step.{Local, Stepped, damaged, more, done, stepCall}
 use Rattle.machine.specs.Moves.{callKeyCount, ownEntries, viewOf, localOf, stepped, stepRecord, stepHeld, stepFor, stepOf}
 use Rattle.machine.specs.Answer.{answerNumber}
 use Rattle.machine.specs.declared.Head.{Head}
 use Rattle.machine.proofs.WaitLaws.{each-length, each-word}
-use Rattle.machine.proofs.StepLaws.{Ranged, ranged-count, StepLowers, step-lowers}
+use Rattle.machine.proofs.StepLaws.{Ranged, StepLowers, step-lowers}
 use Rattle.guarantees.proofs.CallsOfRun.ViewCalls.{placeWithSaved, receipt, pointOf, runView}
 use Rattle.guarantees.proofs.FollowingMachine.RunMatches.{StatusSays, Base, callsIn, StepWhole, HoldsRunning, Matches}
 use Rattle.guarantees.proofs.FollowingMachine.BufferLaws.{receipt-here, receipt-there, receipt-wait, status-length, seat-stays, seat-length, seat-own, regs-length, regs-own, regs-leave-old, step-elsewhere}
@@ -211,12 +210,9 @@ module _ (file : List ℕ) (workers n : ℕ) (before : ℕ → ℕ → Bool) (r�
         let code : planWord (r .plan) c 1 ≡ planWord (r₀ .plan) c 1 = ap (λ (plan : List ℕ). planWord plan c 1) (m .plan) in
         let few : planWord (r₀ .plan) c 1 ≤ maxCode + 1 = k .own .range .code in
         let place : placeIn (r .seats) w ≡ k .local .place = k .own .place in
-        let count : countIn (r .seats) w ≡ k .local .count = k .own .count in
         let within : k .local .place ≤ planWord (r₀ .plan) c 1 = k .own .range .within in
-        let counted : k .local .count ≤ maxCount = ranged-count (k .own .range) in
         let first : r .head .«first_call» ≡ r₀ .head .«first_call» = m .first in
         if-false _ _ (in-code (planWord (r .plan) c 1) (placeIn (r .seats) w) (omega arith) (omega arith))
-        ∙ if-false _ _ (le-ltb maxCount (countIn (r .seats) w) (omega arith))
         ∙ ap (stepRecord file r w c) (ap (λ (s : ℕ). callOf (drop (s + callRecordBytes * c + headBytes) file)) first ∙ body .1)
         ∙ (λ i. stepped r w c (stepCall (view-same (body .0) (body .1) i) (local-same i) (m .cells i)))
 

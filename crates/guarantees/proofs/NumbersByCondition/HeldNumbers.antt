@@ -1,27 +1,22 @@
 -- The numbers of STEP and CANCEL: which answer each gives on a lent run, exactly, and that a refused move leaves the run as it was.
 use mathlib.Core.Path.{_≡_, refl, sym, ap, subst, subst⁻¹, _∙_}
-use mathlib.Core.Bool.{_||_, not}
+use mathlib.Core.Bool.{_||_}
 use mathlib.Core.List.{List}
-use Prim.Native.Nat.{ℕ, _+_, _-_, _*_, _≤_, _<_}
+use Prim.Native.Nat.{ℕ, _+_, _-_, _≤_, _<_}
 use native.Mathlib.Omega.{arith}
 use borrow.Author.Tests.{ltb-false, le-ltb, leb-true, leb-false, le-leb, lt-leb, eqb-true, eqb-false, eq-eqb, ne-eqb}
 use lib.Dec.{eqb, leb, ltb}
-use lib.ListN.{drop}
 use Rattle.arith.specs.Choice.{if_then_else_}
 use Rattle.arith.proofs.ChoiceLaws.{if-all, neither}
 use Rattle.schedule.specs.declared.Move.{Move}
 use Rattle.schedule.specs.declared.Move.the-variants.{Begin, Step, Cancel}
-use Rattle.block.specs.Limits.{maxCalls, maxCode}
-use Rattle.block.specs.Outcomes.{maxCount}
-use Rattle.block.specs.Record.{headBytes, callRecordBytes, callOf}
-use Rattle.block.specs.declared.CallBody.{CallBody}
-use Rattle.block.specs.declared.CallBody.the-variants.{InRange, OutOfRange}
-use Rattle.machine.specs.Run.{Run, placeIn, countIn, planWord}
-use Rattle.machine.specs.Waits.{waitsLowerable}
-use Rattle.machine.specs.Step.{Stepped, damaged, more, done, restorable, stepCall}
-use Rattle.machine.specs.Moves.{Moved, stay, callKeyCount, ownEntries, viewOf, localOf, Held, answered, holds, heldBy, stepped, stepRecord, stepHeld, stepFor, stepOf, cancelHeld, cancelFor, cancelOf, moveOf}
+use Rattle.block.specs.Limits.{maxCalls}
+use Rattle.machine.specs.Run.{Run}
+use Rattle.machine.specs.Step.{restorable}
+use Rattle.machine.specs.Moves.{Moved, stay, callKeyCount, ownEntries, Held, answered, holds, heldBy, stepFor, stepOf, cancelHeld, cancelFor, cancelOf, moveOf}
 use Rattle.machine.specs.declared.Answer.{Answer}
 use Rattle.machine.specs.declared.Answer.the-variants as answer
+use Rattle.machine.proofs.RefusedLaws.{StaysDamaged, here, moves, unmoved-held, step-stays, step-unmoved}
 use Rattle.guarantees.specs.Demand1.{Exactly, heldIn, EntriesIn, Before21, HeldRefuses, HoldsCall}
 use Rattle.guarantees.proofs.NumbersByCondition.BeginNumbers.{unsized, sized-exact, entries-exact, of-answer, begin-unmoved}
 
@@ -32,21 +27,8 @@ abbrev HeldTold : Run → ℕ → Held → Type 0
 HeldTold r w (answered a) = (a ≡ answer.Damaged → ⊥) → HeldRefuses r w a
 HeldTold r w (holds c) = HoldsCall r w c
 
--- Behind those tests a move is accepted or finds the run damaged.
-record StaysDamaged (r : Run) (m : Moved) : Type 0 where
-  stays : (m .answer ≡ answer.Accepted → ⊥) → m ≡ stay r answer.Damaged
-
-here : (r : Run) → StaysDamaged r (stay r answer.Damaged)
-here r = record { stays = λ n. refl }
-
-moves : {r : Run} {m : Moved} → m .answer ≡ answer.Accepted → StaysDamaged r m
-moves e = record { stays = λ n. absurd (n e) }
-
 pub accepted-not-damaged : answer.Accepted ≡ answer.Damaged → ⊥
 accepted-not-damaged e = let z : _≡_ {A = ℕ} 0 1 = cc in omega arith
-
-of-run : {m m′ : Moved} → m ≡ m′ → m .run ≡ m′ .run
-of-run e = ap (λ (m : Moved). m .run) e
 
 module _ (r : Run) (w : ℕ) where
   abbrev call-from : Held
@@ -124,42 +106,12 @@ module _ (r : Run) (w : ℕ) where
             subst (HeldRefuses r w) same (t (λ f. d (sym same ∙ f)))
         go (holds c) t e = absurd (d (sym e ∙ of-answer (on c .stays (λ f. n (sym e ∙ f)))))
 
-    unmoved-held : (move (heldBy r w) .answer ≡ answer.Accepted → ⊥) → move (heldBy r w) .run ≡ r
-    unmoved-held = go (heldBy r w)
-      where
-        go : (h : Held) → (move h .answer ≡ answer.Accepted → ⊥) → move h .run ≡ r
-        go (answered b) n = of-run (stops b)
-        go (holds c) n = of-run (on c .stays n)
-
 -- ---- STEP
 
 module _ (block : List ℕ) (r : Run) (w : ℕ) where
-  stepped-stays : (c : ℕ) (s : Stepped) → StaysDamaged r (stepped r w c s)
-  unfolding stepped
-  stepped-stays c damaged = here r
-  stepped-stays c (more l cells) = moves refl
-  stepped-stays c (done outcome count cells) =
-      if-all (StaysDamaged r) (not (waitsLowerable (r .plan) (r .status) c (r .head .calls))) (λ e. here r) λ e. moves refl
-
-  record-stays : (c : ℕ) (b : CallBody) → StaysDamaged r (stepRecord block r w c b)
-  unfolding stepRecord
-  record-stays c OutOfRange = here r
-  record-stays c (InRange call) = stepped-stays c (stepCall (viewOf block r c call) (localOf r w c) (r .cells))
-
-  step-stays : (c : ℕ) → StaysDamaged r (stepHeld block r w c)
-  unfolding stepHeld
-  step-stays c =
-      if-all (StaysDamaged r) (ltb (maxCode + 1) (planWord (r .plan) c 1) || ltb (planWord (r .plan) c 1) (placeIn (r .seats) w)) (λ e. here r) λ e.
-      if-all (StaysDamaged r) (ltb maxCount (countIn (r .seats) w)) (λ f. here r) λ f.
-      record-stays c (callOf (drop (r .head .«first_call» + callRecordBytes * c + headBytes) block))
-
   pub steps : (a : Answer) → (a ≡ answer.Accepted → ⊥) → (a ≡ answer.Damaged → ⊥) → Exactly (stepOf block r w .answer ≡ a) (HeldRefuses r w a)
   unfolding stepFor
-  steps = refuses r w (stepFor block r w) (λ a. refl) step-stays
-
-  step-unmoved : (stepOf block r w .answer ≡ answer.Accepted → ⊥) → stepOf block r w .run ≡ r
-  unfolding stepFor
-  step-unmoved = unmoved-held r w (stepFor block r w) (λ a. refl) step-stays
+  steps = refuses r w (stepFor block r w) (λ a. refl) (step-stays block r w)
 
 -- ---- CANCEL
 

@@ -66,7 +66,7 @@ call-answered at len body b = if-all Answered (leb maxCalls (length (b .calls)))
   where
     go : (c : CallBody) → Answered (withCall at len body b c)
     go OutOfRange = tt
-    go (InRange c) = tt
+    go (InRange c) = if-all Answered (eqb (c .fuel) 0) (λ e. tt) (λ e. tt)
 
 body-answered : (size kind at len : ℕ) (body : List ℕ) (b : Block) → Answered (readBody size kind at len body b)
 unfolding readBody readEnd

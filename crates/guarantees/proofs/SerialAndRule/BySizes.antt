@@ -86,6 +86,7 @@ made-alike : (file : List ℕ) (room room′ : ℕ) (fs : List Function) (table 
 made-alike file room room′ fs table c =
     record {
       entries = refl;
+      fuel = refl;
       step = λ l cells.
           step-same (madeView file room fs table c) (padded room′ 0 (tableWords table))
           (λ i. padded-at room 0 (tableWords table) i ∙ sym (padded-at room′ 0 (tableWords table) i)) cells l;

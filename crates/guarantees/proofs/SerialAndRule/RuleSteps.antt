@@ -15,7 +15,7 @@ use Rattle.machine.specs.Step as machine
 use Rattle.machine.specs.Step.{View, Local, Performed, Stepped, restorable, savedOf, stepPlace, stepCall}
 use Rattle.machine.specs.CallInRun as made
 use Rattle.machine.specs.CallInRun.{begunLocal}
-use Rattle.machine.specs.Serial.{maxSteps}
+use Rattle.machine.specs.Serial.{stepLimit}
 use Rattle.guarantees.proofs.CallsOfRun.ViewCalls.{Place, placeWithSaved, Receipt, broken, receipt, pointOf, viewCalls}
 
 -- ---- the old values
@@ -52,7 +52,7 @@ pub record CallRuns (view : ℕ → View) (n : ℕ) (before : ℕ → ℕ → Bo
   pub course : whole (viewCalls view n before) c s .course ≡ done (receipt outcome count)
   pub state : whole (viewCalls view n before) c s .state ≡ cells
   pub unbroken : (k : ℕ) → ¬ (trace (viewCalls view n before) c s k .course ≡ done broken)
-  pub steps : stepsOf (viewCalls view n before) c s ≡ made.stepsTaken maxSteps (view c) (machine.more (begunLocal (view c) s) s)
+  pub steps : stepsOf (viewCalls view n before) c s ≡ made.stepsTaken (stepLimit (view c .call .fuel)) (view c) (machine.more (begunLocal (view c) s) s)
 
 module _ (view : ℕ → View) (n : ℕ) (before : ℕ → ℕ → Bool) (c : ℕ) (s : List ℤ) where
   abbrev Y : Calls
@@ -149,16 +149,17 @@ module _ (view : ℕ → View) (n : ℕ) (before : ℕ → ℕ → Bool) (c : �
   steps-same (suc f) t (machine.done outcome count cells) same = refl
 
   -- Where the steps of a made run end, so does the call in the theorem's run, with what they leave.
-  pub rule-steps : (outcome count : ℕ) (cells : List ℤ) → made.stepTimes maxSteps (view c) (machine.more (begunLocal (view c) s) s) ≡ machine.done outcome count cells
+  pub rule-steps : (outcome count : ℕ) (cells : List ℤ) → made.stepTimes (stepLimit (view c .call .fuel)) (view c) (machine.more (begunLocal (view c) s) s) ≡ machine.done outcome count cells
       → CallRuns view n before c s outcome count cells
   unfolding whole stepsOf trace pointOf
   rule-steps outcome count cells e =
-      let h : Reaches maxSteps (trace Y c s 0) outcome count cells =
-      subst (ReachesBy maxSteps (trace Y c s 0)) e (reaches maxSteps s (machine.more (begunLocal (view c) s) s) refl) in
-      let last : whole Y c s ≡ over outcome count cells = from-begin (stepsFrom Y maxSteps c saved (trace Y c s 0)) ∙ h .end in
+      let most : ℕ = stepLimit (view c .call .fuel) in
+      let h : Reaches (stepLimit (view c .call .fuel)) (trace Y c s 0) outcome count cells =
+      subst (ReachesBy most (trace Y c s 0)) e (reaches most s (machine.more (begunLocal (view c) s) s) refl) in
+      let last : whole Y c s ≡ over outcome count cells = from-begin (stepsFrom Y most c saved (trace Y c s 0)) ∙ h .end in
       record {
         course = ap (λ (p : RunPoint Y). p .course) last;
         state = ap (λ (p : RunPoint Y). p .state) last;
         unbroken = λ k f. h .unbroken k (ap (λ (p : RunPoint Y). p .course) (sym (from-begin k)) ∙ f);
-        steps = steps-same maxSteps s (machine.more (begunLocal (view c) s) s) refl;
+        steps = steps-same most s (machine.more (begunLocal (view c) s) s) refl;
       }

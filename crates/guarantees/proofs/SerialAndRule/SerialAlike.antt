@@ -8,7 +8,7 @@ use lib.IntN.{ℤ}
 use Rattle.schedule.specs.Calls.{Calls, CallCourse, more, done, isDone, RunPoint, advance, trace, stepsFrom, stepsOf, whole, alone, serial, stepsInSerial, Lawful}
 use Rattle.schedule.proofs.RunLaws.{wr-touches, steps-like, whole-like, whole-good, whole-frame}
 use Rattle.machine.specs.Step.{View, Local, savedOf, stepCall}
-use Rattle.machine.specs.Serial.{maxSteps}
+use Rattle.machine.specs.Serial.{stepLimit}
 use Rattle.guarantees.proofs.CallsOfRun.ViewCalls.{Place, placeWithSaved, Receipt, pointOf, viewCalls}
 
 -- ---- states
@@ -49,6 +49,7 @@ module _ (Y : Calls) where
 -- Two views of a call by which its entries and its steps are the same.
 pub record StepsAlike (v v′ : View) : Type 0 where
   pub entries : v .entries ≡ v′ .entries
+  pub fuel : v .call .fuel ≡ v′ .call .fuel
   pub step : (l : Local) (cells : List ℤ) → stepCall v l cells ≡ stepCall v′ l cells
 
 module _ (view view′ : ℕ → View) (n : ℕ) (before : ℕ → ℕ → Bool) where
@@ -84,8 +85,9 @@ module _ (view view′ : ℕ → View) (n : ℕ) (before : ℕ → ℕ → Bool)
     steps-same : (s : List ℤ) → stepsOf Y c s ≡ stepsOf Y′ c s
     unfolding stepsOf
     steps-same s =
-        from-same maxSteps (Y .save c s) (trace Y c s 0)
-        ∙ ap₂ (λ (o : List ℤ) (p : RunPoint Y′). stepsFrom Y′ maxSteps c o p) (saved-same s) (trace-same s 0)
+        from-same (stepLimit (view c .call .fuel)) (Y .save c s) (trace Y c s 0)
+        ∙ ap₂ (λ (o : List ℤ) (p : RunPoint Y′). stepsFrom Y′ (stepLimit (view c .call .fuel)) c o p) (saved-same s) (trace-same s 0)
+        ∙ ap (λ (n : ℕ). stepsFrom Y′ (stepLimit n) c (Y′ .save c s) (trace Y′ c s 0)) (alike .fuel)
 
     whole-same : (s : List ℤ) → whole Y c s ≡ whole Y′ c s
     unfolding whole

@@ -34,7 +34,7 @@ use Rattle.machine.specs.Step as machine
 use Rattle.machine.specs.Step.{View, Stepped}
 use Rattle.machine.specs.Moves.{viewOf}
 use Rattle.machine.specs.CallInRun.{madeView, begunLocal, stepTimes, Hold, LeavesAsRule}
-use Rattle.machine.specs.Serial.{maxSteps}
+use Rattle.machine.specs.Serial.{stepLimit}
 use Rattle.machine.proofs.LookupLaws.{KeysInTable}
 use Rattle.machine.proofs.CallRule.{CallCompletes, call-rule}
 use Rattle.guarantees.proofs.CallsOfRun.ViewCalls.{broken, receipt, viewCalls, runView}
@@ -183,13 +183,13 @@ module _ (s : Sizes) (file : List ℕ) (bytes : AreBytes file) (workers : ℕ) (
       → CallCompletes table (rule x σ) (runView file r c) cells
   completes c x o σ within cells hold =
       subst⁻¹ (λ (v : View). CallCompletes table (rule x σ) v cells) (view-made c x o)
-      (call-rule file bytes (b .functions) (after .whole .laws .codes) x (opened-fits c x o)
+      (call-rule file bytes (b .functions) (after .whole .laws .codes) x (opened-fits c x o) (o .fuel)
       table (after .opened .fewKeys) (listed-in table (setsOf file (b .functions) x) (o .listed)) (o .few) (s .keys) σ within cells hold)
 
   opened-follows : (c : ℕ) (x : Call) → Opened c x → (σ : State) → stateWithinLimit σ ≡ true → (cells : List ℤ) → Hold table σ cells
       → Follows c cells (rule x σ)
   opened-follows c x o σ within cells hold =
-      go (stepTimes maxSteps (runView file r c) (machine.more (begunLocal (runView file r c) cells) cells)) refl (whole-call .leaves)
+      go (stepTimes (stepLimit (runView file r c .call .fuel)) (runView file r c) (machine.more (begunLocal (runView file r c) cells) cells)) refl (whole-call .leaves)
     where
       whole-call : CallCompletes table (rule x σ) (runView file r c) cells
       whole-call = completes c x o σ within cells hold
@@ -198,7 +198,7 @@ module _ (s : Sizes) (file : List ℕ) (bytes : AreBytes file) (workers : ℕ) (
       limit =
           limit-kept x (opened-fits c x o) file bytes (b .functions) σ within
 
-      go : (t : Stepped) → stepTimes maxSteps (runView file r c) (machine.more (begunLocal (runView file r c) cells) cells) ≡ t
+      go : (t : Stepped) → stepTimes (stepLimit (runView file r c .call .fuel)) (runView file r c) (machine.more (begunLocal (runView file r c) cells) cells) ≡ t
           → LeavesAsRule table (rule x σ) t → Follows c cells (rule x σ)
       go machine.damaged e h = absurd h
       go (machine.more l t) e h = absurd h

@@ -230,7 +230,7 @@ module _
 
         call-end : AtEnd maxSteps 0 (beginOf r 0 c .run)
         call-end =
-            to-end maxSteps 0 (omega arith) (omega (arith, steps-within Y c (alone Y pick s₀ c))) (beginOf r 0 c .run)
+            to-end maxSteps 0 (omega arith) (omega (arith, steps-within Y c (alone Y pick s₀ c), base .tidy c l .fuel .1)) (beginOf r 0 c .run)
             (begin-run r m)
 
         pub call-steps : stepsToEnd maxSteps file (beginOf r 0 c .run) ≡ all

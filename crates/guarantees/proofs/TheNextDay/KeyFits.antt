@@ -133,7 +133,7 @@ module _ (c : Call) (fits : CallBounded c) where
   sets-fit block h f =
       sets-keyed c KeyFits own-fits account-fits (balance-fits (c .sender .0) (fits .ranges .sender)) block f
       (λ g. code-each (Keyed KeyFits) AreBytes (drop-bytes instrBytes) c (g .size)
-      (λ index s q. decoded-fits (decode index (g .size) s) (decode-fits index (g .size) s q)) (g .size) 0
+      (λ s q. decoded-fits (decode (g .size) s) (decode-fits (g .size) s q)) (g .size)
       (codeAt block (g .start) (g .size)) (take-bytes (instrBytes * g .size) (drop (g .start) block) (drop-bytes (g .start) block h)))
 
 keyed-hold : (K : ℕ → Type 0) (es : List Access) → sets.EachAccess (Keyed K) es → HoldsOfAll K (accessKeys es)

@@ -79,7 +79,7 @@ call-bytes : (c : Call) → AreBytes (callRecord c)
 call-bytes c =
     let front : Fields (bytesOf 2 (c .sender .0) ++ bytesOf 2 (c .contract .0) ++ bytesOf 2 (c .function) ++ bytesOf 8 (unsigned 64 (c .value))) =
     next (next (next (first 2 (c .sender .0)) 2 (c .contract .0)) 2 (c .function)) 8 (unsigned 64 (c .value)) in
-    record-bytes callKind (callBody c) (next (next (next (next front 4 (c .arg1)) 4 (c .arg2)) 4 (c .arg3)) 4 (c .arg4) .bytes)
+    record-bytes callKind (callBody c) (next (next (next (next (next front 4 (c .arg1)) 4 (c .arg2)) 4 (c .arg3)) 4 (c .arg4)) 2 (c .fuel) .bytes)
 
 -- ---- the file of the next day
 

@@ -1,11 +1,12 @@
--- `serial::step_to_end` meets its contract: the steps that are left, from the run so far, lead where all steps lead from the start.
+-- `serial::step_to_end` meets its contract: the steps that are left, from the run so far, lead where all steps lead from the start, and behind a refused one
+-- they lead nowhere else.
 use borrow.Author.Needs.{needs}
 use native.Mathlib.Omega.{arith}
 use mathlib.Core.Path.{_≡_, refl, sym, _∙_}
 use lib.ListN.{length}
 use Rattle.machine.specs.Serial.{maxSteps, stepToEnd}
 use Rattle.moves.specs.Lent.{lent}
-use Rattle.serial.proofs.SerialLaws.{steps-over, steps-idle, steps-next}
+use Rattle.serial.proofs.SerialLaws.{steps-over, steps-idle, steps-next, steps-refused}
 use Rattle.serial.proofs.step_to_end.Statement.{statement}
 use Rattle.serial.proofs.step_to_end.Tie as tie
 
@@ -43,6 +44,40 @@ returns c =
 step-requires : tie.Need-step-requires Inv-loop μ-loop
 step-requires c κs = search needs
 
+answer-number-requires : tie.Need-answer-number-requires Inv-loop μ-loop
+answer-number-requires c κs = search needs
+
+same-length-5 : tie.Need-same-length-5 Inv-loop μ-loop
+same-length-5 c =
+    let c9 = c .before .before .before .before .before .before .before .before .before in
+    let c17 = c9 .before .before .before .before .before .before .before .before in
+    c9 .step .kept .1 .1 .1 .1 .0 ∙ c17 .loop .inv .0
+
+same-length-6 : tie.Need-same-length-6 Inv-loop μ-loop
+same-length-6 c =
+    let c9 = c .before .before .before .before .before .before .before .before .before in
+    let c17 = c9 .before .before .before .before .before .before .before .before in
+    c9 .step .kept .1 .1 .1 .1 .1 .0 ∙ c17 .loop .inv .1
+
+same-length-7 : tie.Need-same-length-7 Inv-loop μ-loop
+same-length-7 c =
+    let c9 = c .before .before .before .before .before .before .before .before .before in
+    let c17 = c9 .before .before .before .before .before .before .before .before in
+    c9 .step .kept .1 .1 .1 .1 .1 .1 .0 ∙ c17 .loop .inv .2
+
+same-length-8 : tie.Need-same-length-8 Inv-loop μ-loop
+same-length-8 c =
+    let c9 = c .before .before .before .before .before .before .before .before .before in
+    let c17 = c9 .before .before .before .before .before .before .before .before in
+    c9 .step .kept .1 .1 .1 .1 .1 .1 .1 .0 ∙ c17 .loop .inv .3
+
+returns-2 : tie.Need-returns-2 Inv-loop μ-loop
+returns-2 c =
+    let c9 = c .before .before .before .before .before .before .before .before .before in
+    let c17 = c9 .before .before .before .before .before .before .before .before in
+    let c23 = c17 .before .before .before .before .before .before in
+    sym (c17 .loop .inv .4 ∙ steps-refused (c23 .args .block .now) _ (c17 .loop .left) (c9 .step .ensures) (c .before .answer-number .ensures) (c .if2 .taken))
+
 sub-left : tie.Need-sub-left Inv-loop μ-loop
 sub-left c = omega arith
 
@@ -51,33 +86,33 @@ loop-less c = omega arith
 
 loop-again : tie.Need-loop-again Inv-loop μ-loop
 loop-again c =
-    let c7 = c .before .before .before .before .before .before .before in
-    let c12 = c7 .before .before .before .before .before in
-    let c13 = c12 .before in
-    let c14 = c13 .before in
+    let c9 = c .before .before .before .before .before .before .before .before .before in
+    let c14 = c9 .before .before .before .before .before in
     let c15 = c14 .before in
-    let c21 = c15 .before .before .before .before .before .before in (
-      c7 .step .kept .1 .1 .1 .1 .0 ∙ c15 .loop .inv .0,
-      c7 .step .kept .1 .1 .1 .1 .1 .0 ∙ c15 .loop .inv .1,
-      c7 .step .kept .1 .1 .1 .1 .1 .1 .0 ∙ c15 .loop .inv .2,
-      c7 .step .kept .1 .1 .1 .1 .1 .1 .1 .0 ∙ c15 .loop .inv .3,
-      c15 .loop .inv .4 ∙ steps-next (c21 .args .block .now) _ (c15 .loop .left) (c14 .loop-test .taken) (sym (c12 .if1 .left) ∙ c13 .is-idle .ensures) (c7 .step .ensures),
+    let c16 = c15 .before in
+    let c17 = c16 .before in
+    let c23 = c17 .before .before .before .before .before .before in (
+      c9 .step .kept .1 .1 .1 .1 .0 ∙ c17 .loop .inv .0,
+      c9 .step .kept .1 .1 .1 .1 .1 .0 ∙ c17 .loop .inv .1,
+      c9 .step .kept .1 .1 .1 .1 .1 .1 .0 ∙ c17 .loop .inv .2,
+      c9 .step .kept .1 .1 .1 .1 .1 .1 .1 .0 ∙ c17 .loop .inv .3,
+      c17 .loop .inv .4 ∙ steps-next (c23 .args .block .now) _ (c17 .loop .left) (c16 .loop-test .taken) (sym (c14 .if1 .left) ∙ c15 .is-idle .ensures) (c9 .step .ensures),
     )
 
-same-length-5 : tie.Need-same-length-5 Inv-loop μ-loop
-same-length-5 c = c .before .loop .inv .0
+same-length-9 : tie.Need-same-length-9 Inv-loop μ-loop
+same-length-9 c = c .before .loop .inv .0
 
-same-length-6 : tie.Need-same-length-6 Inv-loop μ-loop
-same-length-6 c = c .before .loop .inv .1
+same-length-10 : tie.Need-same-length-10 Inv-loop μ-loop
+same-length-10 c = c .before .loop .inv .1
 
-same-length-7 : tie.Need-same-length-7 Inv-loop μ-loop
-same-length-7 c = c .before .loop .inv .2
+same-length-11 : tie.Need-same-length-11 Inv-loop μ-loop
+same-length-11 c = c .before .loop .inv .2
 
-same-length-8 : tie.Need-same-length-8 Inv-loop μ-loop
-same-length-8 c = c .before .loop .inv .3
+same-length-12 : tie.Need-same-length-12 Inv-loop μ-loop
+same-length-12 c = c .before .loop .inv .3
 
-returns-2 : tie.Need-returns-2 Inv-loop μ-loop
-returns-2 c =
+returns-3 : tie.Need-returns-3 Inv-loop μ-loop
+returns-3 c =
     let c7 = c .before .before .before .before .before .before .before in
     sym (c .before .loop .inv .4 ∙ steps-over (c7 .args .block .now) _ (c .before .loop .left) (c .loop-test .left))
 
@@ -95,11 +130,17 @@ step-to-end-spec =
     same-length-4
     returns
     step-requires
-    sub-left
-    loop-less
-    loop-again
+    answer-number-requires
     same-length-5
     same-length-6
     same-length-7
     same-length-8
-    returns-2)
+    returns-2
+    sub-left
+    loop-less
+    loop-again
+    same-length-9
+    same-length-10
+    same-length-11
+    same-length-12
+    returns-3)

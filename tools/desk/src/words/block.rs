@@ -203,7 +203,7 @@ fn length(record: &Record) -> String {
             "a function has 4 and 8 for each of 0 to 64 instructions: 4, 12, .. 516"
         }
         Some(Kind::Cell) => "an opening cell has 20",
-        Some(Kind::Call) => "a call has 30",
+        Some(Kind::Call) => "a call has 32",
         _ => "an end has 0",
     };
     format!("length {}: {wanted}", record.length)
@@ -243,6 +243,6 @@ fn instruction(record: &Record, offset: usize) -> String {
         function_name(record),
         hexadecimal(own),
         assembly::line(parts),
-        broken_rules(parts, index, length).join("\n")
+        broken_rules(parts, length).join("\n")
     )
 }

@@ -72,9 +72,9 @@ enum Use {
     Source,
 }
 
-/// The rules that an instruction breaks at an index of a code of some length.
-/// There are none of an instruction that the reader accepts.
-pub fn broken_rules(parts: Parts, index: usize, length: usize) -> Vec<String> {
+/// The rules that an instruction of a code of some length breaks. There are none of
+/// an instruction that the reader accepts.
+pub fn broken_rules(parts: Parts, length: usize) -> Vec<String> {
     let Parts { op, x, y, z, .. } = parts;
     if usize::from(op) >= MNEMONICS.len() {
         return vec![format!("op {op}: there are 0 to {}", MNEMONICS.len() - 1)];
@@ -82,7 +82,7 @@ pub fn broken_rules(parts: Parts, index: usize, length: usize) -> Vec<String> {
     let bytes = [("x", x), ("y", y), ("z", z)];
     let named = bytes.into_iter().zip(uses(op));
     let broken = named.filter_map(|((name, byte), used)| byte_rule(name, byte, used));
-    broken.chain(word_rules(parts, index, length)).collect()
+    broken.chain(word_rules(parts, length)).collect()
 }
 
 /// What x, y and z are.
@@ -110,7 +110,7 @@ fn byte_rule(name: &str, byte: u8, used: Use) -> Option<String> {
 }
 
 /// The rules that the part w breaks.
-fn word_rules(parts: Parts, index: usize, length: usize) -> Vec<String> {
+fn word_rules(parts: Parts, length: usize) -> Vec<String> {
     let Parts { op, y, z, w, .. } = parts;
     match op {
         op::SET => Vec::new(),
@@ -126,7 +126,7 @@ fn word_rules(parts: Parts, index: usize, length: usize) -> Vec<String> {
                 .chain(unused_constant(parts, &[y]))
                 .collect()
         }
-        op::JEQ | op::JLT => jump_rule(w as usize, index, length).into_iter().collect(),
+        op::JEQ | op::JLT => jump_rule(w as usize, length).into_iter().collect(),
         _ => unused("w", w).into_iter().collect(),
     }
 }
@@ -142,12 +142,6 @@ fn unused_constant(parts: Parts, sources: &[u8]) -> Option<String> {
     wrong.then(|| format!("w div 65536 is {constant}: no source is 6, so it is 0"))
 }
 
-fn jump_rule(to: usize, index: usize, length: usize) -> Option<String> {
-    if to <= index {
-        Some(format!("it goes to {to}: a jump from {index} goes forward"))
-    } else if to > length {
-        Some(format!("it goes to {to}: the code's length is {length}"))
-    } else {
-        None
-    }
+fn jump_rule(to: usize, length: usize) -> Option<String> {
+    (to > length).then(|| format!("it goes to {to}: the code's length is {length}"))
 }

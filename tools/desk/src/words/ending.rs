@@ -50,6 +50,11 @@ pub fn receipt(
             format!("the block has no {name}")
         }
         Some(_) if receipt.outcome == Outcome::LowBalance => low_balance(chosen, last),
+        Some(called) if receipt.outcome == Outcome::OutOfFuel => {
+            let fuel = chosen.fuel;
+            let due = due_instruction(bytes, called, last);
+            format!("its fuel is {fuel}, and {due} is due; its cells are restored")
+        }
         Some(called) => last_instruction(bytes, called, chosen, last),
     };
     format!(
@@ -75,15 +80,24 @@ fn last_instruction(bytes: &[u8], called: &Function, call: &Call, last: &LastSte
     let Some(instruction) = called.code.get(index) else {
         return format!("it came to the end of {name}");
     };
-    let line = assembly::line(Parts::read(
-        &bytes[called.start + index * INSTRUCTION_BYTES..],
-    ));
-    let place = format!("instruction {index} of {name}, {line}");
+    let place = due_instruction(bytes, called, last);
     match failure(instruction, call, last) {
         Some(failure) => format!("{place}: {failure}; its cells are restored"),
         None if *instruction == Instruction::Throw => format!("{place}; its cells are restored"),
         None => place,
     }
+}
+
+/// The instruction before which a call stands.
+fn due_instruction(bytes: &[u8], called: &Function, last: &LastStep) -> String {
+    let name = function(called.contract.address(), called.number);
+    let Place::At(index) = last.place else {
+        unreachable!("at the entry no instruction is due");
+    };
+    let line = assembly::line(Parts::read(
+        &bytes[called.start + index * INSTRUCTION_BYTES..],
+    ));
+    format!("instruction {index} of {name}, {line}")
 }
 
 /// Why an instruction fails.

@@ -48,6 +48,7 @@ pub fn call_faults(body: &[u8]) -> Vec<String> {
         sender,
         contract,
         value,
+        fuel,
         ..
     } = CallFields::read(body);
     let mut faults = Vec::new();
@@ -57,6 +58,9 @@ pub fn call_faults(body: &[u8]) -> Vec<String> {
     faults.extend(contract_fault(contract));
     if value < 0 {
         faults.push(format!("value {value}: it is 0 or more"));
+    }
+    if fuel == 0 {
+        faults.push("fuel 0: it is 1 to 65535".to_string());
     }
     faults
 }

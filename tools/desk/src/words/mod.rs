@@ -20,7 +20,8 @@ use runner::key::Key;
 use runner::limits::FIRST_CONTRACT;
 use runner::machine::Opened;
 
-/// A call: who calls which contract's function with which value and arguments.
+/// A call: who calls which contract's function with which value, arguments and
+/// fuel.
 pub fn call(block: &Block, call: usize) -> String {
     let chosen = &block.calls[call];
     let (sender, value) = (chosen.sender.address(), chosen.value);
@@ -31,8 +32,9 @@ pub fn call(block: &Block, call: usize) -> String {
         None => ", which is not in the block",
     };
     format!(
-        "account {sender} calls {function}{known}, with value {value} and arguments {}",
-        arguments.join(" ")
+        "account {sender} calls {function}{known}, with value {value}, arguments {} and fuel {}",
+        arguments.join(" "),
+        chosen.fuel
     )
 }
 
@@ -46,6 +48,7 @@ pub fn outcome(outcome: u16) -> &'static str {
         4 => "a result outside 64 signed bits",
         5 => "a payment that cannot be made",
         6 => "a divisor of zero",
+        7 => "out of fuel",
         _ => "no outcome",
     }
 }

@@ -16,7 +16,7 @@ fn comes_back(bytes: &[u8]) {
 #[test]
 fn block_p_has_labels_and_comments() {
     let text = "\
-# 226 bytes: 3 functions, 1 opening cell, 3 calls, 4 keys
+# 232 bytes: 3 functions, 1 opening cell, 3 calls, 4 keys
 
 function 32768 0                    # offset 0
     set r0 1                        # 0: sets r0 to 1
@@ -36,9 +36,9 @@ function 32768 2                    # offset 72
 
 cell 5 0 0 0 2                      # cell 0: balance of account 5
 
-call 5 32768 0 0                    # call 0
-call 5 32768 1 1                    # call 1
-call 5 32768 2 1                    # call 2
+call 5 32768 0 0 fuel 64            # call 0
+call 5 32768 1 1 fuel 64            # call 1
+call 5 32768 2 1 fuel 64            # call 2
 
 end
 ";
@@ -62,14 +62,14 @@ at2:
 cell 5 1 0 0 0                      # cell 0: field 1 [0, 0] of account 5; field 1: account 5 has \
 its balance alone, field 0; value 0: a cell that is 0 has no record
 
-call 40000 7 1 -1 0 4               # call 0, unknown function; sender 40000: accounts are 0 to \
-32767; contract 7: contracts are 32768 to 65535; value -1: it is 0 or more
+call 40000 7 1 -1 0 4 fuel 0        # call 0, unknown function; sender 40000: accounts are 0 to \
+32767; contract 7: contracts are 32768 to 65535; value -1: it is 0 or more; fuel 0: it is 1 to 65535
 
-# offset 82: a record of kind 9 and length 1 has no item
+# offset 84: a record of kind 9 and length 1 has no item
 raw 01 00 09 00 ff
 
 end
-# offset 91: behind the last record
+# offset 93: behind the last record
 raw 07
 ";
     assert_eq!(disassemble(&block(text)), text);
@@ -81,13 +81,13 @@ fn a_cut_record_is_bytes() {
     let text = disassemble(&bytes[..20]);
     assert!(
         text.contains(
-            "# offset 0: a record of kind 3 and length 30 is cut behind 16\nraw 1e 00 03 00"
+            "# offset 0: a record of kind 3 and length 32 is cut behind 16\nraw 20 00 03 00"
         ),
         "{text}"
     );
-    let text = disassemble(&bytes[..36]);
+    let text = disassemble(&bytes[..38]);
     assert!(
-        text.contains("# offset 34: behind the last record\nraw 00 00\n"),
+        text.contains("# offset 36: behind the last record\nraw 00 00\n"),
         "{text}"
     );
 }
@@ -125,7 +125,7 @@ fn random_bytes_come_back() {
     for _ in 0..2_000 {
         let length = rng.below(200);
         let bytes: Vec<u8> = (0..length)
-            .map(|_| rng.pick(&[0, 0, 0, 1, 2, 3, 4, 12, 20, 30, 128, 255]))
+            .map(|_| rng.pick(&[0, 0, 0, 1, 2, 3, 4, 12, 20, 30, 32, 128, 255]))
             .collect();
         comes_back(&bytes);
     }

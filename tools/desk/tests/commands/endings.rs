@@ -56,6 +56,30 @@ fn each_outcome_has_its_reason() {
 }
 
 #[test]
+fn fuel_that_is_out_has_its_instruction() {
+    ends(
+        "set r0 1\nput r0 1 zero zero\njeq r0 r0 1",
+        "call 5 32768 0 3 fuel 4",
+        "t 0 7 4: call 0 ended with outcome 7, out of fuel, after 4 instructions: its fuel is 4, \
+         and instruction 2 of function 0 of contract 32768, jeq r0 r0 1 is due; its cells are \
+         restored",
+    );
+    ends(
+        "div r0 r0 r0\nstop",
+        "call 5 32768 0 0 fuel 1",
+        "t 0 6 1: call 0 ended with outcome 6, a divisor of zero, after 1 instruction: \
+         instruction 0 of function 0 of contract 32768, div r0 r0 r0: 0 / 0; its cells are \
+         restored",
+    );
+    ends(
+        "set r0 1",
+        "call 5 32768 0 0 fuel 1",
+        "t 0 0 1: call 0 ended with outcome 0, done, after 1 instruction: it came to the end of \
+         function 0 of contract 32768",
+    );
+}
+
+#[test]
 fn failed_arithmetic_has_its_numbers() {
     let call = "call 5 32768 0 0 4294967295";
     let fails = |code: &str, outcome: &str, reason: &str| {

@@ -205,6 +205,6 @@ fn a_block_alone() {
 
 #[test]
 fn every_outcome_has_a_name() {
-    let names: Vec<&str> = (0..=5).map(outcome).collect();
-    assert!(names.iter().all(|name| *name != outcome(6)));
+    let names: Vec<&str> = (0..=7).map(outcome).collect();
+    assert!(names.iter().all(|name| *name != outcome(8)));
 }

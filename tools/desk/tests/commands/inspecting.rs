@@ -9,7 +9,7 @@ use crate::{block, block_p, cases};
 #[test]
 fn block_p_in_words() {
     let text = "\
-226 of 65536 bytes
+232 of 65536 bytes
 3 of 64 functions
 1 of 1024 opening cells
 3 of 256 calls
@@ -20,20 +20,20 @@ function 0 of contract 32768: 2 of 64 instructions
 function 1 of contract 32768: 5 of 64 instructions
 function 2 of contract 32768: 2 of 64 instructions
 
-call 0: account 5 calls function 0 of contract 32768, with value 0 and arguments 0 0 0 0
+call 0: account 5 calls function 0 of contract 32768, with value 0, arguments 0 0 0 0 and fuel 64
   1 of 24 keys
   reads nothing
   writes field 1 [0, 0] of contract 32768
   waits for no call
 
-call 1: account 5 calls function 1 of contract 32768, with value 1 and arguments 0 0 0 0
+call 1: account 5 calls function 1 of contract 32768, with value 1, arguments 0 0 0 0 and fuel 64
   4 of 24 keys
   reads balance of account 5; balance of contract 32768; field 1 [0, 0] of contract 32768
   writes balance of account 5; balance of account 7; balance of contract 32768
   waits for call 0
     field 1 [0, 0] of contract 32768: call 0 writes it, call 1 reads it
 
-call 2: account 5 calls function 2 of contract 32768, with value 1 and arguments 0 0 0 0
+call 2: account 5 calls function 2 of contract 32768, with value 1, arguments 0 0 0 0 and fuel 64
   3 of 24 keys
   reads balance of account 5; balance of contract 32768
   writes balance of account 5; balance of account 7; balance of contract 32768
@@ -49,7 +49,7 @@ call 2: account 5 calls function 2 of contract 32768, with value 1 and arguments
 fn an_unknown_function_and_a_block_of_an_end() {
     let text = inspect(&block("call 5 32768 9 1 2 3\nend")).expect("the block is good");
     let call = "call 0: account 5 calls function 9 of contract 32768, which is not in the block, \
-                with value 1 and arguments 2 3 0 0\n  0 of 24 keys\n  reads nothing\n";
+                with value 1, arguments 2 3 0 0 and fuel 64\n  0 of 24 keys\n  reads nothing\n";
     assert!(text.contains(call), "{text}");
     let text = inspect(&block("end")).expect("the block is good");
     assert!(

@@ -207,13 +207,11 @@ fn a_damaged_sheet_is_refused_with_its_offset() {
         "offset 24: balance of account 6: the keys of cells rise",
     );
     sheet_fails(
-        "raw 04000500 0700 0000\nend",
-        "offset 0: outcome 7: outcomes are 0 to 6",
+        "raw 04000500 0800 0000\nend",
+        "offset 0: outcome 8: outcomes are 0 to 7",
     );
-    sheet_fails(
-        "raw 04000500 0000 4100\nend",
-        "offset 0: count 65: a call counts at most 64",
-    );
+    let most = block("raw 04000500 0700 ffff\nend");
+    assert!(sheet::read(&most).is_ok());
     sheet_fails("end\nraw 00", "offset 4: 1 byte behind the end");
     let printed = "offset 0: these are lines that REGISTER prints; the sheet's bytes are wanted";
     assert_eq!(sheet::read(b"k 7 0 0 0 1\n"), Err(printed.to_string()));
@@ -253,10 +251,10 @@ fn block_fails(day: &str, why: &str) {
 fn a_block_with_too_many_keys_is_refused() {
     block_fails(
         "function 32768 0\nget r0 2 arg1 zero\ncall 5 32768 0 0 3\nend",
-        "the register would refuse it (24576 bytes of the sheet's cells and 54 of the day):\n\
+        "the register would refuse it (24576 bytes of the sheet's cells and 56 of the day):\n\
          e 12 24592\n12 at offset 24592: the opening and the sets have over 1024 keys\n\
-         call record 0 at offset 24592: account 5 calls function 0 of contract 32768, with value 0 \
-         and arguments 3 0 0 0\n\
+         call record 0 at offset 24592: account 5 calls function 0 of contract 32768, with value 0, \
+         arguments 3 0 0 0 and fuel 64\n\
          with its 1 key the block has 1025, 1024 of them in the opening; at most 1024",
     );
 }
@@ -270,7 +268,7 @@ fn a_block_of_too_many_bytes_is_refused() {
     let calls = "call 5 32768 0 0\n".repeat(256);
     block_fails(
         &format!("{functions}{calls}"),
-        "the register would refuse it (24576 bytes of the sheet's cells and 41988 of the day):\n\
-         e 1 0\n1 at offset 0: the file is above 65536 bytes\nthe file has 66564 bytes",
+        "the register would refuse it (24576 bytes of the sheet's cells and 42500 of the day):\n\
+         e 1 0\n1 at offset 0: the file is above 65536 bytes\nthe file has 67076 bytes",
     );
 }

@@ -46,3 +46,18 @@ fn a_call_and_a_function_of_p() {
     shows(&paragraph(&text, 3));
     shows(&paragraph(&disassemble::disassemble(&block_p()), 2));
 }
+
+#[test]
+fn a_call_with_fuel_and_one_that_has_none_left() {
+    let text = disassemble::disassemble(&block_p());
+    let line = text.lines().find(|line| line.ends_with("# call 1"));
+    shows(line.expect("P has a call 1"));
+    let bytes = crate::block(
+        "function 32768 0\nset r0 1\nput r0 1 zero zero\njeq r0 r0 1\n\
+         call 5 32768 0 0 fuel 4\nend",
+    );
+    let text = explain::run(&bytes, b"b 0 0\ns 0\ns 0\ns 0\ns 0\ns 0\ns 0\n");
+    let text = text.expect("the block is good");
+    let line = text.lines().find(|line| line.starts_with("t 0 7 4"));
+    shows(line.expect("the call is out of fuel"));
+}

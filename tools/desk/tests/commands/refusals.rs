@@ -74,8 +74,8 @@ fn number_3() {
     );
     text_refused(
         "function 32768 0\ncall 5 32768 0 0\nfunction 32768 1\nend",
-        "3 at offset 42",
-        "function record 1 at offset 42: it stands behind the call record at offset 8, and \
+        "3 at offset 44",
+        "function record 1 at offset 44: it stands behind the call record at offset 8, and \
          kinds never fall",
     );
 }
@@ -96,7 +96,7 @@ fn number_4() {
     text_refused(
         "raw 00000300",
         "4 at offset 0",
-        "call record 0 at offset 0: length 0: a call has 30",
+        "call record 0 at offset 0: length 0: a call has 32",
     );
     text_refused(
         "raw 01000400",
@@ -128,6 +128,7 @@ fn number_5() {
         ("call 32768 32768 0 0", "call record 0 at offset 0: sender 32768: accounts are 0 to 32767"),
         ("call 5 5 0 0", "call record 0 at offset 0: contract 5: contracts are 32768 to 65535"),
         ("call 5 32768 0 -1", "call record 0 at offset 0: value -1: it is 0 or more"),
+        ("call 5 32768 0 0 fuel 0", "call record 0 at offset 0: fuel 0: it is 1 to 65535"),
     ];
     for (text, place) in wrong {
         text_refused(text, "5 at offset 0", place);
@@ -191,11 +192,11 @@ fn number_9() {
 #[test]
 fn number_10() {
     text_refused(
-        "function 32768 3\nstop\nfunction 32769 4\nstop\njeq r0 r0 1\nend",
+        "function 32768 3\nstop\nfunction 32769 4\nstop\njeq r0 r0 3\nend",
         "10 at offset 32",
         "function record 1 at offset 16: function 4 of contract 32769\n\
-         instruction 1 of 2 at offset 32: bytes 0e 00 00 00 01 00 00 00: jeq r0 r0 1\n\
-         it goes to 1: a jump from 1 goes forward",
+         instruction 1 of 2 at offset 32: bytes 0e 00 00 00 03 00 00 00: jeq r0 r0 3\n\
+         it goes to 3: the code's length is 2",
     );
     text_refused(
         "function 32768 0\nword 10 9 7 0 0\nend",
@@ -216,7 +217,7 @@ fn number_11() {
     let words = refused_block(&block(&text)).expect("the block is refused");
     let place =
         "11 at offset 208: a call has over 24 keys\ncall record 0 at offset 208: account 5 \
-                 calls function 0 of contract 32768, with value 0 and arguments 0 0 0 0\n\
+                 calls function 0 of contract 32768, with value 0, arguments 0 0 0 0 and fuel 64\n\
                  25 keys; at most 24:\n  field 1 [0, 0] of contract 32768\n";
     assert!(words.starts_with(place), "{words}");
     assert_eq!(words.lines().count(), 3 + 25);

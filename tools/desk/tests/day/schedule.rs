@@ -1,6 +1,7 @@
 //! Pictures of workers against moves.
 
 use desk::schedule::svg;
+use runner::examples::example;
 use runner::generate::{large_cases, small_cases};
 
 use crate::blocks::{adding, of_example, serially, size};
@@ -71,8 +72,17 @@ fn refused_lines_stand_in_lanes_with_their_numbers() {
 #[test]
 fn an_outcome_of_each_kind_of_bar_is_in_the_legend() {
     let picture = picture(&of_example("divisions"), serially(4, 66).as_bytes());
-    for (outcome, calls) in [(0, 2), (4, 1), (6, 1)] {
-        assert_eq!(bars(&picture, &format!("outcome{outcome}")), calls + 1);
+    has_outcomes(&picture, &[(0, 2), (4, 1), (6, 1)]);
+    let moves = example("fuel").expect("the example is there").moves;
+    let picture = self::picture(&of_example("fuel"), moves.as_bytes());
+    has_outcomes(&picture, &[(0, 4), (1, 1), (7, 5)]);
+    assert!(picture.contains("outcome 7: out of fuel (5 calls)"));
+}
+
+/// Asserts how many bars a picture has of each outcome, and that the legend names it.
+fn has_outcomes(picture: &str, outcomes: &[(u16, usize)]) {
+    for (outcome, calls) in outcomes {
+        assert_eq!(bars(picture, &format!("outcome{outcome}")), calls + 1);
         assert!(picture.contains(&format!("outcome {outcome}: ")));
     }
 }

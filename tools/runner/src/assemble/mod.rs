@@ -11,12 +11,15 @@ use std::fmt;
 use crate::code::Parts;
 use crate::emit::{self, CallFields};
 use crate::key::Key;
-use crate::limits::{ARGUMENTS, FUNCTION_NAME_BYTES, INSTRUCTION_BYTES};
+use crate::limits::{ARGUMENTS, COMMON_FUEL, FUNCTION_NAME_BYTES, INSTRUCTION_BYTES};
 use instruction::Target;
 use words::{Place, Word, Words};
 
 /// What begins a comment.
 const COMMENT: char = '#';
+
+/// What stands before a call's fuel.
+const FUEL: &str = "fuel";
 
 /// How many instructions the 16 bits of a record's length have room for.
 const MOST_INSTRUCTIONS: usize = (u16::MAX as usize - FUNCTION_NAME_BYTES) / INSTRUCTION_BYTES;
@@ -144,9 +147,18 @@ impl<'a> Assembler<'a> {
             function: words.number("function")?,
             value: words.number("value")?,
             arguments: [0; ARGUMENTS],
+            fuel: COMMON_FUEL,
         };
-        for argument in &mut fields.arguments {
-            *argument = words.optional_number("argument")?.unwrap_or(0);
+        let mut arguments = fields.arguments.iter_mut();
+        while let Some(word) = words.optional() {
+            if word.text == FUEL {
+                fields.fuel = words.number(FUEL)?;
+                break;
+            }
+            match arguments.next() {
+                Some(argument) => *argument = word.number("argument")?,
+                None => return Err(word.error("word", "one too many")),
+            }
         }
         emit::call(&mut self.bytes, &fields);
         Ok(())

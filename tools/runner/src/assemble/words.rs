@@ -142,11 +142,6 @@ impl<'a> Words<'a> {
         self.word(name)?.number(name)
     }
 
-    /// The next word as a decimal number, if there is one.
-    pub fn optional_number<T: Number>(&mut self, name: &str) -> Result<Option<T>, Error> {
-        self.optional().map(|word| word.number(name)).transpose()
-    }
-
     /// The next word as a register, `r0` to `r7`.
     pub fn register(&mut self) -> Result<u8, Error> {
         let word = self.word("register")?;

@@ -31,8 +31,9 @@ pub enum Style {
     Paying,
 }
 
-/// Code of a length, sometimes with THROW as its last instruction.
-pub fn code(rng: &mut Rng, length: usize, style: Style) -> Vec<Parts> {
+/// Code of a length, sometimes with THROW as its last instruction; its jumps go
+/// in all directions or forward.
+pub fn code(rng: &mut Rng, length: usize, style: Style, loops: bool) -> Vec<Parts> {
     let mut code = Vec::new();
     while code.len() < length {
         match style {
@@ -46,7 +47,11 @@ pub fn code(rng: &mut Rng, length: usize, style: Style) -> Vec<Parts> {
     if let Some(last) = code.last_mut().filter(|_| rng.chance(15)) {
         *last = plain(op::THROW, 0);
     }
-    aim_jumps(rng, &mut code);
+    if loops {
+        aim_anywhere(rng, &mut code);
+    } else {
+        aim_forward(rng, &mut code);
+    }
     code
 }
 
@@ -228,16 +233,46 @@ fn jump(rng: &mut Rng) -> Parts {
 
 /// Gives every jump a target behind it, at most the code's length: mostly over
 /// one instruction.
-pub fn aim_jumps(rng: &mut Rng, code: &mut [Parts]) {
+pub fn aim_forward(rng: &mut Rng, code: &mut [Parts]) {
+    for (index, to, _) in jumps(code) {
+        *to = forward(rng, index);
+    }
+    keep_in_code(code);
+}
+
+/// Gives every jump a target: half of them forward, the others to an instruction
+/// before, to the own index, to the code's length, or anywhere.
+fn aim_anywhere(rng: &mut Rng, code: &mut [Parts]) {
+    for (index, to, length) in jumps(code) {
+        *to = match rng.weighted(&[10, 5, 1, 2, 2]) {
+            0 => forward(rng, index),
+            1 => rng.below(index + 1) as u32,
+            2 => index as u32,
+            3 => length as u32,
+            _ => rng.below(length + 1) as u32,
+        };
+    }
+    keep_in_code(code);
+}
+
+/// Each jump: its index, its target, and the code's length.
+fn jumps(code: &mut [Parts]) -> impl Iterator<Item = (usize, &mut u32, usize)> {
     let length = code.len();
-    for (index, parts) in code.iter_mut().enumerate() {
-        if parts.op == op::JEQ || parts.op == op::JLT {
-            let target = if rng.chance(60) {
-                index + 2
-            } else {
-                index + rng.between(1, 4)
-            };
-            parts.w = target.min(length) as u32;
-        }
+    code.iter_mut()
+        .enumerate()
+        .filter(|(_, parts)| parts.op == op::JEQ || parts.op == op::JLT)
+        .map(move |(index, parts)| (index, &mut parts.w, length))
+}
+
+/// A target behind an index: mostly over one instruction.
+fn forward(rng: &mut Rng, index: usize) -> u32 {
+    let further = if rng.chance(60) { 2 } else { rng.between(1, 4) };
+    (index + further) as u32
+}
+
+/// Targets past the code's length become the length.
+fn keep_in_code(code: &mut [Parts]) {
+    for (_, to, length) in jumps(code) {
+        *to = (*to).min(length as u32);
     }
 }

@@ -7,7 +7,7 @@ use crate::code::{decode, Parts};
 use crate::emit;
 use crate::key::Key;
 use crate::limits::{
-    FUNCTION_NAME_BYTES, HEAD_BYTES, INSTRUCTION_BYTES, KEY_BYTES, MAX_INSTRUCTIONS,
+    FUEL_AT, FUNCTION_NAME_BYTES, HEAD_BYTES, INSTRUCTION_BYTES, KEY_BYTES, MAX_INSTRUCTIONS,
 };
 use crate::rng::Rng;
 
@@ -226,9 +226,10 @@ fn break_cell(rng: &mut Rng, record: &mut [u8]) {
 }
 
 fn break_call(rng: &mut Rng, record: &mut [u8]) {
-    match rng.below(3) {
+    match rng.below(4) {
         0 => write(record, 0, &32_768u16.to_le_bytes()),
         1 => write(record, 2, &32_767u16.to_le_bytes()),
+        2 => write(record, FUEL_AT, &[0, 0]),
         _ => write(record, 6, &rng.pick(&[-1, i64::MIN]).to_le_bytes()),
     }
 }
@@ -239,8 +240,8 @@ fn break_instruction(rng: &mut Rng, record: &mut [u8]) {
     let index = rng.below(length);
     let bytes = &mut code[index * INSTRUCTION_BYTES..][..INSTRUCTION_BYTES];
     loop {
-        let broken = changed(rng, Parts::read(bytes));
-        if decode(broken, index, length).is_none() {
+        let broken = changed(rng, Parts::read(bytes), length);
+        if decode(broken, length).is_none() {
             bytes.copy_from_slice(&broken.to_bytes());
             return;
         }
@@ -248,14 +249,14 @@ fn break_instruction(rng: &mut Rng, record: &mut [u8]) {
 }
 
 /// An instruction with one part changed, broken by it or not.
-fn changed(rng: &mut Rng, mut parts: Parts) -> Parts {
+fn changed(rng: &mut Rng, mut parts: Parts, length: usize) -> Parts {
     let byte = rng.pick(&[0, 1, 5, 6, 7, 8, 255]);
     match rng.below(6) {
         0 => parts.op = rng.pick(&[16, 17, 255]),
         1 => parts.x = byte,
         2 => parts.y = byte,
         3 => parts.z = byte,
-        4 => parts.w = rng.pick(&[0, 1, 65, 65_536, u32::MAX]),
+        4 => parts.w = rng.pick(&[0, 1, length as u32 + 1, 65, 65_536, u32::MAX]),
         _ => parts.w ^= 1 << rng.below(32),
     }
     parts

@@ -6,8 +6,10 @@ use super::code::{code, Style, EDGE_FIELDS, FIELD_POOL};
 use crate::code::{op, Parts, SOURCE_CONSTANT};
 use crate::emit::{self, CallFields};
 use crate::key::Key;
-use crate::limits::MAX_BALANCE_SUM;
+use crate::limits::{COMMON_FUEL, MAX_BALANCE_SUM, MAX_WORKERS};
+use crate::machine::open;
 use crate::rng::Rng;
+use crate::serial;
 
 /// Senders and targets of payments.
 const ACCOUNT_POOL: [u16; 4] = [0, 5, 7, 32_767];
@@ -53,6 +55,9 @@ pub struct Shape {
     pub values: usize,
     /// Most bytes of the block.
     pub bytes: usize,
+    /// Most steps of all calls together where jumps go in all directions and fuel
+    /// is short; without it jumps go forward and no fuel runs out.
+    pub loops: Option<usize>,
 }
 
 /// Small blocks of all instructions.
@@ -62,7 +67,8 @@ pub const MIXED: Shape = Shape {
     instructions: (2, 8),
     calls: (1, 5),
     values: 50,
-    bytes: 280,
+    bytes: 290,
+    loops: Some(45),
 };
 /// Small blocks of calculations with edge operands.
 pub const CALCULATING: Shape = Shape {
@@ -90,6 +96,19 @@ pub const PAYING: Shape = Shape {
     calls: (2, 4),
     ..MIXED
 };
+
+/// Most steps of a block's calls where only the serial run makes many of them.
+const LONG_LOOPS: usize = 1_000;
+
+impl Shape {
+    /// The same with longer loops.
+    pub fn long(self) -> Shape {
+        Shape {
+            loops: Some(LONG_LOOPS),
+            ..self
+        }
+    }
+}
 
 /// The fields of a block's records.
 #[derive(Clone, Debug, Default)]
@@ -128,7 +147,8 @@ impl Draft {
     pub fn random(rng: &mut Rng, shape: Shape) -> Draft {
         loop {
             let draft = Draft::unlimited(rng, shape);
-            if draft.bytes().len() <= shape.bytes {
+            let bytes = draft.bytes();
+            if bytes.len() <= shape.bytes && shape.loops.is_none_or(|most| steps(&bytes) <= most) {
                 return draft;
             }
         }
@@ -159,7 +179,8 @@ impl Draft {
             } else {
                 rng.between(shape.instructions.0, shape.instructions.1)
             };
-            self.functions.insert(name, code(rng, length, shape.style));
+            self.functions
+                .insert(name, code(rng, length, shape.style, shape.loops.is_some()));
         }
     }
 
@@ -232,7 +253,24 @@ impl Draft {
                 0
             },
             arguments: std::array::from_fn(|_| rng.pick(&ARGUMENT_POOL)),
+            fuel: match shape.loops {
+                Some(_) => self.random_fuel(rng, (contract, function)),
+                None => COMMON_FUEL,
+            },
         }
+    }
+
+    /// Mostly about as much fuel as the function has instructions, else a little,
+    /// that of old blocks, or more than any code has instructions.
+    fn random_fuel(&self, rng: &mut Rng, function: (u16, u16)) -> u16 {
+        let length = self.functions.get(&function).map_or(0, Vec::len);
+        let fuel = match rng.weighted(&[7, 7, 4, 1]) {
+            0 => (length + rng.below(4)).saturating_sub(1).max(1),
+            1 => rng.between(1, 20),
+            2 => COMMON_FUEL.into(),
+            _ => rng.pick(&[65, 100, 255, 256, 400, 65_535]),
+        };
+        fuel as u16
     }
 
     /// A small value, one around the sender's opening balance, or the largest.
@@ -262,6 +300,7 @@ impl Draft {
             function: 0,
             value,
             arguments: [rng.pick(&ARGUMENT_POOL), 0, 0, 0],
+            fuel: rng.pick(&[cells, cells, cells - 1, 64]) as u16,
         };
         draft.calls.push(call);
         draft
@@ -288,6 +327,14 @@ fn random_contracts(rng: &mut Rng, shape: Shape) -> [u16; 2] {
         Style::Mixed | Style::Paying => [first, rng.pick(&CONTRACT_POOL)],
         Style::Calculating | Style::Touching => [first, first],
     }
+}
+
+/// The steps of a block's calls in the serial run; none if it is refused.
+fn steps(bytes: &[u8]) -> usize {
+    open(bytes, MAX_WORKERS).map_or(0, |opened| {
+        let ended = serial::run(&opened).ended;
+        ended.iter().map(|call| call.steps).sum()
+    })
 }
 
 fn written(write: impl FnOnce(&mut Vec<u8>)) -> Vec<u8> {

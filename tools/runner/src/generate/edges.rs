@@ -6,13 +6,13 @@ use crate::emit;
 use crate::limits::FIRST_CONTRACT;
 
 /// Records at the edges, as the assembler's text.
-const TEXTS: [&str; 58] = [
+const TEXTS: [&str; 62] = [
     // Missing or cut records.
     "",
     "raw 000004",
     "cell 5 0 0 0 1",
     "function 32768 0\nraw 0000",
-    "cell 5 0 0 0 1\nraw 1e000300 0500",
+    "cell 5 0 0 0 1\nraw 20000300 0500",
     "raw 0c000100 0080 0000 00000000000000",
     // Kinds.
     "raw 00000000",
@@ -27,8 +27,9 @@ const TEXTS: [&str; 58] = [
     "raw 0c020100",
     "raw 13000200",
     "raw 15000200",
-    "raw 1d000300",
+    "raw 1e000300 0500 0080 0000 0000000000000000 00000000000000000000000000000000\nend",
     "raw 1f000300",
+    "raw 21000300",
     "raw 01000400 00",
     // Fields outside their ranges.
     "function 32767 0\nend",
@@ -42,11 +43,14 @@ const TEXTS: [&str; 58] = [
     "call 32768 32768 0 0\nend",
     "call 5 32767 0 0\nend",
     "call 5 32768 0 -1\nend",
+    "function 32768 0\ncall 5 32768 0 0 fuel 0\nend",
+    "call 5 32768 9 0\ncall 5 32768 9 0 fuel 0\nend",
     // Fields at the edges of their ranges.
     "function 32768 0\nfunction 65535 65535\ncall 32767 65535 65535 0\nend",
     "cell 0 0 0 0 1\ncell 32767 0 0 0 1\ncell 65535 0 0 0 1\nend",
     "cell 32768 1 4294967295 4294967295 -9223372036854775808\nend",
     "call 0 65535 65535 9223372036854775807 4294967295 0 0 4294967295\nend",
+    "function 32768 0\ncall 5 32768 0 0 fuel 1\ncall 5 32768 1 0 fuel 65535\nend",
     // Order.
     "function 32768 0\nfunction 32768 0\nend",
     "function 32769 0\nfunction 32768 1\nend",
@@ -67,7 +71,7 @@ const TEXTS: [&str; 58] = [
     // Two faults in one record.
     "raw 07000900",
     "raw 13000200 0500",
-    "raw 1e000300 ffff",
+    "raw 20000300 ffff",
     "function 5 0\nword 99 0 0 0 0\nend",
     "function 32768 0\nfunction 32768 0\nstop\nword 99 0 0 0 0\nend",
     "cell 5 0 0 0 1\ncell 5 0 0 0 0\nend",
@@ -78,7 +82,7 @@ const TEXTS: [&str; 58] = [
 ];
 
 /// A good instruction of each opcode, the only one of its code.
-const GOOD: [(u8, u8, u8, u8, u32); 17] = [
+const GOOD: [(u8, u8, u8, u8, u32); 19] = [
     (op::STOP, 0, 0, 0, 0),
     (op::THROW, 0, 0, 0, 0),
     (op::SET, 7, 0, 0, u32::MAX),
@@ -94,7 +98,9 @@ const GOOD: [(u8, u8, u8, u8, u32); 17] = [
     (op::BAL, 7, 0, 0, 0),
     (op::PAY, 7, 5, 0, 0),
     (op::PAY, 7, SOURCE_CONSTANT, 0, 0xffff_0000),
+    (op::JEQ, 7, 7, 0, 0),
     (op::JEQ, 7, 7, 0, 1),
+    (op::JLT, 7, 7, 0, 0),
     (op::JLT, 7, 7, 0, 1),
 ];
 /// Numbers that are tried in the place of each good w.
@@ -147,5 +153,5 @@ fn broken_bytes(with: impl Fn(u8) -> Parts) -> Vec<Parts> {
 }
 
 fn is_good(parts: Parts) -> bool {
-    decode(parts, 0, 1).is_some()
+    decode(parts, 1).is_some()
 }

@@ -1,12 +1,13 @@
 //! Blocks at the limits and beyond them.
 
-use super::code::aim_jumps;
+use super::code::aim_forward;
 use super::draft::Draft;
 use crate::code::{op, Parts};
 use crate::emit::CallFields;
 use crate::key::Key;
 use crate::limits::{
-    FIRST_CONTRACT, MAX_BLOCK_BYTES, MAX_CALLS, MAX_CALL_KEYS, MAX_CELLS, MAX_FUNCTIONS, MAX_KEYS,
+    COMMON_FUEL, FIRST_CONTRACT, MAX_BLOCK_BYTES, MAX_CALLS, MAX_CALL_KEYS, MAX_CELLS,
+    MAX_FUNCTIONS, MAX_KEYS,
 };
 use crate::rng::Rng;
 
@@ -18,12 +19,17 @@ const ACCOUNTS: u16 = 40;
 const INDICES: u32 = ((MAX_KEYS - ACCOUNTS as usize) / MAX_CALL_KEYS) as u32;
 /// What each account opens with.
 const BALANCE: i64 = 1_000_000;
-/// Instructions of each function: 64 functions, 1,024 cells and 256 calls fit.
-const INSTRUCTIONS: usize = 62;
-/// Calls of the block of exactly the largest size.
-const FULL_BLOCK_CALLS: usize = 254;
-/// How many functions of that block have one instruction more.
-const FULL_BLOCK_LONGER: usize = 8;
+/// Instructions of each function: 64 functions, one of them shorter by one, 1,024
+/// cells and 256 calls fit.
+const INSTRUCTIONS: usize = 61;
+/// How many functions are shorter by one.
+const SHORTER: usize = 1;
+/// Instructions of each function of the block of exactly the largest size.
+const FULL_BLOCK_INSTRUCTIONS: usize = 62;
+/// Calls of that block.
+const FULL_BLOCK_CALLS: usize = 253;
+/// How many of its functions are shorter by one.
+const FULL_BLOCK_SHORTER: usize = 51;
 
 /// What a large block is for.
 #[derive(Clone, Copy, Debug, PartialEq, Eq)]
@@ -61,8 +67,8 @@ pub const LARGES: [Large; 8] = [
 /// The bytes of a large block.
 pub fn block(rng: &mut Rng, large: Large) -> Vec<u8> {
     match large {
-        Large::Apart => sized(rng, INSTRUCTIONS - 1, MAX_CALLS, 0).bytes(),
-        Large::Crowded => sized(rng, INSTRUCTIONS - 1, MAX_CALLS, 1).bytes(),
+        Large::Apart => limits(rng, 0).bytes(),
+        Large::Crowded => limits(rng, 1).bytes(),
         Large::Full => full(rng).bytes(),
         Large::TooLong => too_long(rng),
         Large::Functions => {
@@ -99,12 +105,32 @@ fn sized(rng: &mut Rng, instructions: usize, calls: usize, value: i64) -> Draft 
     draft
 }
 
-fn full(rng: &mut Rng) -> Draft {
-    let mut draft = sized(rng, INSTRUCTIONS, FULL_BLOCK_CALLS, 0);
-    for code in draft.functions.values_mut().take(FULL_BLOCK_LONGER) {
-        code.push(Parts::default());
-    }
+/// All numbers at their limits, with a value of each call.
+fn limits(rng: &mut Rng, value: i64) -> Draft {
+    let mut draft = sized(rng, INSTRUCTIONS, MAX_CALLS, value);
+    shorten(&mut draft, SHORTER);
     draft
+}
+
+fn full(rng: &mut Rng) -> Draft {
+    let mut draft = sized(rng, FULL_BLOCK_INSTRUCTIONS, FULL_BLOCK_CALLS, 0);
+    shorten(&mut draft, FULL_BLOCK_SHORTER);
+    draft
+}
+
+/// So many of the last functions lose one instruction that uses no cell. Jumps
+/// over it stay jumps over the others.
+fn shorten(draft: &mut Draft, functions: usize) {
+    for code in draft.functions.values_mut().rev().take(functions) {
+        let uses_no_cell = |parts: &Parts| parts.op != op::GET && parts.op != op::PUT;
+        if let Some(lost) = code.iter().rposition(uses_no_cell) {
+            code.remove(lost);
+            let jumps = code.iter_mut().filter(|parts| parts.op == op::JLT);
+            for jump in jumps.filter(|jump| jump.w as usize > lost) {
+                jump.w -= 1;
+            }
+        }
+    }
 }
 
 fn too_long(rng: &mut Rng) -> Vec<u8> {
@@ -152,6 +178,7 @@ fn call(rng: &mut Rng, value: i64) -> CallFields {
         function: rng.below(MAX_FUNCTIONS) as u16,
         value,
         arguments: std::array::from_fn(|_| rng.below(INDICES as usize) as u32),
+        fuel: COMMON_FUEL,
     }
 }
 
@@ -176,7 +203,7 @@ fn code(rng: &mut Rng, instructions: usize, fields: usize) -> Vec<Parts> {
         code.push(more);
     }
     shuffle(rng, &mut code);
-    aim_jumps(rng, &mut code);
+    aim_forward(rng, &mut code);
     code
 }
 

@@ -6,6 +6,7 @@ mod damage;
 pub mod draft;
 pub mod edges;
 pub mod large;
+pub mod loops;
 pub mod moves;
 pub mod programs;
 pub mod sized;
@@ -70,8 +71,13 @@ const MANY_CALLS: Shape = Shape {
     instructions: (4, 24),
     calls: (20, 120),
     values: 50,
-    bytes: 8_000,
+    bytes: 8_240,
+    loops: None,
 };
+
+/// Behind how many numbers of the seed these blocks begin, whatever the large ones
+/// before them drew.
+const MANY_CALLS_NUMBERS: u64 = 456_163;
 
 /// Keys of a call at the limit, one above it and more.
 const KEY_COUNTS: [usize; 3] = [24, 25, 26];
@@ -80,7 +86,7 @@ const KEY_COUNTS: [usize; 3] = [24, 25, 26];
 #[derive(Clone, Copy, Debug)]
 enum Theme {
     Accepted(Shape, Plan),
-    Program,
+    Program(usize),
     Keys,
     Edge(usize),
     Edited,
@@ -92,13 +98,15 @@ enum Theme {
 const MANY_EDGES: usize = 1_000;
 /// How many turns of `Edge` a round has.
 const EDGE_TURNS: usize = 6;
+/// How many turns of `Program` a round has.
+const PROGRAM_TURNS: usize = 2;
 /// How many turns of `Damaged` a round has.
 const DAMAGED_TURNS: usize = 2;
 
 /// The themes of consecutive small cases.
-const THEMES: [Theme; 22] = [
+const THEMES: [Theme; 23] = [
     Theme::Accepted(MIXED, COMPLETE),
-    Theme::Program,
+    Theme::Program(0),
     Theme::Edge(0),
     Theme::Accepted(TOUCHING, EAGER),
     Theme::Damaged(0),
@@ -109,6 +117,7 @@ const THEMES: [Theme; 22] = [
     Theme::Accepted(MIXED, MALFORMED),
     Theme::Edge(2),
     Theme::Keys,
+    Theme::Program(1),
     Theme::Accepted(CALCULATING, COMPLETE),
     Theme::Edge(3),
     Theme::Accepted(TOUCHING, EAGER),
@@ -134,7 +143,7 @@ pub fn small_cases(seed: u64, count: usize) -> Vec<Case> {
 pub fn large_cases(seed: u64, count: usize) -> Vec<Case> {
     let mut rng = Rng::new(seed);
     (0..count)
-        .map(|index| large_case(&mut rng, index))
+        .map(|index| large_case(&mut rng, seed, index))
         .collect()
 }
 
@@ -142,7 +151,10 @@ fn small_case(rng: &mut Rng, index: usize, first_edge: usize) -> Case {
     let (round, theme) = (index / THEMES.len(), THEMES[index % THEMES.len()]);
     let (block, plan) = match theme {
         Theme::Accepted(shape, plan) => (Draft::random(rng, shape).bytes(), plan),
-        Theme::Program => (programs::block(round), EAGER),
+        Theme::Program(turn) => {
+            let program = round * PROGRAM_TURNS + turn;
+            (programs::block(program), EAGER)
+        }
         Theme::Keys => {
             let keys = KEY_COUNTS[round % KEY_COUNTS.len()];
             (Draft::with_keys(rng, keys).bytes(), COMPLETE)
@@ -158,13 +170,20 @@ fn small_case(rng: &mut Rng, index: usize, first_edge: usize) -> Case {
     case(rng, block, plan)
 }
 
-fn large_case(rng: &mut Rng, index: usize) -> Case {
-    let kind = index % (LARGES.len() + 1);
-    let block = match LARGES.get(kind) {
-        Some(large) => large::block(rng, *large),
-        None => Draft::random(rng, MANY_CALLS).bytes(),
-    };
-    case(rng, block, LONG)
+fn large_case(rng: &mut Rng, seed: u64, index: usize) -> Case {
+    let kinds = LARGES.len() + 1;
+    let (round, kind) = (index / kinds, index % kinds);
+    match LARGES.get(kind) {
+        Some(large) => {
+            let block = large::block(rng, *large);
+            case(rng, block, LONG)
+        }
+        None => {
+            let mut rng = Rng::behind(seed, MANY_CALLS_NUMBERS + round as u64);
+            let block = Draft::random(&mut rng, MANY_CALLS).bytes();
+            case(&mut rng, block, LONG)
+        }
+    }
 }
 
 /// A block with one byte changed, which may still be good.

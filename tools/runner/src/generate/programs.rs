@@ -3,7 +3,67 @@
 use crate::assemble::assemble;
 
 /// The blocks, as the assembler's text.
-const TEXTS: [&str; 9] = [
+const TEXTS: [&str; 12] = [
+    // A loop that adds the first argument as often as the second says, with fuel
+    // for all of it, for all but the last instruction, and for the end alone.
+    "function 32768 0
+        arg r0 arg1
+        arg r1 arg2
+        set r2 1
+        jlt r1 r2 8
+        add r3 r3 r0
+        sub r1 r1 r2
+        put r3 1 zero zero
+        jeq r0 r0 3
+    call 5 32768 0 0 7 2 fuel 14
+    call 5 32768 0 0 7 2 fuel 13
+    call 5 32768 0 0 7 1 fuel 64
+    call 5 32768 0 0 7 0 fuel 4
+    call 5 32768 0 0 7 0 fuel 3
+    end",
+    // A jump to its own index, and an endless loop over PUT behind a value: both
+    // run out of fuel and all is restored.
+    "function 32768 0
+        value r0
+        put r0 1 zero zero
+        jeq r0 r0 1
+    function 32768 1
+        jeq r0 r0 0
+    function 32768 2
+        jlt r0 r1 0
+    cell 5 0 0 0 3
+    cell 32768 1 0 0 9
+    call 5 32768 0 2 fuel 12
+    call 5 32768 1 0 fuel 1
+    call 5 32768 1 0 fuel 18
+    call 5 32768 2 0 fuel 1
+    call 5 32768 0 3 fuel 2
+    end",
+    // STOP, THROW and a failing instruction that are due without fuel; jumps to
+    // the code's length from its end and from its middle.
+    "function 32768 0
+        jeq r0 r1 2
+        stop
+        jeq r0 r0 4
+        throw
+    function 32768 1
+        sender r0
+        stop
+    function 32768 2
+        set r0 1
+        throw
+    function 32768 3
+        set r0 1
+        div r0 r0 r1
+    call 5 32768 0 0 fuel 2
+    call 5 32768 0 0 fuel 1
+    call 5 32768 1 0 fuel 1
+    call 5 32768 1 0 fuel 2
+    call 5 32768 2 0 fuel 1
+    call 5 32768 2 0 fuel 2
+    call 5 32768 3 0 fuel 1
+    call 5 32768 9 0 fuel 1
+    end",
     // Quotients of all signs.
     "function 32768 0
         set r0 -7

@@ -7,7 +7,7 @@ use crate::code::{op, Parts};
 use crate::console::register;
 use crate::emit::CallFields;
 use crate::key::Key;
-use crate::limits::{FIRST_CONTRACT, MAX_CALLS, MAX_KEYS, MAX_WORKERS};
+use crate::limits::{COMMON_FUEL, FIRST_CONTRACT, MAX_CALLS, MAX_KEYS, MAX_WORKERS};
 use crate::machine::{open, Machine, Move, Opened, State};
 use crate::rng::Rng;
 
@@ -121,6 +121,7 @@ fn draft(rng: &mut Rng, sizes: Sizes) -> Draft {
             function: rng.below(FUNCTIONS) as u16,
             value: 0,
             arguments: [read, written, 1, 2],
+            fuel: COMMON_FUEL,
         });
     }
     draft

@@ -2,7 +2,7 @@
 //! stepped to its end".
 
 use super::Run;
-use crate::limits::{MAX_CALLS, MAX_STEPS};
+use crate::limits::MAX_CALLS;
 use crate::machine::Move;
 
 /// The worker of the serial run.
@@ -10,8 +10,8 @@ const WORKER: usize = 0;
 
 impl Run {
     /// Each call in turn is begun on worker 0, which then steps until it holds
-    /// no call. A run whose moves are refused has at most as many calls and
-    /// steps as a good one, and goes on with the next.
+    /// no call or a step is refused. A refused step changes nothing, so that
+    /// trying it again would not help; the run goes on with the next call.
     pub fn run_serially(&mut self, block: &[u8]) {
         for call in 0..self.head.calls.min(MAX_CALLS as u64) as usize {
             let _ = self.apply(
@@ -21,11 +21,10 @@ impl Run {
                     call,
                 },
             );
-            for _ in 0..MAX_STEPS {
-                if self.head.held[WORKER] == 0 {
+            while self.head.held[WORKER] != 0 {
+                if self.apply(block, Move::Step { worker: WORKER }).is_err() {
                     break;
                 }
-                let _ = self.apply(block, Move::Step { worker: WORKER });
             }
         }
     }

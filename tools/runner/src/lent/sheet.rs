@@ -4,7 +4,7 @@ use super::{Run, EXECUTED, FINISHED, KEY_WORDS, OUTCOME};
 use crate::execute::Outcome;
 use crate::key::Key;
 use crate::limits::{
-    BALANCE_FIELD, CELL_BYTES, HEAD_BYTES, MAX_CALLS, MAX_INSTRUCTIONS, MAX_KEYS, RECEIPT_BYTES,
+    BALANCE_FIELD, CELL_BYTES, HEAD_BYTES, MAX_CALLS, MAX_FUEL, MAX_KEYS, RECEIPT_BYTES,
 };
 use crate::refusal::SheetRefusal;
 use crate::sheet::Sheet;
@@ -81,7 +81,7 @@ impl Run {
     fn receipt(&self, call: usize) -> Result<(u16, u16), SheetRefusal> {
         let outcome = self.status_word(call, OUTCOME);
         let count = self.status_word(call, EXECUTED);
-        if outcome > Outcome::LAST.number().into() || count > MAX_INSTRUCTIONS as u64 {
+        if outcome > Outcome::LAST.number().into() || count > MAX_FUEL.into() {
             return Err(SheetRefusal::Damaged);
         }
         Ok((outcome as u16, count as u16))

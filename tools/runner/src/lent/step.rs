@@ -36,14 +36,14 @@ struct Stepping<'a> {
 }
 
 impl Run {
-    /// STEP(worker): 20, 21, 26, then one step of the worker's call.
+    /// STEP(worker): 20, 21, 26, then one step of the worker's call. The entry looks
+    /// at neither the fuel nor the seat's count; every other step tests both first.
     pub fn step(&mut self, block: &[u8], worker: usize) -> Result<(), MoveRefusal> {
         let number = self.held(worker)?;
         let place = self.seat_word(worker, PLACE);
         let count = self.seat_word(worker, COUNT);
         let code = self.plan_word(number, CODE_LENGTH);
-        let longest = MAX_INSTRUCTIONS as u64;
-        if code > longest + 1 || place > code || count > longest {
+        if code > MAX_INSTRUCTIONS as u64 + 1 || place > code {
             return Err(MoveRefusal::Damaged);
         }
         let mut stepping = Stepping {
@@ -54,11 +54,16 @@ impl Run {
             stores: Stores::new(),
         };
         let (turn, count) = if place == 0 {
-            (stepping.enter(code)?, count)
-        } else if place == code {
-            (Turn::Ends(Outcome::Done), count)
+            (stepping.enter(code)?, 0)
         } else {
-            (stepping.run(block, place)?, count + 1)
+            let left = stepping.fuel_left(count)?;
+            if place == code {
+                (Turn::Ends(Outcome::Done), count)
+            } else if left == 0 {
+                (Turn::Ends(Outcome::OutOfFuel), count)
+            } else {
+                (stepping.run(block, place)?, count + 1)
+            }
         };
         let Stepping {
             registers, stores, ..
@@ -147,6 +152,14 @@ impl Stepping<'_> {
         Ok(Turn::Goes { place: 1 })
     }
 
+    /// How much fuel is left behind a count: 20 if the lent record's fuel is 0 or
+    /// the count is above it.
+    fn fuel_left(&self, count: u64) -> Result<u64, MoveRefusal> {
+        let fuel = Some(u64::from(self.call.fuel)).filter(|fuel| *fuel > 0);
+        fuel.and_then(|fuel| fuel.checked_sub(count))
+            .ok_or(MoveRefusal::Damaged)
+    }
+
     /// Runs the instruction at a place behind the entry and before the end.
     fn run(&mut self, block: &[u8], place: u64) -> Result<Turn, MoveRefusal> {
         let index = place as usize - 1;
@@ -200,7 +213,7 @@ impl Stepping<'_> {
         let start = self.run.plan_word(self.number, CODE_START);
         let code = stretch(block, start.into(), length * INSTRUCTION_BYTES)?;
         let parts = Parts::read(&code[index * INSTRUCTION_BYTES..]);
-        decode(parts, index, length).ok_or(MoveRefusal::Damaged)
+        decode(parts, length).ok_or(MoveRefusal::Damaged)
     }
 
     fn cell(&self, used: Use) -> Result<usize, MoveRefusal> {
@@ -237,7 +250,7 @@ impl Stepping<'_> {
 }
 
 /// The record of a call in the lent block: 20 if it is not all there or a field
-/// is outside its range. Its length and kind are not looked at.
+/// other than the fuel is outside its range. Its length and kind are not looked at.
 fn call_record(block: &[u8], first: u64, number: usize) -> Result<Call, MoveRefusal> {
     let record = HEAD_BYTES + CALL_BYTES;
     let start = u128::from(first) + (number * record) as u128;

@@ -6,6 +6,7 @@ pub mod blocks;
 pub mod damage;
 pub mod edges;
 pub mod files;
+pub mod fuel;
 pub mod moves;
 pub mod serial;
 pub mod sheets;

@@ -1,9 +1,7 @@
 //! Cases of serial runs: a block opened, some moves, some damages to what the
 //! moves of the serial run use, the serial run; the damages are taken back, and
-//! the serial run again. The first case has as many calls and steps as there can
-//! be.
-
-use std::iter::once;
+//! the serial run again. The first case has as many calls as there can be, of
+//! the longest code, and the second a call of the most fuel.
 
 use super::damage::{repair, Aim, Target, OF_BEGIN, OF_STEP};
 use super::moves::longer;
@@ -29,8 +27,9 @@ const LONG: usize = 3;
 /// The cases of a seed.
 pub fn cases(seed: u64, count: usize) -> Vec<Case> {
     let mut rng = Rng::new(seed);
-    let drawn = (1..count).map(|index| case(&mut rng, index));
-    once(longest()).chain(drawn).collect()
+    let fixed = [longest(), most_fuel()].into_iter().take(count);
+    let drawn = (2..count).map(|index| case(&mut rng, index));
+    fixed.chain(drawn).collect()
 }
 
 /// 256 calls of 66 steps each, which all change one cell; first with one call
@@ -55,6 +54,18 @@ fn longest() -> Case {
             calls(MAX_CALLS),
             Operation::Serial,
         ],
+    }
+}
+
+/// A call of fuel 65,535 that loops over a PUT, which is restored, and its sheet.
+fn most_fuel() -> Case {
+    let text = "function 32768 0\nadd r0 r0 r1\nput r0 1 zero zero\nset r1 1\njeq r0 r0 0\n\
+                cell 32768 1 0 0 9\ncall 5 32768 0 0 fuel 65535\ncall 5 32768 0 0 fuel 1\nend\n";
+    Case {
+        block: assemble(text).expect("the text is a block's"),
+        sizes: Sizes::FIXED,
+        workers: 1,
+        operations: vec![Operation::Serial, Operation::Sheet { room: 44 }],
     }
 }
 
@@ -98,7 +109,7 @@ fn opened(rng: &mut Rng, index: usize) -> (Vec<u8>, Player) {
         _ => Sizes::FIXED,
     };
     loop {
-        let block = Draft::random(rng, shape).bytes();
+        let block = Draft::random(rng, shape.long()).bytes();
         let (opened, player) = Player::open(&block, MAX_WORKERS, sizes);
         if opened.is_ok() && player.run.head.calls > 0 {
             return (block, player);

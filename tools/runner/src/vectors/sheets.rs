@@ -10,7 +10,7 @@ use crate::lent::{
     STATUS_WORDS, WAITING, WAITS,
 };
 use crate::limits::{
-    BALANCE_FIELD, CELL_BYTES, HEAD_BYTES, MAX_CALLS, MAX_INSTRUCTIONS, MAX_KEYS, MAX_WORKERS,
+    BALANCE_FIELD, CELL_BYTES, HEAD_BYTES, MAX_CALLS, MAX_FUEL, MAX_KEYS, MAX_WORKERS,
     RECEIPT_BYTES,
 };
 use crate::machine::Move;
@@ -200,12 +200,12 @@ fn damage(rng: &mut Rng, run: &Run, target: Target) -> Option<Operation> {
                 value: run.keys[index] ^ flipped,
             }
         }
-        Target::Outcome => status(OUTCOME, rng.pick(&[6, 7, 7, 65_536, u64::MAX])),
+        Target::Outcome => status(OUTCOME, rng.pick(&[7, 8, 8, 65_536, u64::MAX])),
         Target::Count => {
-            let most = MAX_INSTRUCTIONS as u64;
+            let most = u64::from(MAX_FUEL);
             status(
                 EXECUTED,
-                rng.pick(&[most, most + 1, most + 1, 65_536, u64::MAX]),
+                rng.pick(&[65, most, most + 1, most + 1, 1 << 32, u64::MAX]),
             )
         }
         Target::Unused if rng.chance(25) => status(WAITS, rng.pick(&[1, 257, u64::MAX])),

@@ -10,10 +10,12 @@ use crate::lent::{Sizes, FINISHED, PLAN_WORDS, ROW, RUNNING, STATE, STATUS_WORDS
 use crate::limits::{MAX_CALLS, MAX_WORKERS};
 use crate::machine::Move;
 
-/// How a function ends: its text, the value of its calls, and their steps.
+/// How a function ends: its text, the value and the fuel of its calls, and their
+/// steps.
 struct Ending {
     function: &'static str,
     value: u64,
+    fuel: u16,
     steps: usize,
 }
 
@@ -22,38 +24,51 @@ const ENDINGS: [Ending; Outcome::LAST as usize + 1] = [
     Ending {
         function: "function 32768 0\nset r0 1\nput r0 1 zero zero\n",
         value: 0,
+        fuel: 64,
         steps: 4,
     },
     Ending {
         function: "",
         value: 0,
+        fuel: 64,
         steps: 1,
     },
     Ending {
         function: "function 32768 0\nput r0 1 zero zero\n",
         value: 3,
+        fuel: 64,
         steps: 1,
     },
     Ending {
         function: "function 32768 0\nset r0 1\nput r0 1 zero zero\nthrow\n",
         value: 2,
+        fuel: 64,
         steps: 4,
     },
     Ending {
         function: "function 32768 0\nset r0 -2147483648\nput r0 1 zero zero\n\
                    mul r1 r0 r0\nadd r1 r1 r1\n",
         value: 2,
+        fuel: 64,
         steps: 5,
     },
     Ending {
         function: "function 32768 0\nset r0 3\nput r0 1 zero zero\npay r0 const 7\n",
         value: 2,
+        fuel: 64,
         steps: 4,
     },
     Ending {
         function: "function 32768 0\nset r0 1\nput r0 1 zero zero\ndiv r0 r0 r1\n",
         value: 2,
+        fuel: 64,
         steps: 4,
+    },
+    Ending {
+        function: "function 32768 0\nset r0 1\nput r0 1 zero zero\njeq r0 r0 1\n",
+        value: 2,
+        fuel: 5,
+        steps: 7,
     },
 ];
 
@@ -84,7 +99,7 @@ impl Script {
     /// A block of five calls of one function, of which all conflict if it is
     /// known.
     fn of(ending: &Ending) -> Script {
-        let call = format!("call 5 32768 0 {}\n", ending.value);
+        let call = format!("call 5 32768 0 {} fuel {}\n", ending.value, ending.fuel);
         let text = format!(
             "{}cell 5 0 0 0 2\n{}end\n",
             ending.function,

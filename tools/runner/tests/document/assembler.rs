@@ -18,9 +18,40 @@ fn records_in_bytes() {
     assert_eq!(cell[4..16], [0, 128, 1, 0, 2, 0, 0, 0, 3, 0, 0, 0]);
     assert_eq!(cell[16..], [255; 8]);
     let call = block("call 5 32768 7 9 1 2");
-    assert_eq!(call[..4], [30, 0, 3, 0]);
+    assert_eq!(call[..4], [32, 0, 3, 0]);
     assert_eq!(call[4..18], [5, 0, 0, 128, 7, 0, 9, 0, 0, 0, 0, 0, 0, 0]);
-    assert_eq!(call[18..], [1, 0, 0, 0, 2, 0, 0, 0, 0, 0, 0, 0, 0, 0, 0, 0]);
+    assert_eq!(
+        call[18..34],
+        [1, 0, 0, 0, 2, 0, 0, 0, 0, 0, 0, 0, 0, 0, 0, 0]
+    );
+    assert_eq!(call[34..], [64, 0]);
+}
+
+#[test]
+fn fuel_stands_behind_the_arguments() {
+    for (text, arguments, fuel) in [
+        ("", [0; 4], 64),
+        ("fuel 1", [0; 4], 1),
+        ("7 8 9 10", [7, 8, 9, 10], 64),
+        ("7 8 fuel 258", [7, 8, 0, 0], 258),
+        ("7 8 9 10 fuel 65535", [7, 8, 9, 10], 65_535),
+        ("fuel 0", [0; 4], 0),
+    ] {
+        let call = block(&format!("call 5 32768 7 9 {text}"));
+        let bytes: Vec<u8> = arguments
+            .iter()
+            .flat_map(|n: &u32| n.to_le_bytes())
+            .collect();
+        assert_eq!(call[18..34], bytes, "{text}");
+        assert_eq!(call[34..], u16::to_le_bytes(fuel), "{text}");
+    }
+    fails("call 5 32768 7 9 fuel", "1:22: fuel is missing");
+    fails("call 5 32768 7 9 fuel 1 2", "1:25: word 2: one too many");
+    fails("call 5 32768 7 9 1 2 3 4 5", "1:26: word 5: one too many");
+    fails(
+        "call 5 32768 7 9 fuel 65536",
+        "1:23: fuel 65536: not a number from 0 to 65535",
+    );
 }
 
 #[test]

@@ -224,7 +224,7 @@ fn the_full_folder_ends_with_its_last_line() {
     }
     assert_eq!(
         printed.lines().filter(|line| line.starts_with('t')).count(),
-        254
+        253
     );
     let feed = full.input.iter().rposition(|byte| *byte == b'\n').unwrap();
     let input = full.input[..=feed].to_vec();

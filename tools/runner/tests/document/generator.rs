@@ -4,6 +4,7 @@ use std::collections::BTreeSet;
 
 use runner::console;
 use runner::coverage::Coverage;
+use runner::generate::loops::Loops;
 use runner::generate::sized::{self, Sizes, CALL_LINES};
 use runner::generate::{edges, large_cases, programs, small_cases};
 use runner::limits::{MAX_BLOCK_BYTES, MAX_WORKERS};
@@ -40,6 +41,7 @@ fn small_cases_show_everything_that_small_blocks_can() {
             "seed {seed}"
         );
         assert!(coverage.cancels > 0 && coverage.jumps > 0, "seed {seed}");
+        assert!(coverage.loops > 10, "seed {seed}");
         assert!(coverage.complete > COUNT / 3, "seed {seed}");
     }
 }
@@ -66,7 +68,7 @@ fn edge_blocks_are_all_reached() {
 
 #[test]
 fn programs_are_good_blocks() {
-    assert!((0..9).all(|turn| open(&programs::block(turn), MAX_WORKERS).is_ok()));
+    assert!((0..12).all(|turn| open(&programs::block(turn), MAX_WORKERS).is_ok()));
 }
 
 #[test]
@@ -131,6 +133,34 @@ fn sized_cases_have_their_sizes() {
             "{sizes:?}"
         );
     }
+}
+
+#[test]
+fn loops_run_out_of_fuel_with_their_last_line() {
+    for (calls, fuel) in [(1, 1), (3, 7), (256, 64), (1, 65_535)] {
+        let loops = Loops { calls, fuel };
+        let block = loops.block().expect("the sizes fit");
+        let mut moves = Vec::new();
+        loops.write_moves(&mut moves).expect("a vector takes all");
+        assert_eq!(
+            console::lines(&moves).count(),
+            calls * (3 + usize::from(fuel))
+        );
+        let printed = console::register(&block, &moves);
+        let receipts: String = (0..calls)
+            .map(|call| format!("t {call} 7 {fuel}\n"))
+            .collect();
+        assert_eq!(printed, receipts);
+        let before_last = &moves[..moves.len() - "s 0\n".len()];
+        assert_eq!(console::register(&block, before_last), "r 0 27\n");
+    }
+    assert!(Loops {
+        calls: 257,
+        fuel: 1
+    }
+    .block()
+    .is_err());
+    assert!(Loops { calls: 1, fuel: 0 }.block().is_err());
 }
 
 #[test]

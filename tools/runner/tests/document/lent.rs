@@ -102,7 +102,7 @@ fn the_opening_of_p() {
     let (run, bytes) = lent(P);
     let head = &run.head;
     assert_eq!((head.workers, head.calls, head.cells), (8, 3, 4));
-    assert_eq!(head.first as usize, bytes.len() - 4 - 3 * 34);
+    assert_eq!(head.first as usize, bytes.len() - 4 - 3 * 36);
     // Cells: 0 account 5, 1 account 7, 2 the contract's balance, 3 its field 1.
     assert_eq!(run.keys[..4], [5 << 48, 0, 7 << 48, 0]);
     assert_eq!(run.keys[4..8], [32768 << 48, 0, 32768 << 48 | 1 << 32, 0]);
@@ -345,11 +345,12 @@ fn what_a_step_at_the_entry_tests() {
         (|run| run.plan[32 + 1] = 66, 20),
         (|run| run.plan[32 + 1] = 65, 0),
         (|run| run.plan[32 + 1] = 0, 0),
-        (|run| run.seats[17] = 65, 20),
+        // The entry does not look at the count.
         (|run| run.seats[17] = 64, 0),
-        (|run| run.seats[17] = 1 << 32, 20),
+        (|run| run.seats[17] = 65, 0),
+        (|run| run.seats[17] = u64::MAX, 0),
         (|run| run.seats[18..32].fill(u64::MAX), 0),
-        (|run| run.head.first += 69, 20),
+        (|run| run.head.first += 73, 20),
         (|run| run.head.first = u64::MAX - 60, 20),
         (|run| run.cells[0] = -1, 20),
         (|run| run.cells[2] = -1, 20),
@@ -364,7 +365,7 @@ fn what_a_step_at_the_entry_tests() {
         (|run| run.status[4] = 3, 0),
     ];
     expect(&run, &bytes, step(1), &damages);
-    let end = run.head.first as usize + 2 * 34;
+    let end = run.head.first as usize + 2 * 36;
     assert_eq!(answer(&run, &bytes[..end], step(1)), 0);
     assert_eq!(answer(&run, &bytes[..end - 1], step(1)), 20);
 }

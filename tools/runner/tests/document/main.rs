@@ -7,6 +7,7 @@ mod damaged_waits;
 mod edges;
 mod errors;
 mod examples;
+mod fuel;
 mod generator;
 mod instructions;
 mod lent;

@@ -53,7 +53,7 @@ fn within_a_record() {
     refused("raw 13000200 0500", 4, 0);
     // Cut body before the limit, the fields and the code.
     refused(&(functions() + "raw 0c000100 0000 0000 ff"), 2, 512);
-    refused("raw 1e000300 ffff", 2, 0);
+    refused("raw 20000300 ffff", 2, 0);
     // The limit before fields, code and order.
     refused(&(functions() + "function 5 0\nend"), 7, 512);
     refused(
@@ -102,8 +102,8 @@ fn the_first_record_with_a_fault_answers() {
 #[test]
 fn the_end_and_what_follows_before_the_sets() {
     let text = format!("function 32768 0\n{}call 5 32768 0 0\n", many_keys());
-    refused(&(text.clone() + "end\nraw 00"), 8, 246);
-    refused(&text, 2, 242);
+    refused(&(text.clone() + "end\nraw 00"), 8, 248);
+    refused(&text, 2, 244);
     refused(&(text + "end"), 11, 208);
 }
 
@@ -122,5 +122,5 @@ fn the_sets_call_by_call() {
     refused(&calls("0", "9"), 11, first_call);
     refused(&calls("1", "0"), 12, first_call);
     refused(&calls("0", "1"), 11, first_call);
-    refused(&calls("9", "1"), 12, first_call + 34);
+    refused(&calls("9", "1"), 12, first_call + 36);
 }

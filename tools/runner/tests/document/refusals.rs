@@ -33,7 +33,7 @@ fn refusal_2_missing_or_cut() {
     refused("raw 000004", 2, 0);
     refused("cell 5 0 0 0 1", 2, 24);
     refused("cell 5 0 0 0 1\nraw 0000", 2, 24);
-    refused("cell 5 0 0 0 1\nraw 1e000300 0500", 2, 24);
+    refused("cell 5 0 0 0 1\nraw 20000300 0500", 2, 24);
     refused("raw 0c000100 0080 0000 00000000000000", 2, 0);
 }
 
@@ -43,7 +43,7 @@ fn refusal_3_kind() {
     refused("raw 04000500 00000000", 3, 0);
     refused("raw 00000401", 3, 0);
     refused("cell 5 0 0 0 1\nfunction 32768 0\nend", 3, 24);
-    refused("call 5 32768 0 0\ncell 5 0 0 0 1\nend", 3, 34);
+    refused("call 5 32768 0 0\ncell 5 0 0 0 1\nend", 3, 36);
 }
 
 #[test]
@@ -53,8 +53,9 @@ fn refusal_4_length() {
     }
     refused("raw 13000200", 4, 0);
     refused("raw 15000200", 4, 0);
-    refused("raw 1d000300", 4, 0);
+    refused("raw 1e000300", 4, 0);
     refused("raw 1f000300", 4, 0);
+    refused("raw 21000300", 4, 0);
     refused("raw 01000400 00", 4, 0);
 }
 
@@ -118,7 +119,7 @@ fn refusal_7_beyond_the_kinds_limit() {
     refused(&cells(1_025), 7, 1_024 * 24);
     let calls = |count| repeated(count, |_| "call 5 32768 0 0".to_string()) + "end";
     opened(&calls(256));
-    refused(&calls(257), 7, 256 * 34);
+    refused(&calls(257), 7, 256 * 36);
 }
 
 #[test]
@@ -167,8 +168,8 @@ const BROKEN: &str = "
     11: 8 0 0 1, 0 7 0 1, 0 0 255 1, 0 0 0 0, 0 0 6 65536, 0 0 0 65537, 0 1 2 65537
     12: 8 0 0 0, 0 1 0 0, 0 0 1 0, 0 0 0 1
     13: 8 0 0 0, 0 7 0 0, 0 0 1 0, 0 0 0 1, 0 6 0 1, 0 0 0 65536, 0 5 0 65536
-    14: 8 0 0 1, 0 8 0 1, 0 0 1 1, 0 0 0 0, 0 0 0 2
-    15: 8 0 0 1, 0 8 0 1, 0 0 1 1, 0 0 0 0, 0 0 0 4294967295
+    14: 8 0 0 1, 0 8 0 1, 0 0 1 1, 0 0 0 2
+    15: 8 0 0 1, 0 8 0 1, 0 0 1 1, 0 0 0 4294967295
     16: 0 0 0 0
     255: 0 0 0 0";
 
@@ -184,8 +185,8 @@ const GOOD: &str = "
     11: 7 5 5 65535, 7 6 6 65537, 0 6 4 65537
     12: 7 0 0 0
     13: 7 5 0 0, 0 6 0 4294901760, 0 6 0 0
-    14: 7 7 0 1
-    15: 7 7 0 1";
+    14: 7 7 0 0, 7 7 0 1
+    15: 7 7 0 0, 7 7 0 1";
 
 /// The instructions of such a table, as five parts each.
 fn words(table: &str) -> Vec<String> {
@@ -209,13 +210,16 @@ fn parts_at_the_edges_of_their_ranges() {
 }
 
 #[test]
-fn a_jump_goes_forward_and_at_most_to_the_length() {
-    let jump = |to: u32| format!("function 32768 0\nstop\njeq r0 r0 {to}\nstop\nstop\nend");
-    refused(&jump(0), 10, 16);
-    refused(&jump(1), 10, 16);
-    opened(&jump(2));
-    opened(&jump(4));
-    refused(&jump(5), 10, 16);
+fn a_jump_goes_anywhere_up_to_the_length() {
+    for name in ["jeq", "jlt"] {
+        let jump = |to: u32| format!("function 32768 0\nstop\n{name} r0 r0 {to}\nstop\nstop\nend");
+        for to in 0..=4 {
+            opened(&jump(to));
+        }
+        for to in [5, 64, 65_536, u32::MAX] {
+            refused(&jump(to), 10, 16);
+        }
+    }
 }
 
 /// A function of one GET for each of so many fields, and a call of it.
@@ -229,7 +233,7 @@ fn refusal_11_over_24_keys() {
     opened(&keyed(24, 0));
     refused(&keyed(25, 0), 11, 8 + 25 * 8);
     opened(&keyed(22, 1));
-    refused(&keyed(23, 1), 11, 8 + 23 * 8 + 34);
+    refused(&keyed(23, 1), 11, 8 + 23 * 8 + 36);
 }
 
 #[test]
@@ -251,7 +255,7 @@ fn refusal_12_over_1024_keys() {
     let first_call = 16 + 1_024 * 24;
     assert_eq!(opened(&full_opening(0, 1_023)).keys, 1_024);
     refused(&full_opening(1_024, 0), 12, first_call);
-    refused(&full_opening(0, 1_024), 12, first_call + 34);
+    refused(&full_opening(0, 1_024), 12, first_call + 36);
 }
 
 #[test]

@@ -6,6 +6,7 @@ use runner::lent::{Run, FINISHED};
 use runner::limits::MAX_CALLS;
 use runner::machine::Move;
 use runner::vectors::damage::{Target, OF_BEGIN, OF_CANCEL, OF_STEP};
+use runner::vectors::fuel;
 use runner::vectors::moves::cases;
 use runner::vectors::serial;
 use runner::vectors::sheets;
@@ -18,7 +19,7 @@ pub(crate) const COUNT: usize = 400;
 /// The seed of the stored file.
 pub(crate) const SEED: u64 = 1;
 /// Most bytes of the stored file.
-const MOST_BYTES: usize = 1_000_000;
+const MOST_BYTES: usize = 1_100_000;
 /// The answers of moves, and how often each stands in the file at least.
 const ANSWERS: [(u16, usize); 8] = [
     (0, 2_000),
@@ -81,7 +82,7 @@ fn all_answers_are_well_covered() {
     }
     let sheets = sheets::cases(SEED, SHEETS);
     let serial = serial::cases(SEED, SERIAL);
-    let all = [cases, sheets, serial, waits::cases()].concat();
+    let all = [cases, sheets, serial, waits::cases(), fuel::cases()].concat();
     assert!(input(&all).len() < MOST_BYTES);
 }
 
@@ -152,6 +153,53 @@ fn the_first_serial_run_is_the_longest() {
         assert_eq!(run.status[4 * call..4 * call + 3], [FINISHED, 0, 64]);
     }
     assert_eq!(run.cells[..run.head.cells as usize], [256 * 61]);
+}
+
+#[test]
+fn the_second_serial_run_has_the_most_fuel() {
+    let case = &serial::cases(SEED, 2)[1];
+    let Some((Answer::Closed(closed), Left::Output(output))) = answers(case).pop() else {
+        panic!("the case ends in a sheet");
+    };
+    assert_eq!(closed, Ok(44));
+    let sheet = "cell 32768 1 0 0 9\nraw 0400 0500 0700 ffff\nraw 0400 0500 0700 0100\nend";
+    assert_eq!(output, crate::block(sheet));
+}
+
+/// What the moves of the fixed cases of fuel answer, and the last receipt.
+const FUEL: [(&[u16], [u64; 2]); 7] = [
+    (&[0, 0, 20, 0], [0, 3]),
+    (&[0, 0], [1, 0]),
+    (&[0, 0], [2, 0]),
+    (&[0, 0, 0, 20, 20, 20, 20, 20, 20, 20, 0, 0], [0, 2]),
+    (&[0, 0, 0, 0, 0, 20, 20, 20, 20, 0], [0, 3]),
+    (&[0, 0, 0, 0, 20, 20, 0], [7, 2]),
+    (&[0, 0, 0, 0, 20, 20, 20, 20, 0], [7, 2]),
+];
+
+#[test]
+fn the_fixed_cases_of_fuel_answer_as_they_should() {
+    let cases = fuel::cases();
+    assert_eq!(cases.len(), FUEL.len());
+    for (place, (case, (wanted, receipt))) in cases.iter().zip(FUEL).enumerate() {
+        let answered = answers(case);
+        let moved = |(answer, _): &(Answer, Left)| match answer {
+            Answer::Moved(moved) => Some(moved.err().map_or(0, |refusal| refusal.number())),
+            _ => None,
+        };
+        let found: Vec<u16> = answered.iter().filter_map(moved).collect();
+        assert_eq!(found, wanted, "case {place}");
+        let ran = |(answer, left): &(Answer, Left)| match (answer, left) {
+            (Answer::Ran, Left::Run(run)) => Some([run.status[0], run.status[1], run.status[2]]),
+            _ => None,
+        };
+        let ended = answered.iter().find_map(ran);
+        assert_eq!(
+            ended,
+            Some([FINISHED, receipt[0], receipt[1]]),
+            "case {place}"
+        );
+    }
 }
 
 /// A run that is answered 28 by a short output and 20 with room has a broken

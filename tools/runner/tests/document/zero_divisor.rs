@@ -95,7 +95,7 @@ fn a_lent_run_restores_on_6() {
 }
 
 #[test]
-fn the_sheet_carries_6_and_refuses_7() {
+fn the_sheet_carries_6() {
     let bytes = block("function 32768 0\ndiv r0 r0 r0\ncell 5 0 0 0 2\ncall 5 32768 0 0\nend");
     let (answer, mut run) = lent::open(&bytes, 8, lent::Sizes::FIXED);
     assert_eq!(answer, Ok(()));
@@ -104,22 +104,18 @@ fn the_sheet_carries_6_and_refuses_7() {
     let mut output = vec![7; sheet.len()];
     assert_eq!(run.sheet(&mut output), Ok(sheet.len()));
     assert_eq!(output, sheet);
-    run.status[1] = 7;
-    let mut output = vec![7; sheet.len()];
-    assert_eq!(
-        run.sheet(&mut output).map_err(|refused| refused.number()),
-        Err(20)
-    );
-    assert_eq!(output, vec![7; sheet.len()]);
 }
 
-/// How the instruction before which a call stood would end it by its arithmetic,
-/// by the words of the request: 6 for a DIV whose divisor is 0, 4 for an exact
-/// result outside 64 signed bits, by numbers of 128.
-fn arithmetic_end(code: &[Instruction], last: &Running) -> Option<u16> {
+/// How the instruction before which a call stood, with fuel left for it, would end
+/// it by its arithmetic, by the words of the request: 6 for a DIV whose divisor is
+/// 0, 4 for an exact result outside 64 signed bits, by numbers of 128.
+fn arithmetic_end(code: &[Instruction], fuel: u16, last: &Running) -> Option<u16> {
     let Place::At(index) = last.place else {
         return None;
     };
+    if last.count == fuel {
+        return None;
+    }
     let Some(&Instruction::Arithmetic {
         operation, y, z, ..
     }) = code.get(index)
@@ -142,7 +138,7 @@ fn arithmetic_end(code: &[Instruction], last: &Running) -> Option<u16> {
 /// would by the words, which is counted; and then the cells are as before it.
 #[test]
 fn receipts_have_6_and_4_exactly_where_the_words_say() {
-    let mut found = [0; 7];
+    let mut found = [0; 8];
     each_drawn_call(103, |opened, number, cells| {
         let before = cells.clone();
         let mut last = None;
@@ -151,8 +147,9 @@ fn receipts_have_6_and_4_exactly_where_the_words_say() {
         });
         let outcome = ended.receipt.outcome.number();
         let last = last.expect("a call takes a step");
-        let code = opened.block.code(&opened.block.calls[number]);
-        let wanted = arithmetic_end(code.unwrap_or(&[]), &last);
+        let call = &opened.block.calls[number];
+        let code = opened.block.code(call).unwrap_or(&[]);
+        let wanted = arithmetic_end(code, call.fuel, &last);
         let ends_so = [4, 6].contains(&outcome);
         assert_eq!(wanted, ends_so.then_some(outcome));
         if ends_so {
@@ -168,5 +165,4 @@ fn receipts_have_6_and_4_exactly_where_the_words_say() {
 fn the_numbers_of_the_outcomes() {
     assert_eq!(Outcome::OutOfRange.number(), 4);
     assert_eq!(Outcome::ZeroDivisor.number(), 6);
-    assert_eq!(Outcome::LAST, Outcome::ZeroDivisor);
 }

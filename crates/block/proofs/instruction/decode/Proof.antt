@@ -30,7 +30,7 @@ returns : tie.Need-returns
 returns c =
     let a = c .before .before .before .args in
     c .decode-parts .ensures
-    ∙ decode-word (a .index) (a .size) (a .code .now) (a .at) (λ i. c .before .before .shared-slice-known .given i .fits) (c .before .get64 .ensures)
+    ∙ decode-word (a .size) (a .code .now) (a .at) (λ i. c .before .before .shared-slice-known .given i .fits) (c .before .get64 .ensures)
 
 pub decode-spec : {M : Type 1} → statement M
 decode-spec =

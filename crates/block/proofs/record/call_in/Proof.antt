@@ -70,9 +70,13 @@ long-requires-3 c κs = search needs
 long-requires-4 : tie.Need-long-requires-4
 long-requires-4 c κs = search needs
 
+short-requires-4 : tie.Need-short-requires-4
+short-requires-4 c κs = search needs
+
 returns-4 : tie.Need-returns-4
 returns-4 c =
-    let c7 = c .before .before .before .before .before .before .before in
+    let c1 = c .before in
+    let c7 = c1 .before .before .before .before .before .before .before in
     let c9 = c7 .before .before in
     let c10 = c9 .before in
     let c12 = c10 .before .before in
@@ -80,8 +84,8 @@ returns-4 c =
     let c15 = c14 .before in
     let c16 = c15 .before in
     let c18 = c16 .before .before in
-    simp (read-back {z = c16 .get-i64 .result} (record { sfits = c16 .get-i64 .ok }) ∙ c16 .get-i64 .ensures, c .before .before .before .before .short3 .ensures, c .before .before .before .long .ensures, c .before .before .long2 .ensures, c .before .long3 .ensures, c .long4 .ensures)
-    (call-good _ (c18 .pre) _ (address-read (c14 .address-of .ensures) (c15 .short .ensures) (c12 .sender .given .1)) _ (address-read (c9 .address-of2 .ensures) (c10 .short2 .ensures) (c7 .contract .given .1)) (sym (ap nonNeg (c16 .get-i64 .ensures)) ∙ not-negative (c16 .get-i64 .result) (simp (read-back {z = c16 .get-i64 .result} (record { sfits = c16 .get-i64 .ok })) at (c .before .before .before .before .before .if1 .left))))
+    simp (read-back {z = c16 .get-i64 .result} (record { sfits = c16 .get-i64 .ok }) ∙ c16 .get-i64 .ensures, c1 .before .before .before .before .short3 .ensures, c1 .before .before .before .long .ensures, c1 .before .before .long2 .ensures, c1 .before .long3 .ensures, c1 .long4 .ensures, c .short4 .ensures)
+    (call-good _ (c18 .pre) _ (address-read (c14 .address-of .ensures) (c15 .short .ensures) (c12 .sender .given .1)) _ (address-read (c9 .address-of2 .ensures) (c10 .short2 .ensures) (c7 .contract .given .1)) (sym (ap nonNeg (c16 .get-i64 .ensures)) ∙ not-negative (c16 .get-i64 .result) (simp (read-back {z = c16 .get-i64 .result} (record { sfits = c16 .get-i64 .ok })) at (c1 .before .before .before .before .before .if1 .left))))
 
 pub call-in-spec : {M : Type 1} → statement M
 call-in-spec =
@@ -104,4 +108,5 @@ call-in-spec =
     long-requires-2
     long-requires-3
     long-requires-4
+    short-requires-4
     returns-4)

@@ -15,7 +15,7 @@ end-due-requires c κs = search needs
 returns : tie.Need-returns
 returns c =
     let a = c .before .before .before .before .args in (
-      (λ block keys cells. entry-unknown block (a .plan .now) keys (a .site .call) (a .body) (a .site .place) (a .site .count) (a .regs) cells (c .before .before .plan-word .ensures) (c .before .if1 .taken) (c .end-due .ensures)),
+      (λ block keys cells. entry-unknown block (a .plan .now) keys (a .site .call) (a .body) (a .site .place) (a .regs) cells (c .before .before .plan-word .ensures) (c .before .if1 .taken) (c .end-due .ensures)),
       end-doable (c .end-due .ensures) (omega (arith, c .before .before .before .before .pre)),
     )
 
@@ -28,7 +28,7 @@ enter-requires c κs = search needs
 returns-2 : tie.Need-returns-2
 returns-2 c =
     let a = c .before .before .before .before .before .args in (
-      (λ block keys cells. entry-known block (a .plan .now) keys (a .site .call) (a .body) (a .site .place) (a .site .count) (a .regs) cells (c .before .before .before .plan-word .ensures) (c .before .before .if1 .left) (c .before .entry-uses .ensures) (c .enter .ensures)),
+      (λ block keys cells. entry-known block (a .plan .now) keys (a .site .call) (a .body) (a .site .place) (a .regs) cells (c .before .before .before .plan-word .ensures) (c .before .before .if1 .left) (c .before .entry-uses .ensures) (c .enter .ensures)),
       record {
         early = omega (arith, c .before .before .before .before .before .pre);
         first = worded-first (entryAccesses (a .body)) (c .before .entry-uses .ensures);

@@ -24,7 +24,7 @@ returns : tie.Need-returns
 returns c =
     let c6 = c .before .before .before .before .before .before in
     let a = c6 .args in (
-      (λ keys cells. instr-outside (a .block .now) (a .plan .now) keys (a .site .call) (a .body) (a .site .place) (a .site .count) (a .regs) cells (c .before .before .before .plan-word .ensures) (c .before .before .plan-word2 .ensures) (omega (arith, c .before .if1 .taken)) (c .nothing-due .ensures)),
+      (λ keys cells. instr-outside (a .block .now) (a .plan .now) keys (a .site .call) (a .body) (a .site .place) (a .regs) cells (a .site .count) (c .before .before .before .plan-word .ensures) (c .before .before .plan-word2 .ensures) (omega (arith, c .before .if1 .taken)) (c .nothing-due .ensures)),
       nothing-doable (c .nothing-due .ensures) (omega (arith, c6 .pre)),
     )
 
@@ -38,7 +38,7 @@ returns-2 : tie.Need-returns-2
 returns-2 c =
     let c7 = c .before .before .before .before .before .before .before in
     let a = c7 .args in (
-      (λ keys cells. instr-outside (a .block .now) (a .plan .now) keys (a .site .call) (a .body) (a .site .place) (a .site .count) (a .regs) cells (c .before .before .before .before .plan-word .ensures) (c .before .before .before .plan-word2 .ensures) (omega (arith, c .before .before .if1 .left, c .before .if2 .taken)) (c .nothing-due2 .ensures)),
+      (λ keys cells. instr-outside (a .block .now) (a .plan .now) keys (a .site .call) (a .body) (a .site .place) (a .regs) cells (a .site .count) (c .before .before .before .before .plan-word .ensures) (c .before .before .before .plan-word2 .ensures) (omega (arith, c .before .before .if1 .left, c .before .if2 .taken)) (c .nothing-due2 .ensures)),
       nothing-doable (c .nothing-due2 .ensures) (omega (arith, c7 .pre)),
     )
 
@@ -55,7 +55,7 @@ returns-3 : tie.Need-returns-3
 returns-3 c =
     let c8 = c .before .before .before .before .before .before .before .before in
     let a = c8 .args in (
-      (λ keys cells. instr-inside (a .block .now) (a .plan .now) keys (a .site .call) (a .body) (a .site .place) (a .site .count) (a .regs) cells (c .due-decoded .result) (c .before .before .before .before .before .plan-word .ensures) (c .before .before .before .before .plan-word2 .ensures) (omega (arith, c .before .before .before .if1 .left, c .before .before .if2 .left)) (omega arith) (c .before .code-at .ensures) (c .due-decoded .ensures .0 (a .block .now) (a .plan .now) keys cells)),
+      (λ keys cells. instr-inside (a .block .now) (a .plan .now) keys (a .site .call) (a .body) (a .site .place) (a .regs) cells (a .site .count) (c .due-decoded .result) (c .before .before .before .before .before .plan-word .ensures) (c .before .before .before .before .plan-word2 .ensures) (omega (arith, c .before .before .before .if1 .left, c .before .before .if2 .left)) (omega arith) (c .before .code-at .ensures) (c .due-decoded .ensures .0 (a .block .now) (a .plan .now) keys cells)),
       c .due-decoded .ensures .1,
     )
 

@@ -32,7 +32,7 @@ returns : tie.Need-returns
 returns c =
     let c6 = c .before .before .before .before .before .before in
     let a = c6 .args in (
-      (λ block plan keys cells. decoded-invalid block plan keys (a .site .call) (a .body) (a .site .place) (a .site .count) (a .regs) cells _ (sym (ap (λ (x : Acted). x .decoded) (c .before .before .before .act-at .ensures)) ∙ c .before .enum-told .given .1) (c .nothing-due .ensures)),
+      (λ block plan keys cells. decoded-invalid block plan keys (a .site .call) (a .body) (a .site .place) (a .regs) cells (a .site .count) _ (sym (ap (λ (x : Acted). x .decoded) (c .before .before .before .act-at .ensures)) ∙ c .before .enum-told .given .1) (c .nothing-due .ensures)),
       nothing-doable (c .nothing-due .ensures) (omega (arith, c6 .pre)),
     )
 
@@ -47,7 +47,7 @@ returns-2 c =
     let c6 = c .before .before .before .before .before .before in
     let c9 = c6 .before .before .before in
     let a = c9 .args in (
-      (λ block plan keys cells. decoded-valid block plan keys (a .site .call) (a .body) (a .site .place) (a .site .count) (a .regs) cells (c9 .pre .0 .0) _ (c6 .act-at .ensures) _ (c .before .before .before .before .decoded .given .1) (c .step-uses .ensures)),
+      (λ block plan keys cells. decoded-valid block plan keys (a .site .call) (a .body) (a .site .place) (a .regs) cells (a .site .count) (c9 .pre .0 .0) _ (c6 .act-at .ensures) _ (c .before .before .before .before .decoded .given .1) (c .step-uses .ensures)),
       record {
         early = omega (arith, c9 .pre);
         first = worded-first _ (c .step-uses .ensures);

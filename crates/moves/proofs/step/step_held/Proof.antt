@@ -23,7 +23,7 @@ returns : tie.Need-returns
 returns c =
     let c9 = c .before .before .before .before .before .before .before .before .before in
     let a = c9 .args in
-    λ head status starts. broken-stays head (a .block .now) (a .plan .now) (a .keys .now) (a .cells .now) status (a .seats .now) (a .frames .now) (a .worker) (a .call) (c .damaged .ensures) (held-unseated head (a .block .now) (a .plan .now) (a .keys .now) (a .cells .now) status (a .seats .now) (a .frames .now) (a .worker) (a .call) (c .before .before .before .before .place-of .ensures) (c .before .before .before .count-of .ensures) (c .before .before .in-range .ensures) (not-true _ (c .before .if1 .taken)))
+    λ head status starts. broken-stays head (a .block .now) (a .plan .now) (a .keys .now) (a .cells .now) status (a .seats .now) (a .frames .now) (a .worker) (a .call) (c .damaged .ensures) (held-unseated head (a .block .now) (a .plan .now) (a .keys .now) (a .cells .now) status (a .seats .now) (a .frames .now) (a .worker) (a .call) (c .before .before .before .before .place-of .ensures) (c .before .before .in-range .ensures) (not-true _ (c .before .if1 .taken)))
 
 record-of-requires : tie.Need-record-of-requires
 record-of-requires c κs =
@@ -45,7 +45,7 @@ returns-2 c =
     let c7 = c4 .before .before .before in
     let c12 = c7 .before .before .before .before .before in
     let a = c12 .args in
-    λ head status starts. broken-stays head (a .block .now) (a .plan .now) (a .keys .now) (a .cells .now) status (a .seats .now) (a .frames .now) (a .worker) (a .call) (c .damaged2 .ensures) (held-broken head (a .block .now) (a .plan .now) (a .keys .now) (a .cells .now) status (a .seats .now) (a .frames .now) (a .worker) (a .call) (c7 .place-of .ensures) (c4 .before .before .count-of .ensures) (c4 .before .in-range .ensures) (not-false _ (c4 .if1 .left)) starts (c .before .before .before .record-of .ensures) (c .before .enum-told .given .1))
+    λ head status starts. broken-stays head (a .block .now) (a .plan .now) (a .keys .now) (a .cells .now) status (a .seats .now) (a .frames .now) (a .worker) (a .call) (c .damaged2 .ensures) (held-broken head (a .block .now) (a .plan .now) (a .keys .now) (a .cells .now) status (a .seats .now) (a .frames .now) (a .worker) (a .call) (c7 .place-of .ensures) (c4 .before .in-range .ensures) (not-false _ (c4 .if1 .left)) starts (c .before .before .before .record-of .ensures) (c .before .enum-told .given .1))
 
 regs-of-requires : tie.Need-regs-of-requires
 regs-of-requires c κs =
@@ -72,7 +72,7 @@ returns-3 c =
     let c11 = c10 .before in
     let c16 = c11 .before .before .before .before .before in
     let a = c16 .args in
-    λ head status starts. held-stepped head (a .block .now) (a .plan .now) (a .keys .now) (a .cells .now) status (a .seats .now) (a .frames .now) (a .worker) (a .call) (c11 .place-of .ensures) (c10 .count-of .ensures) (c9 .in-range .ensures) (not-false _ (c8 .if1 .left)) starts (c7 .record-of .ensures) (c5 .body .given .1) (place-settled head (a .block .now) (a .plan .now) (a .keys .now) (a .cells .now) status (a .seats .now) (a .frames .now) (a .worker) (a .call) (c5 .body .given .0 .0) (c11 .place-of .ensures) (c10 .count-of .ensures) (c .before .before .before .regs-of .ensures) (c .before .step-place .ensures))
+    λ head status starts. held-stepped head (a .block .now) (a .plan .now) (a .keys .now) (a .cells .now) status (a .seats .now) (a .frames .now) (a .worker) (a .call) (c11 .place-of .ensures) (c9 .in-range .ensures) (not-false _ (c8 .if1 .left)) starts (c7 .record-of .ensures) (c5 .body .given .1) (place-settled head (a .block .now) (a .plan .now) (a .keys .now) (a .cells .now) status (a .seats .now) (a .frames .now) (a .worker) (a .call) (c5 .body .given .0 .0) (c11 .place-of .ensures) (c10 .count-of .ensures) (c .before .before .before .regs-of .ensures) (c .before .step-place .ensures))
 
 pub step-held-spec : {M : Type 1} → statement M
 step-held-spec =

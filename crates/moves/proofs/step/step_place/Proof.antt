@@ -15,7 +15,7 @@ returns : tie.Need-returns
 returns c =
     let c7 = c .before .before .before .before .before .before .before in
     let a = c7 .args in
-    due-none (a .block .now) (a .plan .now) (a .keys .now) (a .site .call) (a .body) (a .site .place) (a .site .count) (a .regs) (a .cells .now) (c .before .before .before .due .result) (c .before .before .before .due .ensures .0 (a .keys .now) (a .cells .now)) (not-true _ (c .before .if1 .taken)) (c .damaged .ensures)
+    due-none (a .block .now) (a .plan .now) (a .keys .now) (a .site .call) (a .body) (a .site .place) (a .regs) (a .cells .now) (a .site .count) (c .before .before .before .due .result) (c .before .before .before .due .ensures .0 (a .keys .now) (a .cells .now)) (not-true _ (c .before .if1 .taken)) (c .damaged .ensures)
 
 perform-requires : tie.Need-perform-requires
 perform-requires c κs =
@@ -30,7 +30,7 @@ returns-2 c =
     let c7 = c .before .before .before .before .before .before .before in
     let c11 = c7 .before .before .before .before in
     let a = c11 .args in
-    due-done (a .block .now) (a .plan .now) (a .keys .now) (a .site .call) (a .body) (a .site .place) (a .site .count) (a .regs) (a .cells .now) (c7 .due .result) (c7 .due .ensures .0 (a .keys .now) (a .cells .now)) (not-false _ (c .before .before .before .before .before .if1 .left)) (c .before .perform .ensures)
+    due-done (a .block .now) (a .plan .now) (a .keys .now) (a .site .call) (a .body) (a .site .place) (a .regs) (a .cells .now) (a .site .count) (c7 .due .result) (c7 .due .ensures .0 (a .keys .now) (a .cells .now)) (not-false _ (c .before .before .before .before .before .if1 .left)) (c .before .perform .ensures)
 
 pub step-place-spec : {M : Type 1} → statement M
 step-place-spec =

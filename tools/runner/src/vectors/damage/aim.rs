@@ -1,13 +1,15 @@
 //! The values of damages.
 
 use super::{bytes_at, Target};
+use crate::bytes::u16_at;
 use crate::code::op;
 use crate::lent::{
     Sizes, BUFFERS, CODE_LENGTH, CODE_START, COUNT, ENTRIES, ENTRY_SCALE, FRAME_VALUES, KEY_COUNT,
     KEY_WORDS, OLDS, PLACE, PLAN_WORDS, READS, ROOM, SEAT_WORDS, STATE, STATUS_WORDS, WRITES,
 };
 use crate::limits::{
-    CALL_BYTES, HEAD_BYTES, INSTRUCTION_BYTES, MAX_CALLS, MAX_CALL_KEYS, MAX_KEYS, REGISTERS,
+    CALL_BYTES, COMMON_FUEL, FUEL_AT, HEAD_BYTES, INSTRUCTION_BYTES, MAX_CALLS, MAX_CALL_KEYS,
+    MAX_FUEL, MAX_KEYS, REGISTERS,
 };
 use crate::rng::Rng;
 use crate::vectors::{Buffer, HeadField, Operation, Player};
@@ -43,10 +45,7 @@ impl Aim<'_> {
             Target::First => self.first(rng),
             Target::HeldCall => self.held(rng),
             Target::Place => self.place(rng),
-            Target::Count => {
-                let values = [63, 64, 65, 66, 1 << 16, 1 << 32, u64::MAX];
-                self.set_seat(COUNT, rng.pick(&values))
-            }
+            Target::Count => self.count(rng),
             Target::Register => self.set_frame(rng.below(REGISTERS), rng),
             Target::Room => {
                 let word = rng.between(ROOM, SEAT_WORDS - 1);
@@ -84,6 +83,7 @@ impl Aim<'_> {
             Target::CodeLength => self.code_length(rng),
             Target::BlockLength => self.block_length(rng),
             Target::Record => self.record(rng)?,
+            Target::Fuel => self.set_fuel(rng)?,
             Target::Instruction => self.instruction(rng)?,
             Target::Size => self.size(rng),
             Target::Length => self.length(rng)?,
@@ -155,6 +155,57 @@ impl Aim<'_> {
             u64::MAX,
         ];
         self.set_seat(PLACE, rng.pick(&values))
+    }
+
+    /// A count at the fuel of the call's record, one less or one more, or far above.
+    fn count(&self, rng: &mut Rng) -> Operation {
+        let fuel = self.fuel().map_or(COMMON_FUEL, |(_, fuel)| fuel);
+        let fuel = u64::from(fuel);
+        let values = [
+            fuel.saturating_sub(1),
+            fuel,
+            fuel,
+            fuel + 1,
+            fuel + 1,
+            1 << 16,
+            1 << 32,
+            u64::MAX,
+        ];
+        self.set_seat(COUNT, rng.pick(&values))
+    }
+
+    /// Where the fuel of the call's record stands in the block, and how much it is.
+    pub(super) fn fuel(&self) -> Option<(usize, u16)> {
+        let at = self.record_start()? + HEAD_BYTES + FUEL_AT;
+        Some((at, u16_at(&self.player.block, at)))
+    }
+
+    /// No fuel, as much as the seat's count, one less or one more, or the most.
+    fn set_fuel(&self, rng: &mut Rng) -> Option<Operation> {
+        let (at, _) = self.fuel()?;
+        let count = self.seat_word(COUNT) as u16;
+        let fuel: u16 = match rng.below(6) {
+            0 | 1 => 0,
+            2 => count.saturating_sub(1),
+            3 => count,
+            4 => count.saturating_add(1),
+            _ => MAX_FUEL,
+        };
+        let mut bytes = bytes_at(self.player, at);
+        bytes[..2].copy_from_slice(&fuel.to_le_bytes());
+        Some(Operation::Bytes { at, bytes })
+    }
+
+    /// The count is the fuel, and the instruction that is due breaks a rule or its
+    /// code passes the lent block's end, which outcome 7 does not look at.
+    pub fn out_of_fuel(&self, rng: &mut Rng) -> Option<[Operation; 2]> {
+        let (_, fuel) = self.fuel()?;
+        self.code_offset()?;
+        let unseen = match rng.below(2) {
+            0 => self.instruction(rng)?,
+            _ => self.set_plan(CODE_START, self.player.lent_block as u64),
+        };
+        Some([self.set_seat(COUNT, fuel.into()), unseen])
     }
 
     /// An earlier call, one of the row if there is any.

@@ -48,6 +48,7 @@ pub enum Target {
     CodeLength,
     BlockLength,
     Record,
+    Fuel,
     Instruction,
     Size,
     Length,
@@ -84,8 +85,8 @@ pub const OF_BEGIN: [Target; 22] = [
 /// What STEP may use, and the call's state and waiting count, later states,
 /// earlier rows, the number of cells and the rest of the seat, the frame and
 /// longer buffers, which it does not. Only one that ends the call uses later
-/// counts and rows.
-pub const OF_STEP: [Target; 43] = [
+/// counts and rows, and the entry uses neither count nor fuel.
+pub const OF_STEP: [Target; 46] = [
     Target::Workers,
     Target::Calls,
     Target::Cells,
@@ -94,6 +95,7 @@ pub const OF_STEP: [Target; 43] = [
     Target::HeldCall,
     Target::Place,
     Target::Place,
+    Target::Count,
     Target::Count,
     Target::Register,
     Target::Register,
@@ -123,6 +125,8 @@ pub const OF_STEP: [Target; 43] = [
     Target::BlockLength,
     Target::Record,
     Target::Record,
+    Target::Fuel,
+    Target::Fuel,
     Target::Instruction,
     Target::Instruction,
     Target::Size,

@@ -41,7 +41,7 @@ impl Aim<'_> {
                 let (index, length) = (place as usize - 1, self.code_bytes() / INSTRUCTION_BYTES);
                 let bytes = &self.player.block[end - self.code_bytes()..end];
                 let parts = Parts::read(bytes.get(index * INSTRUCTION_BYTES..)?);
-                Some(instruction_uses(&call, &decode(parts, index, length)?))
+                Some(instruction_uses(&call, &decode(parts, length)?))
             }
             _ => None,
         }

@@ -26,14 +26,14 @@ const WAITS_TURNS: usize = 16;
 /// Blocks of cases of waiting counts, with more calls than others.
 const WAITS_TOUCHING: Shape = Shape {
     calls: (4, 6),
-    bytes: 380,
+    bytes: 392,
     ..TOUCHING
 };
 
 /// The same with payments.
 const WAITS_PAYING: Shape = Shape {
     calls: (4, 6),
-    bytes: 380,
+    bytes: 392,
     ..PAYING
 };
 
@@ -41,7 +41,7 @@ const WAITS_PAYING: Shape = Shape {
 const WAITS_MIXED: Shape = Shape {
     instructions: (2, 4),
     calls: (4, 6),
-    bytes: 380,
+    bytes: 392,
     ..MIXED
 };
 
@@ -111,7 +111,7 @@ fn is_of_waits(index: usize) -> bool {
 
 /// Mostly blocks that are accepted.
 fn block(rng: &mut Rng, index: usize) -> Vec<u8> {
-    let random = |rng: &mut Rng, shape: Shape| Draft::random(rng, shape).bytes();
+    let random = |rng: &mut Rng, shape: Shape| Draft::random(rng, shape.long()).bytes();
     match index % 12 {
         0 | 6 => random(rng, MIXED),
         1 | 7 => random(rng, TOUCHING),
@@ -256,7 +256,10 @@ impl Writer<'_> {
     fn paired(&self, rng: &mut Rng, chosen: Move) -> Option<[Operation; 2]> {
         let aim = self.aim(chosen)?;
         match chosen {
-            Move::Step { .. } => aim.code_at_end(rng).or_else(|| aim.overfull()),
+            Move::Step { .. } => {
+                let at_end = aim.code_at_end(rng).or_else(|| aim.overfull());
+                at_end.or_else(|| aim.out_of_fuel(rng))
+            }
             Move::Begin { .. } | Move::Cancel { .. } => aim.overfull(),
         }
     }

@@ -26,7 +26,7 @@ impl Writer<'_> {
     /// A begin that is too early, the last step of a call, a cancel or any move
     /// that passes, with some damages until it passes.
     pub(super) fn waits_turn(&mut self, rng: &mut Rng) {
-        let chosen = match rng.weighted(&[2, 9, 4, 8]) {
+        let chosen = match rng.weighted(&[2, 9, 4, 9]) {
             0 => self.early_begin(rng),
             1 => self.last_step(),
             2 => self.busy().map(|worker| Move::Cancel { worker }),
