@@ -1,4 +1,4 @@
-/* The register as a library. Each function is proved to answer and to leave what a definition in crates/library/specs says, for every value of
+/* The register as a library. Each function is proved to answer and to leave what a definition in crates/exports/specs says, for every value of
  * its arguments, and to end. What the proof asks of a caller in C:
  *
  * - A slice is two arguments: a pointer and the number of its elements. The pointer is aligned for its elements and valid for as many. It is

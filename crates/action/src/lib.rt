@@ -4,8 +4,8 @@ mod instruction;
 use block::Call;
 use block::Decoded;
 use block::Instr;
-use block::instruction::decode;
 use block::outcomes::BALANCE_TOO_LOW;
+use decoder::instruction::decode;
 use instruction::add;
 use instruction::arg;
 use instruction::bal;
@@ -25,6 +25,7 @@ use instruction::throw;
 use instruction::value;
 use machine::Action;
 use machine::Next;
+use machine::layout::REGISTERS;
 ghost use mathlib.Core.Path.{_≡_};
 ghost use Prim.Native.Nat.{_+_, _<_};
 ghost use lib.ListN.{drop, set};
@@ -41,7 +42,7 @@ pub struct Acted {
 }
 
 // What an instruction does at a place. Its jump is that of a code's instruction, which 16 bits hold.
-fn act(c: Call, place: u32, regs: [i64; 8], i: Instr) -> Action
+fn act(c: Call, place: u32, regs: [i64; REGISTERS], i: Instr) -> Action
     requires { ⌜ jumpOf i < 65536 ⌝ }
     ensures { λ r. ⌜ r ≡ instrAction c place regs i ⌝ }
 {
@@ -76,7 +77,14 @@ fn act(c: Call, place: u32, regs: [i64; 8], i: Instr) -> Action
 }
 
 // What the bytes at a position of the code hold, which are the instruction at `index` of `size`, and what the call does there.
-pub fn act_at(code: &[u8], at: usize, index: u16, size: u16, c: Call, regs: [i64; 8]) -> Acted
+pub fn act_at(
+    code: &[u8],
+    at: usize,
+    index: u16,
+    size: u16,
+    c: Call,
+    regs: [i64; REGISTERS],
+) -> Acted
     ensures { λ r. ⌜ r ≡ actedOf c (index + 1) regs (decode size (drop at (now (code .entry)))) ⌝ }
 {
     let decoded = decode(code, at, size as usize);
@@ -96,7 +104,7 @@ pub fn act_at(code: &[u8], at: usize, index: u16, size: u16, c: Call, regs: [i64
 }
 
 // The registers behind a load: BAL takes a balance, and GET any other value, since its field is not 0.
-pub fn loaded(balance: bool, regs: [i64; 8], x: usize, value: i64) -> [i64; 8]
+pub fn loaded(balance: bool, regs: [i64; REGISTERS], x: usize, value: i64) -> [i64; REGISTERS]
     ensures { λ r. ⌜ r ≡ set regs x value ⌝ }
 {
     if balance {
@@ -106,7 +114,7 @@ pub fn loaded(balance: bool, regs: [i64; 8], x: usize, value: i64) -> [i64; 8]
 }
 
 // "sender's balance below value, outcome 2; else value moves from sender to contract and the place is 0"
-pub fn enter(c: Call, regs: [i64; 8]) -> Action
+pub fn enter(c: Call, regs: [i64; REGISTERS]) -> Action
     ensures { λ r. ⌜ r ≡ entryAction c regs ⌝ }
 {
     let amount = c.value;

@@ -24,15 +24,20 @@ use Rattle.footprint.specs.Sets.{setsOf}
 use Rattle.footprint.specs.Table.{analysed, refused, analyse, insertKey, insertKeys}
 use Rattle.reader.specs.declared.Layout.{Layout}
 use Rattle.analysis.specs.Collected.{leaving, collectedOf}
-use Rattle.analysis.proofs.CollectedLaws.{analyse-over, analyse-full, analyse-next, opening-sound}
+use Rattle.footprint.proofs.AnalysedLaws.{analyse-over, analyse-full, analyse-next, opening-sound}
 use Rattle.analysis.specs.Filling.{KeysFilled, SetsWorded, setKeys, insertAll, countOf}
 use Rattle.analysis.proofs.FillingLaws.{keys-left, keys-none, set-keys, gathered-worded, insert-all, fitting-all, count-few, count-many, filled-none, filled-full, filled-more}
 use Rattle.analysis.specs.Gathered.{gathered, tooMany, columns}
-use Rattle.analysis.specs.KeyTable.{keyFrom, keysIn, Inserted, Tabled}
-use Rattle.analysis.specs.LayoutOfBlock.{LayoutOfBlock, blockOf, allSets, setsAt, openingKeys, analysisOf}
-use Rattle.analysis.proofs.LayoutLaws.{map-at, defaultCall, laid-whole, laid-cells, laid-calls, laid-first, call-within}
-use Rattle.analysis.proofs.TableLaws.{rising-inserts}
-use Rattle.analysis.proofs.TableWords.{words-length, tabled, keys-length, keys-padded, inserted-tabled, inserted-length}
+use Rattle.footprint.specs.KeyWords.{keyFrom, keysIn}
+use Rattle.analysis.specs.KeyTable.{Inserted, Tabled}
+use Rattle.reader.specs.LayoutOfBlock.{LayoutOfBlock}
+use Rattle.block.specs.BlockOfFile.{blockOf, openingKeys}
+use Rattle.footprint.specs.BlockSets.{allSets, setsAt, analysisOf}
+use Rattle.wire.proofs.ListLaws.{map-at}
+use Rattle.analysis.proofs.LayoutLaws.{defaultCall, laid-whole, laid-cells, laid-calls, laid-first, call-within}
+use Rattle.footprint.proofs.TableLaws.{rising-inserts}
+use Rattle.footprint.proofs.TableWordLaws.{words-length, keys-length, keys-padded}
+use Rattle.analysis.proofs.TableWords.{tabled, inserted-tabled, inserted-length}
 use Rattle.wire.proofs.BytesLaws.{padded-length}
 use Rattle.analysis.specs.declared.Collected.{Collected}
 use Rattle.analysis.specs.declared.Sets.{Sets}

@@ -22,7 +22,8 @@ use Rattle.block.specs.Naming.{functionOf}
 use Rattle.reader.specs.Layout.{table, layoutOf}
 use Rattle.analysis.specs.declared.Code.{Code}
 use Rattle.analysis.specs.Coded.{wordsOf, noCode, holdsId, idPlace, codeAtPlace, codeIn, codeSets}
-use Rattle.analysis.proofs.GatheredLaws.{if-true, if-false, firstPlace, search-place}
+use Rattle.arith.proofs.ChoiceLaws.{if-true, if-false}
+use Rattle.analysis.proofs.GatheredLaws.{firstPlace, search-place}
 
 -- ---- the code of a function
 

@@ -20,7 +20,7 @@ use Rattle.analysis.specs.declared.Code.{Code}
 use Rattle.analysis.specs.declared.Sets.{Sets}
 use Rattle.analysis.specs.Coded.{Narrow, noCode, holdsId, idPlace, codeFrom, codeAtPlace, codeIn, codeSets}
 use Rattle.analysis.specs.Gathered.{gathered}
-use Rattle.analysis.proofs.GatheredLaws.{if-true, if-false}
+use Rattle.arith.proofs.ChoiceLaws.{if-true, if-false}
 
 -- ---- the code of a call
 

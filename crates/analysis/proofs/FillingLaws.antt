@@ -19,11 +19,14 @@ use Rattle.footprint.specs.Plan.{tableWords}
 use Rattle.footprint.specs.Table.{insertKey, insertKeys}
 use Rattle.analysis.specs.Filling.{pairedKeys, setKeys, insertAll, fitting, countOf, SetsWorded, KeysFilled}
 use Rattle.analysis.specs.Gathered.{highOf, lowOf, gathered}
-use Rattle.analysis.proofs.GatheredLaws.{if-true, if-false, gathered-over, gathered-fits, gathered-count}
-use Rattle.analysis.specs.KeyTable.{keyFrom, keysIn, insertedIn, Tabled}
+use Rattle.arith.proofs.ChoiceLaws.{if-true, if-false}
+use Rattle.analysis.proofs.GatheredLaws.{gathered-over, gathered-fits, gathered-count}
+use Rattle.footprint.specs.KeyWords.{keyFrom, keysIn}
+use Rattle.analysis.specs.KeyTable.{insertedIn, Tabled}
 use Rattle.footprint.specs.Sets.{accessKeys}
-use Rattle.analysis.proofs.TableLaws.{insert-length}
-use Rattle.analysis.proofs.TableWords.{key-of-words, keys-length, inserted-full, inserted-keys, inserted-length}
+use Rattle.footprint.proofs.TableLaws.{insert-length}
+use Rattle.footprint.proofs.TableWordLaws.{key-of-words, keys-length}
+use Rattle.analysis.proofs.TableWords.{inserted-full, inserted-keys, inserted-length}
 use Rattle.analysis.specs.declared.Sets.{Sets}
 
 -- ---- the keys of a set

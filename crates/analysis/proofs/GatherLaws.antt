@@ -20,14 +20,15 @@ use Rattle.block.specs.declared.Instr.{Instr}
 use Rattle.footprint.specs.Access.{Access, accesses, entryAccesses}
 use Rattle.footprint.proofs.SetAccessLaws.{entry-few, decoded-few}
 use Rattle.analysis.specs.Gathered.{Wide, inParts, gathered, holdsKey, placeOfUse, tooMany, useFlags, united, extended, withUseAt, withUse, withUses}
-use Rattle.analysis.proofs.GatheredLaws.{if-true, if-false, gathered-count, gathered-uses, use-count}
+use Rattle.arith.proofs.ChoiceLaws.{if-true, if-false}
+use Rattle.analysis.proofs.GatheredLaws.{gathered-count, gathered-uses, use-count}
 use Rattle.footprint.proofs.SetLaws.{merged-append, code-more}
 use Rattle.footprint.specs.Sets.{mergeAll, decodedAccesses, codeAccesses}
-use Rattle.footprint.specs.Uses.{usesOf}
-use Rattle.footprint.specs.declared.KeyUse.{KeyUse}
+use Rattle.key_uses.specs.Uses.{usesOf}
+use Rattle.key_uses.specs.declared.KeyUse.{KeyUse}
 use Rattle.analysis.specs.declared.Sets.{Sets}
 use Rattle.analysis.specs.declared.Standing.{Standing}
-use Rattle.footprint.specs.declared.Uses.{Uses}
+use Rattle.key_uses.specs.declared.Uses.{Uses}
 
 -- ---- the search for a place
 

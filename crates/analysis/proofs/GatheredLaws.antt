@@ -20,18 +20,11 @@ use Rattle.footprint.specs.Access.{Access}
 use Rattle.footprint.specs.Plan.{highWord, lowWord}
 use Rattle.footprint.specs.Sets.{merge, mergeAll, accessKeys}
 use Rattle.footprint.proofs.SetLaws.{joinedFlags}
-use Rattle.footprint.specs.Uses.{useOf, usesOf}
+use Rattle.key_uses.specs.Uses.{useOf, usesOf}
 use Rattle.analysis.specs.Gathered.{column, highOf, lowOf, flagsOf, tooMany, columns, gathered, holdsKey, placeOfUse, useFlags, united, extended, withUseAt, withUse, withUses}
-use Rattle.footprint.specs.declared.KeyUse.{KeyUse}
+use Rattle.key_uses.specs.declared.KeyUse.{KeyUse}
 use Rattle.analysis.specs.declared.Sets.{Sets}
-
--- ---- choices
-
-pub if-true : {A : Type 0} {b : Bool} (x y : A) → b ≡ true → (if b then x else y) ≡ x
-if-true x y e = rw e
-
-pub if-false : {A : Type 0} {b : Bool} (x y : A) → b ≡ false → (if b then x else y) ≡ y
-if-false x y e = rw e
+use Rattle.arith.proofs.ChoiceLaws.{if-true, if-false}
 
 -- ---- the place of a key
 
@@ -136,14 +129,6 @@ merge-grows (e ∷ es) a = go (eqb (e .key) (a .key)) (merge-grows es a)
     go true h = omega arith
     go false h = omega arith
 
-pub merged-grows : (es more : List Access) → length es ≤ length (mergeAll es more)
-unfolding mergeAll
-merged-grows es [] = omega arith
-merged-grows es (a ∷ more) =
-    let one : length es ≤ length (merge es a) = merge-grows es a in
-    let all : length (merge es a) ≤ length (mergeAll (merge es a) more) = merged-grows (merge es a) more in
-    omega arith
-
 -- ---- columns
 
 map-set : (f : Access → ℕ) (es : List Access) (i : ℕ) (e : Access) → map f (set es i e) ≡ set (map f es) i (f e)
@@ -238,12 +223,6 @@ gathered-count es = go (decLt maxCallKeys (length es))
     go : Dec (maxCallKeys < length es) → gathered es .count ≤ maxCallKeys
     go (yes h) = rw (gathered-over es h) (omega arith)
     go (no h) = rw (gathered-fits es (omega arith)) (omega arith)
-
--- Once there are too many, there are too many for good.
-pub once-over : (es more : List Access) → maxCallKeys < length es → gathered (mergeAll es more) ≡ tooMany
-once-over es more h =
-    let grows : length es ≤ length (mergeAll es more) = merged-grows es more in
-    gathered-over (mergeAll es more) (omega arith)
 
 with-columns : (es : List Access) (a : Access) → length es ≤ maxCallKeys → withUse (columns es) (useOf a) ≡ gathered (merge es a)
 unfolding withUse

@@ -17,9 +17,12 @@ use Rattle.block.specs.Limits.{maxKeys}
 use Rattle.footprint.specs.Conflict.{member}
 use Rattle.footprint.specs.Table.{insertKey}
 use Rattle.footprint.specs.Plan.{highWord, lowWord, tableWords}
-use Rattle.analysis.specs.KeyTable.{keyFrom, keyAt, keysIn, placeIn, standsAt, movedUp, Sorted, Tabled, Inserted}
-use Rattle.analysis.proofs.TableLaws.{place-le, place-above, place-below, stands-member, insert-present, insert-absent, insert-length-is}
-use Rattle.analysis.proofs.TableWords.{keys-length, keys-at, words-append, words-length, high-of-key, low-of-key, inserted-fits, inserted-full}
+use Rattle.footprint.specs.KeyWords.{keyFrom, keyAt, keysIn}
+use Rattle.analysis.specs.KeyTable.{placeIn, standsAt, movedUp, Sorted, Tabled, Inserted}
+use Rattle.analysis.proofs.PlaceLaws.{place-le, place-above, place-below, stands-member, insert-absent, insert-length-is}
+use Rattle.footprint.proofs.TableLaws.{insert-present}
+use Rattle.footprint.proofs.TableWordLaws.{keys-length, keys-at, words-append, words-length, high-of-key, low-of-key}
+use Rattle.analysis.proofs.TableWords.{inserted-fits, inserted-full}
 
 -- ---- two keys compared by their words
 

@@ -1,10 +1,9 @@
 -- What a layout tells of the block that it stands for: the places of its calls, the codes of their functions, and their sets.
 use mathlib.Core.Path.{_≡_, refl, sym, ap, _∙_, subst⁻¹}
 use mathlib.Core.Bool.{Bool, true, false}
-use mathlib.Core.List.{List, [], _∷_, map}
+use mathlib.Core.List.{List, [], map}
 use mathlib.Core.Option.{none}
-use Prim.Native.Nat.{ℕ, zero, suc, _+_, _*_, _≤_, _<_}
-use native.Mathlib.Nat.{le-of-suc-le-suc, not-suc-le-zero}
+use Prim.Native.Nat.{ℕ, _+_, _*_, _≤_, _<_}
 use native.Mathlib.Decide.{decLt}
 use native.Mathlib.Omega.{arith}
 use borrow.Author.Tests.{ltb-false}
@@ -28,13 +27,10 @@ use Rattle.reader.specs.Layout.{layoutOf}
 use Rattle.reader.specs.declared.Layout.{Layout}
 use Rattle.analysis.specs.Coded.{Narrow, wordsOf, codeIn, codeSets}
 use Rattle.analysis.proofs.CodedLaws.{code-found, code-sets}
-use Rattle.analysis.specs.LayoutOfBlock.{LayoutOfBlock, blockOf, functionAt, setsAt, openingKeys}
-
--- An element of a mapped list.
-pub map-at : {A B : Type 0} (f : A → B) (l : List A) (j : ℕ) (d : A) (e : B) → j < length l → getD (map f l) j e ≡ f (getD l j d)
-map-at f [] j d e h = absurd (not-suc-le-zero h)
-map-at f (a ∷ l) zero d e h = refl
-map-at f (a ∷ l) (suc j) d e h = map-at f l j d e (le-of-suc-le-suc h)
+use Rattle.reader.specs.LayoutOfBlock.{LayoutOfBlock}
+use Rattle.block.specs.BlockOfFile.{blockOf, functionAt, openingKeys}
+use Rattle.footprint.specs.BlockSets.{setsAt}
+use Rattle.wire.proofs.ListLaws.{map-at}
 
 -- An accepted file has at most 65,536 bytes.
 pub accepted-short : (file : List ℕ) (b : Block) → readBlock file ≡ accepted b → length file ≤ maxBytes

@@ -22,8 +22,11 @@ use Rattle.block.specs.Limits.{maxCalls, maxCallKeys, maxKeys}
 use Rattle.footprint.specs.Access.{Access}
 use Rattle.footprint.specs.Conflict.{rowFor}
 use Rattle.footprint.specs.Plan.{entryWord, entryCell, entryWrites}
-use Rattle.analysis.specs.Masks.{entryTouchesCell, against, anyOf, someEntryUses, maskBits, unionOver, noRow, maskRow, maskWords, rowAt, withRow, entryRow, maskRowWords, marked, markedIf, addCallWords, CellsInTable, Masked, MasksOf, entryWords, AllListed, EveryListed, MasksFor}
-use Rattle.analysis.proofs.MaskLaws.{entry-lt, row-from-masks}
+use Rattle.footprint.specs.EntryUses.{entryTouchesCell, against, anyOf, someEntryUses, entryWords}
+use Rattle.analysis.specs.Masks.{maskBits, unionOver, noRow, maskRow, maskWords, rowAt, withRow, entryRow, maskRowWords, marked, markedIf, addCallWords, CellsInTable, Masked, MasksOf, MasksFor}
+use Rattle.footprint.specs.Listed.{AllListed, EveryListed}
+use Rattle.footprint.proofs.EntryLaws.{entry-lt}
+use Rattle.analysis.proofs.MaskLaws.{row-from-masks}
 
 -- ---- one bit more
 

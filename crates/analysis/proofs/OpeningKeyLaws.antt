@@ -15,9 +15,10 @@ use Rattle.block.specs.Record.{cellOf}
 use Rattle.footprint.specs.Plan.{highWord, lowWord, tableWords}
 use Rattle.reader.specs.declared.Layout.{Layout}
 use Rattle.analysis.proofs.GatheredLaws.{padded-last}
-use Rattle.analysis.specs.LayoutOfBlock.{LayoutOfBlock, blockOf, openingKeys}
+use Rattle.reader.specs.LayoutOfBlock.{LayoutOfBlock}
+use Rattle.block.specs.BlockOfFile.{blockOf, openingKeys}
 use Rattle.analysis.proofs.LayoutLaws.{laid-whole, laid-cells, laid-cell-within, laid-cell-key}
-use Rattle.analysis.proofs.TableWords.{words-append, words-length}
+use Rattle.footprint.proofs.TableWordLaws.{words-append, words-length}
 
 -- ---- the words of a key
 

@@ -20,9 +20,12 @@ use Rattle.block.specs.Naming.{functionOf}
 use Rattle.footprint.specs.Conflict.{rowFor, conflictBits}
 use Rattle.footprint.specs.Plan.{planWords, entryWord, codeWords, callPlan, plans, entryWrites}
 use Rattle.analysis.specs.Gathered.{column}
-use Rattle.analysis.specs.LayoutOfBlock.{blockOf, allSets, setsAt, functionAt, TableOf}
-use Rattle.analysis.proofs.CollectedLaws.{Complete, analysed-complete}
-use Rattle.analysis.specs.Masks.{entryTouchesCell, maskWords, maskRowWords, addCallWords, entryWords, AllListed, EveryListed, MasksFor}
+use Rattle.block.specs.BlockOfFile.{blockOf, functionAt}
+use Rattle.footprint.specs.BlockSets.{allSets, setsAt, TableOf}
+use Rattle.footprint.proofs.AnalysedLaws.{Complete, analysed-complete}
+use Rattle.footprint.specs.EntryUses.{entryTouchesCell, entryWords}
+use Rattle.analysis.specs.Masks.{maskWords, maskRowWords, addCallWords, MasksFor}
+use Rattle.footprint.specs.Listed.{AllListed, EveryListed}
 use Rattle.analysis.proofs.MaskBuffers.{sets-row, sets-more, sets-none}
 use Rattle.analysis.specs.Planned.{callWords}
 

@@ -21,11 +21,15 @@ use Rattle.footprint.specs.Access.{Access}
 use Rattle.footprint.specs.Plan.{planWords, entryWord, codeWords}
 use Rattle.analysis.specs.Gathered.{column, columns, highOf, lowOf, flagsOf, gathered}
 use Rattle.analysis.proofs.GatheredLaws.{gathered-fits}
-use Rattle.analysis.specs.KeyTable.{keyFrom, keysIn, cellPlace, Sorted}
-use Rattle.analysis.proofs.TableLaws.{place-le, place-cell, cellPlace-member}
-use Rattle.analysis.proofs.TableWords.{key-of-words, keys-length}
-use Rattle.analysis.specs.LayoutOfBlock.{TableOf, setsAt, functionAt}
-use Rattle.analysis.specs.Masks.{addCallWords, entryWords, AllListed, CellsInTable}
+use Rattle.footprint.specs.KeyWords.{keyFrom, keysIn}
+use Rattle.analysis.specs.KeyTable.{cellPlace, Sorted}
+use Rattle.analysis.proofs.PlaceLaws.{place-le, place-cell, cellPlace-member}
+use Rattle.footprint.proofs.TableWordLaws.{key-of-words, keys-length}
+use Rattle.footprint.specs.BlockSets.{TableOf, setsAt}
+use Rattle.block.specs.BlockOfFile.{functionAt}
+use Rattle.analysis.specs.Masks.{addCallWords, CellsInTable}
+use Rattle.footprint.specs.EntryUses.{entryWords}
+use Rattle.footprint.specs.Listed.{AllListed}
 use Rattle.analysis.proofs.MaskBuffers.{entries-taken, in-table}
 use Rattle.analysis.specs.Planned.{GatheredFits, wordsOfCall, callWords}
 use Rattle.analysis.proofs.PlanLaws.{stored-padded, complete, listed-set}

@@ -25,8 +25,10 @@ use Rattle.analysis.specs.declared.Collected.{Collected}
 use Rattle.analysis.specs.declared.Prepared.{Prepared}
 use Rattle.analysis.specs.Collected.{CollectedLeft, leaving, collectedOf}
 use Rattle.analysis.proofs.CollectedLaws.{Holding, collected-table, collected-refused}
-use Rattle.analysis.specs.KeyTable.{keysIn}
-use Rattle.analysis.specs.LayoutOfBlock.{LayoutOfBlock, blockIn, blockOf, allSets, openingKeys, analysisOf}
+use Rattle.footprint.specs.KeyWords.{keysIn}
+use Rattle.reader.specs.LayoutOfBlock.{LayoutOfBlock}
+use Rattle.block.specs.BlockOfFile.{blockIn, blockOf, openingKeys}
+use Rattle.footprint.specs.BlockSets.{allSets, analysisOf}
 use Rattle.analysis.proofs.LayoutLaws.{laid-calls, laid-first}
 use Rattle.analysis.specs.Preparing.{roomOf, preparing, preparedNone, Blank}
 

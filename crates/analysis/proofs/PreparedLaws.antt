@@ -18,11 +18,16 @@ use Rattle.block.specs.Record.{Cell, callRecordBytes, cellOf}
 use Rattle.footprint.specs.Conflict.{member}
 use Rattle.footprint.specs.Plan.{openingValue}
 use Rattle.footprint.specs.Table.{cellNumber}
-use Rattle.analysis.specs.KeyTable.{Above, RisingKeys, cellPlace}
-use Rattle.analysis.specs.LayoutOfBlock.{LayoutOfBlock, TableOf, blockOf}
-use Rattle.analysis.proofs.LayoutLaws.{laid-whole, laid-opening, laid-cells, accepted-short, map-at}
+use Rattle.footprint.specs.KeyWords.{Above, RisingKeys}
+use Rattle.analysis.specs.KeyTable.{cellPlace}
+use Rattle.reader.specs.LayoutOfBlock.{LayoutOfBlock}
+use Rattle.footprint.specs.BlockSets.{TableOf}
+use Rattle.block.specs.BlockOfFile.{blockOf}
+use Rattle.analysis.proofs.LayoutLaws.{laid-whole, laid-opening, laid-cells, accepted-short}
+use Rattle.wire.proofs.ListLaws.{map-at}
 use Rattle.analysis.proofs.PlanLaws.{complete}
-use Rattle.analysis.proofs.TableLaws.{cell-lt, cellPlace-member, member-at}
+use Rattle.footprint.proofs.TableLaws.{cell-lt, member-at}
+use Rattle.analysis.proofs.PlaceLaws.{cellPlace-member}
 use Rattle.reader.specs.declared.Layout.{Layout}
 
 -- ---- one cell more

@@ -1,36 +1,18 @@
--- The mathematics of the proofs of `rows`, over plain variables: the words of a cell's row, and the loops over a call's entries.
-use mathlib.Core.Path.{_≡_, refl, sym, ap, _∙_}
+-- The mathematics of the proofs of `rows`, over plain variables: a cell's row as it is stored, and the loops over a call's entries.
+use mathlib.Core.Path.{_≡_, _∙_}
 use mathlib.Core.Bool.{Bool}
 use mathlib.Core.List.{List, [], _∷_}
-use Prim.Native.Nat.{ℕ, zero, suc, _+_, _*_, _≤_, _<_}
-use native.Mathlib.Nat.{add-zero}
+use Prim.Native.Nat.{ℕ, _+_, _≤_, _<_}
 use native.Mathlib.Numerals.{add-one}
 use native.Mathlib.Omega.{arith}
-use lib.ListN.{length, getD, set, take, drop, length-take, length-drop, drop-of-length-le}
-use lib.Seq.{drop-cons, getD-take, getD-drop, ext-getD}
+use lib.ListN.{length, getD, set, take, drop, length-take, drop-of-length-le}
+use lib.Seq.{drop-cons, getD-take}
 use Rattle.wire.specs.Bytes.{stored}
 use Rattle.wire.specs.RowOps.{withBit, unionOf}
 use Rattle.analysis.specs.Masks.{unionOver, maskWords, rowAt, withRow, marked, markedIf, addCallWords, CellsInTable}
 use Rattle.footprint.specs.Plan.{entryCell}
 
 -- ---- one cell
-
-abbrev fourFrom : List ℕ → ℕ → List ℕ
-fourFrom ws at = getD ws at 0 ∷ getD ws (at + 1) 0 ∷ getD ws (at + 2) 0 ∷ getD ws (at + 3) 0 ∷ []
-
-four-at : (ws : List ℕ) (at i : ℕ) → i < 4 → getD (fourFrom ws at) i 0 ≡ getD ws (at + i) 0
-four-at ws at zero h = ap (λ (k : ℕ). getD ws k 0) (sym (add-zero at))
-four-at ws at (suc zero) h = refl
-four-at ws at (suc (suc zero)) h = refl
-four-at ws at (suc (suc (suc zero))) h = refl
-four-at ws at (suc (suc (suc (suc i)))) h = absurd (omega arith)
-
--- The four words that are read are the cell's row.
-pub row-by-words : (ws : List ℕ) (x : ℕ) → 4 * x + 4 ≤ length ws → fourFrom ws (4 * x) ≡ rowAt ws x
-row-by-words ws x h =
-    let long : 4 ≡ length (rowAt ws x) = simp (length-take, length-drop) (omega arith) in
-    ext-getD 0 (fourFrom ws (4 * x)) (rowAt ws x) long
-    (λ i l. four-at ws (4 * x) i l ∙ sym (getD-take 4 (drop (4 * x) ws) i 0 l ∙ getD-drop (4 * x) ws i 0))
 
 -- Four words that are stored one by one are the row.
 pub row-by-stores : (ws row : List ℕ) (at : ℕ) → length row ≡ 4

@@ -9,7 +9,7 @@ use Rattle.wire.specs.Bytes.{padded}
 use Rattle.block.specs.Limits.{maxCallKeys, maxKeys}
 use Rattle.footprint.specs.Plan.{tableWords}
 use Rattle.footprint.specs.Table.{insertKey}
-use Rattle.analysis.specs.KeyTable.{keyFrom, keysIn}
+use Rattle.footprint.specs.KeyWords.{keyFrom, keysIn}
 use Rattle.analysis.specs.declared.Sets.{Sets}
 
 -- The n keys whose words stand in two lists.

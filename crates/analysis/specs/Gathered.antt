@@ -13,8 +13,8 @@ use Rattle.wire.specs.RowOps.{firstOf}
 use Rattle.block.specs.Limits.{maxCallKeys}
 use Rattle.footprint.specs.Access.{Access}
 use Rattle.footprint.specs.Plan.{highWord, lowWord}
-use Rattle.footprint.specs.declared.KeyUse.{KeyUse}
-use Rattle.footprint.specs.declared.Uses.{Uses}
+use Rattle.key_uses.specs.declared.KeyUse.{KeyUse}
+use Rattle.key_uses.specs.declared.Uses.{Uses}
 use Rattle.analysis.specs.declared.Sets.{Sets}
 use Rattle.analysis.specs.declared.Standing.{Standing}
 

@@ -3,7 +3,7 @@
 use mathlib.Core.Path.{_≡_}
 use mathlib.Core.Bool.{Bool, _&&_}
 use mathlib.Core.List.{List, [], _∷_, _++_}
-use Prim.Native.Nat.{ℕ, zero, suc, _+_, _*_, _^_, _≤_, _<_}
+use Prim.Native.Nat.{ℕ, suc, _+_, _*_, _^_, _≤_, _<_}
 use lib.Dec.{eqb, ltb, leb}
 use lib.ListN.{length, getD, take, drop}
 use lib.Seq.{slice}
@@ -13,29 +13,7 @@ use Rattle.block.specs.Limits.{maxKeys}
 use Rattle.footprint.specs.Conflict.{member}
 use Rattle.footprint.specs.Table.{insertKey, cellNumber}
 use Rattle.footprint.specs.Plan.{tableWords}
-
--- The key that two words name.
-abbrev pub keyFrom : ℕ → ℕ → ℕ
-keyFrom high low = high * 2 ^ 32 + low
-
--- The key at a place of a buffer.
-abbrev pub keyAt : List ℕ → ℕ → ℕ
-keyAt words i = keyFrom (getD words (2 * i) 0) (getD words (2 * i + 1) 0)
-
--- The first n keys of a buffer.
-unfoldable pub keysIn : ℕ → List ℕ → List ℕ
-keysIn zero words = []
-keysIn (suc n) words = keyFrom (getD words 0 0) (getD words 1 0) ∷ keysIn n (drop 2 words)
-
--- Every key of a list is above k.
-abbrev pub Above : ℕ → List ℕ → Type 0
-Above k [] = Unit {0}
-Above k (l ∷ ls) = (k < l) × Above k ls
-
--- A list of keys, each above all before it.
-abbrev pub RisingKeys : List ℕ → Type 0
-RisingKeys [] = Unit {0}
-RisingKeys (k ∷ ks) = Above k ks × RisingKeys ks
+use Rattle.footprint.specs.KeyWords.{keysIn, RisingKeys}
 
 -- How many keys of a table are below k: where k stands in a rising table, or would stand.
 unfoldable pub placeIn : List ℕ → ℕ → ℕ

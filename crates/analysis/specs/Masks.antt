@@ -1,10 +1,9 @@
 -- A call's row from masks kept per cell, which calls so far touch it and which write it: what the masks are, what a row takes from them,
 -- and both on the words of two buffers.
 use mathlib.Core.Path.{_≡_}
-use mathlib.Core.Bool.{Bool, true, false, _&&_, _||_}
+use mathlib.Core.Bool.{Bool}
 use mathlib.Core.List.{List, [], _∷_, map}
 use Prim.Native.Nat.{ℕ, _*_, _≤_, _<_}
-use lib.Dec.{eqb}
 use lib.ListN.{length, getD, take, drop}
 use Rattle.arith.specs.Choice.{if_then_else_}
 use Rattle.wire.specs.Rows.{rowOf, rowWords}
@@ -12,39 +11,15 @@ use Rattle.wire.specs.Bytes.{stored}
 use Rattle.wire.specs.RowOps.{withBit, unionOf}
 use Rattle.block.specs.Limits.{maxKeys}
 use Rattle.footprint.specs.Access.{Access}
-use Rattle.footprint.specs.Conflict.{member}
-use Rattle.footprint.specs.Plan.{entryCell, entryWrites, entryWord}
-use Rattle.footprint.specs.Uses.{Used}
-
--- ---- entries
-
--- Every entry touches its cell; some write it.
-abbrev pub entryTouchesCell : ℕ → Bool
-entryTouchesCell e = true
-
--- Against which uses of its cell an entry stands: any use if it writes the cell, else only writes.
-abbrev pub against : ℕ → ℕ → Bool
-against e = if entryWrites e then entryTouchesCell else entryWrites
-
-unfoldable pub anyOf : (ℕ → Bool) → List ℕ → Bool
-anyOf p [] = false
-anyOf p (e ∷ es) = p e || anyOf p es
-
--- Whether one of a call's entries uses a cell in a way, given as a test of entries.
-abbrev pub someEntryUses : (ℕ → Bool) → ℕ → List ℕ → Bool
-someEntryUses how x es = anyOf (λ e. how e && eqb (entryCell e) x) es
+use Rattle.footprint.specs.Plan.{entryCell, entryWrites}
+use Rattle.footprint.specs.EntryUses.{against, entryTouchesCell, entryWords, someEntryUses}
+use Rattle.footprint.specs.Listed.{EveryListed}
 
 -- ---- masks
 
 -- Bit i of a cell's mask: whether call i, of those so far, uses the cell so.
 abbrev pub maskBits : (ℕ → Bool) → List (List ℕ) → ℕ → List Bool
 maskBits how calls x = map (someEntryUses how x) calls
-
-abbrev pub touchedBits : List (List ℕ) → ℕ → List Bool
-touchedBits = maskBits entryTouchesCell
-
-abbrev pub writerBits : List (List ℕ) → ℕ → List Bool
-writerBits = maskBits entryWrites
 
 -- The union of a row with those that a call's entries take.
 unfoldable pub unionOver : (ℕ → List ℕ) → List ℕ → List ℕ → List ℕ
@@ -101,25 +76,6 @@ pub record Masked (how : ℕ → Bool) (masks : List ℕ) (calls : List (List �
 pub record MasksOf (touched writers : List ℕ) (calls : List (List ℕ)) : Type 0 where
   pub touched-masks : Masked entryTouchesCell touched calls
   pub writer-masks : Masked entryWrites writers calls
-
--- ---- sets
-
--- The entry words of a call's set.
-abbrev pub entryWords : List ℕ → List Access → List ℕ
-entryWords keys s = map (entryWord keys) s
-
--- An access that reads or writes, with a key in the table; and sets of such accesses.
-pub record AccessListed (keys : List ℕ) (e : Access) : Type 0 where
-  pub in-table : member (e .key) keys ≡ true
-  pub has-use : Used e
-
-abbrev pub AllListed : List ℕ → List Access → Type 0
-AllListed keys [] = Unit {0}
-AllListed keys (e ∷ s) = AccessListed keys e × AllListed keys s
-
-abbrev pub EveryListed : List ℕ → List (List Access) → Type 0
-EveryListed keys [] = Unit {0}
-EveryListed keys (s ∷ sets) = AllListed keys s × EveryListed keys sets
 
 -- Two buffers that hold the masks of the sets so far, all of them in the table.
 pub record MasksFor (keys touched writers : List ℕ) (sets : List (List Access)) : Type 0 where

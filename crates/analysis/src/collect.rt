@@ -10,17 +10,18 @@ use block::CallBody;
 use block::Refusal;
 use block::Verdict;
 use block::address::address_of;
+use block::format::CALL_RECORD_BYTES;
+use block::format::CELL_BYTES;
+use block::format::HEAD_BYTES;
+use block::limits::MAX_FUNCTIONS;
 use block::limits::MAX_KEYS;
-use block::part::from;
-use block::part::long;
-use block::part::short;
-use block::record::CALL_RECORD_BYTES;
-use block::record::CELL_BYTES;
-use block::record::HEAD_BYTES;
-use block::record::call_at;
-use block::record::code_at;
-use block::record::high_of;
-use block::record::id_of;
+use decoder::part::from;
+use decoder::part::long;
+use decoder::part::short;
+use decoder::record::call_at;
+use decoder::record::code_at;
+use decoder::record::high_of;
+use decoder::record::id_of;
 use reader::Layout;
 ghost use mathlib.Core.Path.{_≡_};
 ghost use Prim.Native.Nat.{_+_, _*_, _≤_, _<_};
@@ -35,10 +36,12 @@ ghost use Rattle.analysis.specs.Collected.{collectedOf, leaving};
 ghost use Rattle.analysis.specs.Filling.{KeysFilled, SetsWorded, setKeys};
 ghost use Rattle.analysis.specs.Gathered.{gathered};
 ghost use Rattle.analysis.specs.KeyTable.{Tabled};
-ghost use Rattle.analysis.specs.LayoutOfBlock.{LayoutOfBlock, analysisOf, blockOf, functionAt, openingKeys, setsAt};
+ghost use Rattle.reader.specs.LayoutOfBlock.{LayoutOfBlock};
+ghost use Rattle.footprint.specs.BlockSets.{analysisOf, setsAt};
+ghost use Rattle.block.specs.BlockOfFile.{blockOf, functionAt, openingKeys};
 
 // The place of an id among the first n, or n.
-fn id_place(ids: [u64; 64], n: usize, id: u64) -> usize
+fn id_place(ids: [u64; MAX_FUNCTIONS], n: usize, id: u64) -> usize
     requires { ⌜ n ≤ maxFunctions ⌝ }
     ensures { λ r. ⌜ r ≡ idPlace ids n id ⌝ }
 {

@@ -3,14 +3,14 @@ use crate::Sets;
 use crate::Standing;
 use block::Call;
 use block::Decoded;
-use block::instruction::decode;
+use block::format::INSTR_BYTES;
 use block::limits::MAX_CALL_KEYS;
-use block::record::INSTR_BYTES;
-use footprint::KeyUse;
-use footprint::Uses;
-use footprint::access::entry_uses;
-use footprint::access::instr_uses;
-use footprint::access::no_uses;
+use decoder::instruction::decode;
+use key_uses::KeyUse;
+use key_uses::Uses;
+use key_uses::entry_uses;
+use key_uses::instr_uses;
+use key_uses::no_uses;
 ghost use mathlib.Core.Path.{_≡_};
 ghost use mathlib.Core.List.{[]};
 ghost use Prim.Native.Nat.{_*_, _<_, _≤_};
@@ -21,7 +21,7 @@ ghost use Rattle.block.specs.Limits.{maxCode};
 ghost use Rattle.footprint.specs.Access.{entryAccesses};
 ghost use Rattle.analysis.specs.Gathered.{Wide, gathered, inParts, useStandsAt, useFlags, withUse, withUses};
 ghost use Rattle.footprint.specs.Sets.{codeAccesses, decodedAccesses, mergeAll};
-ghost use Rattle.footprint.specs.Uses.{usesOf};
+ghost use Rattle.key_uses.specs.Uses.{usesOf};
 
 // No keys.
 pub(crate) fn no_keys() -> Sets

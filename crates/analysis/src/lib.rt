@@ -12,6 +12,7 @@ use block::limits::MAX_CALLS;
 use block::limits::MAX_KEYS;
 use collect::call_keys;
 use collect::opening_keys;
+use footprint::layout::KEY_WORDS;
 use footprint::layout::PLAN_WORDS;
 use plan::opening_values;
 use plan::plan_calls;
@@ -20,7 +21,7 @@ ghost use mathlib.Core.Path.{_≡_};
 ghost use lib.ListN.{length};
 ghost use Rattle.block.specs.Reader.{readBlock};
 ghost use Rattle.footprint.specs.Plan.{roomEnough, prepareRead, preparedOf};
-ghost use Rattle.analysis.specs.LayoutOfBlock.{LayoutOfBlock};
+ghost use Rattle.reader.specs.LayoutOfBlock.{LayoutOfBlock};
 ghost use Rattle.analysis.specs.Preparing.{roomOf, preparing, preparedNone, Blank};
 
 // The distinct keys of a call, of which the first `count` stand, each with its flags: 1 if it is read, plus 2 if it is written. Where
@@ -80,7 +81,7 @@ fn room_enough(plan: usize, keys: usize, cells: usize) -> bool
     if plan < MAX_CALLS * PLAN_WORDS {
         return false;
     }
-    if keys < MAX_KEYS * 2 {
+    if keys < MAX_KEYS * KEY_WORDS {
         return false;
     }
     MAX_KEYS <= cells

@@ -6,18 +6,19 @@ use crate::rows::add_call;
 use crate::rows::row_for;
 use crate::table::cell_number;
 use block::address::address_of;
+use block::format::CELL_BYTES;
+use block::format::HEAD_BYTES;
 use block::limits::MAX_CALL_KEYS;
-use block::part::from;
-use block::part::long;
-use block::part::short;
-use block::record::CELL_BYTES;
-use block::record::HEAD_BYTES;
-use block::record::high_of;
+use decoder::part::from;
+use decoder::part::long;
+use decoder::part::short;
+use decoder::record::high_of;
 use footprint::layout::ENTRY_FLAGS;
 use footprint::layout::FIRST_ENTRY;
 use footprint::layout::FIRST_ROW_WORD;
 use footprint::layout::PLAN_WORDS;
 use reader::Layout;
+use wire::ROW_WORDS;
 ghost use mathlib.Core.Path.{_≡_};
 ghost use mathlib.Core.List.{List, [], _∷_, map};
 ghost use Prim.Native.Nat.{_+_, _*_, _≤_, _<_};
@@ -29,9 +30,14 @@ ghost use Rattle.block.specs.Record.{cellOf};
 ghost use Rattle.footprint.specs.Access.{Access};
 ghost use Rattle.footprint.specs.Plan.{planWords, entryWord, plans, openingValue, entryWrites};
 ghost use Rattle.analysis.specs.Gathered.{column, columns};
-ghost use Rattle.analysis.specs.KeyTable.{keysIn, cellPlace, Sorted};
-ghost use Rattle.analysis.specs.LayoutOfBlock.{LayoutOfBlock, TableOf, blockOf, allSets, setsAt, functionAt};
-ghost use Rattle.analysis.specs.Masks.{entryTouchesCell, maskWords, maskRowWords, addCallWords, entryWords, AllListed};
+ghost use Rattle.footprint.specs.KeyWords.{keysIn};
+ghost use Rattle.analysis.specs.KeyTable.{cellPlace, Sorted};
+ghost use Rattle.reader.specs.LayoutOfBlock.{LayoutOfBlock};
+ghost use Rattle.footprint.specs.BlockSets.{TableOf, allSets, setsAt};
+ghost use Rattle.block.specs.BlockOfFile.{blockOf, functionAt};
+ghost use Rattle.footprint.specs.EntryUses.{entryTouchesCell, entryWords};
+ghost use Rattle.analysis.specs.Masks.{maskWords, maskRowWords, addCallWords};
+ghost use Rattle.footprint.specs.Listed.{AllListed};
 ghost use Rattle.analysis.specs.Planned.{GatheredFits, wordsOfCall, callWords};
 
 // "2, opening cell: key 12, value 8": where the value stands in the body.
@@ -77,7 +83,7 @@ fn put_call(
     size: u64,
     count: u64,
     words: [u64; MAX_CALL_KEYS],
-    row: [u64; 4],
+    row: [u64; ROW_WORDS],
 )
     requires { ⌜ planWords * call + planWords ≤ length (now plan) ⌝ }
     ensures { λ r. ⌜ now (plan .exit) ≡ stored (now (plan .entry)) (planWords * call) (wordsOfCall (start ∷ size ∷ []) count words row) ⌝ }

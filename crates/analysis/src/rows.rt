@@ -7,22 +7,23 @@ ghost use mathlib.Core.Path.{_≡_};
 ghost use Prim.Native.Nat.{_+_, _*_, _≤_, _<_};
 ghost use lib.ListN.{length, take};
 ghost use Rattle.block.specs.Limits.{maxCallKeys};
-ghost use Rattle.analysis.specs.Masks.{entryTouchesCell, maskWords, rowAt, withRow, entryRow, maskRowWords, marked, markedIf, addCallWords, CellsInTable};
+ghost use Rattle.footprint.specs.EntryUses.{entryTouchesCell};
+ghost use Rattle.analysis.specs.Masks.{maskWords, rowAt, withRow, entryRow, maskRowWords, marked, markedIf, addCallWords, CellsInTable};
 ghost use Rattle.wire.specs.Rows.{rowWords};
 ghost use Rattle.footprint.specs.Plan.{entryCell, entryWrites};
 
-// A row has four words of 64 bits.
 // A cell's row in one of the buffers.
-fn row_at(masks: &[u64], cell: usize) -> [u64; 4]
+fn row_at(masks: &[u64], cell: usize) -> [u64; ROW_WORDS]
     requires { ⌜ rowWords * cell + rowWords ≤ length (now masks) ⌝ }
     ensures { λ r. ⌜ r ≡ rowAt (now (masks .entry)) cell ⌝ }
 {
     let at = ROW_WORDS * cell;
-    [masks[at], masks[at + 1], masks[at + 2], masks[at + 3]]
+    let end = at + ROW_WORDS;
+    wire::row_from(&masks[at..end])
 }
 
 // The calls that an entry waits for: those that write its cell, and if it writes the cell itself all that touch it.
-fn entry_row(touched: &[u64], writers: &[u64], entry: u64) -> [u64; 4]
+fn entry_row(touched: &[u64], writers: &[u64], entry: u64) -> [u64; ROW_WORDS]
     requires { ⌜ entry < maskWords ⌝ }
     requires { ⌜ maskWords ≤ length (now touched) ⌝ }
     requires { ⌜ maskWords ≤ length (now writers) ⌝ }
@@ -42,14 +43,14 @@ pub(crate) fn row_for(
     writers: &[u64],
     entries: [u64; MAX_CALL_KEYS],
     n: usize,
-) -> [u64; 4]
+) -> [u64; ROW_WORDS]
     requires { ⌜ n ≤ maxCallKeys ⌝ }
     requires { ⌜ CellsInTable (take n entries) ⌝ }
     requires { ⌜ maskWords ≤ length (now touched) ⌝ }
     requires { ⌜ maskWords ≤ length (now writers) ⌝ }
     ensures { λ r. ⌜ r ≡ maskRowWords (now (touched .entry)) (now (writers .entry)) (take n entries) ⌝ }
 {
-    let mut row = [0u64; 4];
+    let mut row = [0u64; ROW_WORDS];
     let mut k = 0;
     while k < n {
         let wider = wire::row_union(row, entry_row(touched, writers, entries[k]));
@@ -60,7 +61,7 @@ pub(crate) fn row_for(
 }
 
 // A row stored as a cell's.
-fn put_row(masks: &mut [u64], cell: usize, row: [u64; 4])
+fn put_row(masks: &mut [u64], cell: usize, row: [u64; ROW_WORDS])
     requires { ⌜ rowWords * cell + rowWords ≤ length (now masks) ⌝ }
     ensures { λ r. ⌜ now (masks .exit) ≡ withRow (now (masks .entry)) cell row ⌝ }
 {

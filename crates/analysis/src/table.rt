@@ -3,7 +3,8 @@ ghost use mathlib.Core.Path.{_≡_};
 ghost use Prim.Native.Nat.{_+_, _*_, _^_, _≤_, _<_};
 ghost use lib.Dec.{ltb};
 ghost use lib.ListN.{length, getD};
-ghost use Rattle.analysis.specs.KeyTable.{keyFrom, keyAt, keysIn, placeIn, cellPlace, standsAt, movedUp, Sorted, Tabled, Inserted};
+ghost use Rattle.footprint.specs.KeyWords.{keyFrom, keyAt, keysIn};
+ghost use Rattle.analysis.specs.KeyTable.{placeIn, cellPlace, standsAt, movedUp, Sorted, Tabled, Inserted};
 use block::limits::MAX_KEYS;
 
 // Whether the key at a place is below a key.

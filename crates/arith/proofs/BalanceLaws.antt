@@ -10,9 +10,8 @@ use lib.ListN.{length, getD, set, length-set}
 use lib.Seq.{getD-set-other}
 use lib.Signed.{leZ, nonNeg}
 use Rattle.arith.proofs.ChoiceLaws.{both}
-use Rattle.arith.specs.Exact.{fits64}
 use Rattle.arith.specs.Balance.{total, noneBelowZero, withinLimit, largest}
-use Rattle.arith.proofs.IntegerLaws.{posPart, negPart, N-zero, equal, sum, diff, leZ-true, le-leZ, nonNeg-true, nonNeg-of, within-fits}
+use Rattle.arith.proofs.IntegerLaws.{posPart, negPart, N-zero, equal, sum, diff, leZ-true, le-leZ, nonNeg-true, nonNeg-of}
 
 -- The balance at a place; past the end there is none, and it reads 0.
 abbrev pub balance : List ℤ → ℕ → ℤ
@@ -135,22 +134,15 @@ within-limit bs w =
     both-and (noneBelowZero bs) (leZ (total bs) largest) (w .fromZero)
     (le-leZ (total bs) largest (omega (arith, w .atMost)))
 
--- A value from 0 to the largest is one of 64 bits, and passes the test against the largest.
-module _ (z : ℤ) (h : negPart z ≡ 0) (k : posPart z < 2 ^ 63) where
-  from-zero-fits : fits64 z ≡ true
-  from-zero-fits = within-fits z (omega arith)
-
-  from-zero-largest : leZ z largest ≡ true
-  from-zero-largest = le-leZ z largest (omega arith)
+-- A value from 0 to the largest passes the test against the largest.
+from-zero-largest : (z : ℤ) → negPart z ≡ 0 → posPart z < 2 ^ 63 → leZ z largest ≡ true
+from-zero-largest z h k = le-leZ z largest (omega arith)
 
 module _ (bs : List ℤ) (e : withinLimit bs ≡ true) where
   below-largest : (i : ℕ) → posPart (balance bs i) < 2 ^ 63
   below-largest i = let w = limit-within bs e in omega (arith, one-below-total bs i (w .fromZero), w .atMost)
 
-  -- Each balance is a value, at most the largest.
-  pub balance-fits : (i : ℕ) → fits64 (balance bs i) ≡ true
-  balance-fits i = from-zero-fits (balance bs i) (balance-from-zero bs i (limit-within bs e .fromZero)) (below-largest i)
-
+  -- Each balance is at most the largest.
   pub balance-largest : (i : ℕ) → leZ (balance bs i) largest ≡ true
   balance-largest i = from-zero-largest (balance bs i) (balance-from-zero bs i (limit-within bs e .fromZero)) (below-largest i)
 
@@ -163,9 +155,6 @@ module _ (bs : List ℤ) (e : withinLimit bs ≡ true) where
         let y = balance bs j in
         let n : negPart (y +ℤ m) ≡ 0 = N-zero (y +ℤ m) (omega (arith, sum y m, nonNeg-true m s, balance-from-zero bs j (w .fromZero))) in
         (n, omega (arith, sum y m, nonNeg-true m s, balance-from-zero bs j (w .fromZero), balance-from-zero bs i (w .fromZero), leZ-true m x l, two-below-total bs i j d (w .fromZero), w .atMost))
-
-    pub plus-fits : fits64 (balance bs j +ℤ m) ≡ true
-    plus-fits = from-zero-fits (balance bs j +ℤ m) (taken .0) (taken .1)
 
     pub plus-largest : leZ (balance bs j +ℤ m) largest ≡ true
     plus-largest = from-zero-largest (balance bs j +ℤ m) (taken .0) (taken .1)

@@ -19,3 +19,18 @@ both false t e = absurd (false≢true e)
 pub neither : (s t : Bool) → (s || t) ≡ false → (s ≡ false) × (t ≡ false)
 neither true t e = absurd (true≢false e)
 neither false t e = (refl, e)
+
+pub or-left : (s t : Bool) → s ≡ true → (s || t) ≡ true
+or-left true t e = refl
+or-left false t e = absurd (false≢true e)
+
+pub or-right : (s t : Bool) → t ≡ true → (s || t) ≡ true
+or-right true t e = refl
+or-right false t e = e
+
+-- A choice whose test is known.
+pub if-true : {A : Type 0} {b : Bool} (x y : A) → b ≡ true → (if b then x else y) ≡ x
+if-true x y e = rw e
+
+pub if-false : {A : Type 0} {b : Bool} (x y : A) → b ≡ false → (if b then x else y) ≡ y
+if-false x y e = rw e

@@ -1,6 +1,5 @@
 -- Laws of ℤ for linear arithmetic: an integer z is posPart z - negPart z, so that each fact of sums, orders and ranges becomes one of ℕ, which `omega` proves.
 use mathlib.Core.Path.{_≡_, refl, sym, _∙_, ap}
-use mathlib.Core.Logic.{_⊎_, inl, inr}
 use mathlib.Core.Bool.{Bool, true, false, cond}
 use Prim.Native.Nat.{ℕ, zero, suc, _+_, _*_, _-_, _/_, _%_, _^_, _<_, _≤_}
 use native.Mathlib.Omega.{arith}
@@ -27,19 +26,11 @@ abbrev pub negPart : ℤ → ℕ
 negPart (pos n) = 0
 negPart (negsuc n) = suc n
 
--- ---- the parts: one of them is 0, and they tell z
-
-pub one-part-zero : (z : ℤ) → (posPart z ≡ 0) ⊎ (negPart z ≡ 0)
-one-part-zero (pos n) = inr refl
-one-part-zero (negsuc n) = inl refl
+-- ---- the parts: the lesser of them is 0, and they tell z
 
 pub N-zero : (z : ℤ) → negPart z ≤ posPart z → negPart z ≡ 0
 N-zero (pos n) h = refl
 N-zero (negsuc n) h = absurd (omega arith)
-
-pub P-zero : (z : ℤ) → posPart z ≤ negPart z → posPart z ≡ 0
-P-zero (pos n) h = omega arith
-P-zero (negsuc n) h = refl
 
 pub equal : (a b : ℤ) → posPart a + negPart b ≡ posPart b + negPart a → a ≡ b
 equal (pos a) (pos b) h = let e : a ≡ b = omega arith in ap pos e
@@ -47,11 +38,7 @@ equal (pos a) (negsuc b) h = absurd (omega arith)
 equal (negsuc a) (pos b) h = absurd (omega arith)
 equal (negsuc a) (negsuc b) h = let e : a ≡ b = omega arith in ap negsuc e
 
-pub natAbs-parts : (z : ℤ) → natAbs z ≡ posPart z + negPart z
-natAbs-parts (pos n) = omega arith
-natAbs-parts (negsuc n) = omega arith
-
--- ---- sums, negation, differences, and the magnitude of a product
+-- ---- sums, negation, differences
 
 sub-parts : (a b : ℕ) → posPart (subℕ a b) + b ≡ a + negPart (subℕ a b)
 sub-parts a b = go (ltb a b) refl
@@ -78,16 +65,6 @@ N-neg (negsuc n) = refl
 
 pub diff : (a b : ℤ) → posPart (a -ℤ b) + (negPart a + posPart b) ≡ posPart a + negPart b + negPart (a -ℤ b)
 diff a b = omega (arith, sum a (negℤ b), P-neg b, N-neg b)
-
-natAbs-neg : (n : ℕ) → natAbs (negℤ (pos n)) ≡ n
-natAbs-neg zero = refl
-natAbs-neg (suc n) = refl
-
-pub natAbs-product : (a b : ℤ) → natAbs (a *ℤ b) ≡ natAbs a * natAbs b
-natAbs-product (pos a) (pos b) = refl
-natAbs-product (pos a) (negsuc b) = natAbs-neg (a * suc b)
-natAbs-product (negsuc a) (pos b) = natAbs-neg (suc a * b)
-natAbs-product (negsuc a) (negsuc b) = refl
 
 -- ---- orders: what a test tells, and what tells a test
 
@@ -139,10 +116,6 @@ pub nonNeg-true : (z : ℤ) → nonNeg z ≡ true → negPart z ≡ 0
 nonNeg-true (pos n) e = refl
 nonNeg-true (negsuc n) e = clash e
 
-pub nonNeg-false : (z : ℤ) → nonNeg z ≡ false → 0 < negPart z
-nonNeg-false (pos n) e = clash (sym e)
-nonNeg-false (negsuc n) e = omega arith
-
 -- Each test from its fact: the other answer would tell the opposite.
 decide : (t : Bool) → (t ≡ false → ⊥) → t ≡ true
 decide true h = refl
@@ -151,9 +124,6 @@ decide false h = absurd (h refl)
 refuse : (t : Bool) → (t ≡ true → ⊥) → t ≡ false
 refuse true h = absurd (h refl)
 refuse false h = refl
-
-pub lt-ltZ : (a b : ℤ) → posPart a + negPart b < posPart b + negPart a → ltZ a b ≡ true
-lt-ltZ a b h = decide (ltZ a b) (λ e. omega (arith, ltZ-false a b e))
 
 pub le-ltZ : (a b : ℤ) → posPart b + negPart a ≤ posPart a + negPart b → ltZ a b ≡ false
 le-ltZ a b h = refuse (ltZ a b) (λ e. omega (arith, ltZ-true a b e))
@@ -181,17 +151,7 @@ pub parts-mag : (z : ℤ) {H : ℕ} → (posPart z < H + negPart z) × (negPart 
 parts-mag (pos n) h = omega arith
 parts-mag (negsuc n) h = omega arith
 
--- The range as the library says it of a type, and as the test says it.
-pub fits-true : (z : ℤ) → fits64 z ≡ true → (posPart z < 2 ^ 63) × (negPart z ≤ 2 ^ 63)
-fits-true z e = mag-parts z (ltb-true (mag z) (2 ^ 63) e)
-
-pub fits-false : (z : ℤ) → fits64 z ≡ false → (2 ^ 63 ≤ posPart z) ⊎ (2 ^ 63 < negPart z)
-fits-false (pos n) e = inl (ltb-false n (2 ^ 63) e)
-fits-false (negsuc n) e = let h : 2 ^ 63 ≤ n = ltb-false n (2 ^ 63) e in inr (omega arith)
-
-pub within-fits : (z : ℤ) → (posPart z < 2 ^ 63 + negPart z) × (negPart z ≤ 2 ^ 63 + posPart z) → fits64 z ≡ true
-within-fits z h = lt-ltb (mag z) (2 ^ 63) (parts-mag z h)
-
+-- The range as the test says it, and as the library says it of a type.
 pub large-fits : (z : ℤ) → 2 ^ 63 + negPart z ≤ posPart z → fits64 z ≡ false
 large-fits (pos n) h = le-ltb n (2 ^ 63) (omega arith)
 large-fits (negsuc n) h = absurd (omega arith)
@@ -209,9 +169,6 @@ parts-sfits w z h = record { sfits = parts-mag z h }
 pub sfits-fits : {z : ℤ} → SFits w64 z → fits64 z ≡ true
 sfits-fits {z} f = lt-ltb (mag z) (2 ^ 63) (f .sfits)
 
-pub fits-sfits : (z : ℤ) → fits64 z ≡ true → SFits w64 z
-fits-sfits z e = record { sfits = ltb-true (mag z) (2 ^ 63) e }
-
 -- ---- what `checked` gives within the range and outside
 
 pub checked-value : (z : ℤ) → fits64 z ≡ true → checked z ≡ Value z
@@ -221,14 +178,6 @@ checked-value z e = rw e
 pub checked-overflow : (z : ℤ) → fits64 z ≡ false → checked z ≡ Overflow
 unfolding checked
 checked-overflow z e = rw e
-
--- A value that `checked` gave is the number itself, and in the range.
-pub checked-is : (z v : ℤ) → checked z ≡ Value v → (fits64 z ≡ true) × (z ≡ v)
-checked-is z v e = go (fits64 z) refl
-  where
-    go : (t : Bool) → fits64 z ≡ t → (fits64 z ≡ true) × (z ≡ v)
-    go true f = (f, cc (checked-value z f))
-    go false f = let n : _≡_ {A = ℕ} 0 1 = cc (checked-overflow z f) in absurd (omega arith)
 
 -- ---- two's complement: `signed k` and `unsigned k` case by case, and inverse to each other
 
@@ -368,3 +317,14 @@ div-rest a (negsuc d) h =
           ∙ ap (λ (z : ℤ). z +ℤ negℤ (pos (f .rest)))
           (ap negℤ (*ℤ-comm (pos (suc d)) q) ∙ sym (*ℤ-negsuc q d) ∙ *ℤ-comm q (negsuc d));
     }
+
+-- ---- signs
+
+-- The sign test, and what it leaves.
+pub negative : (z : ℤ) → ltZ z (pos 0) ≡ true → nonNeg z ≡ false
+negative (pos n) e = let h : n < 0 = ltb-true n 0 e in absurd (omega arith)
+negative (negsuc n) e = refl
+
+pub not-negative : (z : ℤ) → ltZ z (pos 0) ≡ false → nonNeg z ≡ true
+not-negative (pos n) e = refl
+not-negative (negsuc n) e = sym e

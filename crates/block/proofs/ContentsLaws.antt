@@ -2,14 +2,15 @@
 use mathlib.Core.Path.{_≡_, refl, sym, ap, ap₂, _∙_}
 use mathlib.Core.Bool.{true}
 use mathlib.Core.List.{List, [], _∷_, _++_, map, append-assoc, append-nil}
-use Prim.Native.Nat.{ℕ, suc, _+_, _*_, _<_}
+use Prim.Native.Nat.{ℕ, suc, _+_, _<_}
 use native.Mathlib.Omega.{arith}
 use borrow.Author.Tests.{ltb-true, lt-ltb}
 use lib.ListN.{length, length-append, drop}
 use Rattle.wire.proofs.BytesLaws.{number-bytesOf}
 use Rattle.block.specs.Record.{Function, Cell, functionId, headBytes, functionKind, cellKind, endKind, callBytes, recordOf}
 use Rattle.block.specs.Reader.{rises}
-use Rattle.block.specs.Encoding.{Routine, Contents, functionRecord, cellRecord, callRecord, records, fileOf, All, Ascending, sizeOf, routineId, placed, blockFor}
+use Rattle.block.specs.Encoding.{Routine, Contents, functionRecord, cellRecord, callRecord, records, fileOf, Ascending, sizeOf, routineId, placed, blockFor}
+use Rattle.wire.specs.All.{All}
 use Rattle.block.proofs.EncodingLaws.{functionBody, cellBody, callBody}
 use Rattle.wire.specs.Bytes.{bytesOf, number, readLe}
 use Rattle.block.specs.declared.Call.{Call}
@@ -17,7 +18,6 @@ use Rattle.block.specs.declared.Call.{Call}
 -- ---- lists that grow at their end
 
 pub all-snoc : {A : Type 0} (P : A → Type 0) (xs : List A) (x : A) → All P xs → P x → All P (xs ++ (x ∷ []))
-unfolding All
 all-snoc P [] x h p = (p, tt)
 all-snoc P (y ∷ xs) x h p = (h .0, all-snoc P xs x (h .1) p)
 
@@ -60,14 +60,6 @@ cell-length c = refl
 pub call-length : (c : Call) → length (callBody c) ≡ callBytes
 unfolding bytesOf
 call-length c = refl
-
--- Records of cells take 24 bytes each.
-pub cells-length : (cs : List Cell) → length (records cellRecord cs) ≡ 24 * length cs
-unfolding records bytesOf
-cells-length [] = refl
-cells-length (c ∷ cs) =
-    let own : length (cellRecord c) ≡ 4 + 20 = record-length cellKind (cellBody c) in
-    omega (arith, length-append (cellRecord c) (records cellRecord cs), cells-length cs)
 
 -- ---- functions at their places
 

@@ -7,7 +7,8 @@ use lib.ListN.{length, drop, length-append}
 use Rattle.wire.specs.Bytes.{number, readLe, bytesOf}
 use Rattle.block.specs.Limits.{maxBytes}
 use Rattle.block.specs.Record.{Cell, functionKind, cellKind, callKind, endKind, recordOf, cellOf}
-use Rattle.block.specs.Encoding.{Routine, Contents, functionRecord, cellRecord, callRecord, records, fileOf, All, FunctionKeeps, CellKeeps, CallKeeps, FunctionFits, CellFits, CallFits, KeepsRules, Fits}
+use Rattle.block.specs.Encoding.{Routine, Contents, functionRecord, cellRecord, callRecord, records, fileOf, FunctionKeeps, CellKeeps, CallKeeps, FunctionFits, CellFits, CallFits, KeepsRules, Fits}
+use Rattle.wire.specs.All.{All}
 use Rattle.block.proofs.EncodingLaws.{functionBody, cellBody, callBody, function-contract, function-number}
 use Rattle.block.proofs.BodyLaws.{cell-back, callInBody, call-fits, call-same}
 use Rattle.block.proofs.ContentsLaws.{record-length, head-length, head-kind, head-behind}
@@ -17,7 +18,6 @@ use Rattle.block.specs.declared.Call.{Call}
 -- ---- what fits, of what is kept
 
 pub all-map : {A : Type 0} (P Q : A → Type 0) → ((x : A) → P x → Q x) → (xs : List A) → All P xs → All Q xs
-unfolding All
 all-map P Q f [] h = tt
 all-map P Q f (x ∷ xs) h = (f x (h .0), all-map P Q f xs (h .1))
 
@@ -100,7 +100,7 @@ module _ {A : Type 0} (kind : ℕ) (known : kind ≤ 4) (body : A → List ℕ) 
   module _ (P : A → Type 0) (one : (x y : A) → P x → P y → body x ≡ body y → x ≡ y) (tail end : List ℕ)
       (tail-up : kind < kindOf tail) (end-up : kind < kindOf end) where
     records-one : (xs ys : List A) → All P xs → All P ys → length (all xs tail) ≤ maxBytes → all xs tail ≡ all ys end → (xs ≡ ys) × (tail ≡ end)
-    unfolding All records
+    unfolding records
     records-one [] [] hx hy short e = (refl, e)
     records-one [] (y ∷ ys) hx hy short e = absurd (omega (arith, ap kindOf e, all-kind y ys end))
     records-one (x ∷ xs) [] hx hy short e = absurd (omega (arith, ap kindOf e, all-kind x xs tail))

@@ -15,7 +15,8 @@ use Rattle.wire.specs.Bytes.{number, readLe, bytesOf}
 use Rattle.block.specs.Instruction.{firstInvalid}
 use Rattle.block.specs.Record.{Cell, Block, functionId, functionKind, cellKind, callKind, endKind, callBytes, recordOf, lengthAllowed, cellOf, cellAllowed, callOf}
 use Rattle.block.specs.Reader.{Read, Reading, accepted, refused, due, ended, emptyBlock, rises, balances, readFunction, readCell, withCall, readCall, readEnd, readBody, readRecord, readFrom, readBlock}
-use Rattle.block.specs.Encoding.{Routine, Contents, functionRecord, cellRecord, callRecord, records, fileOf, AreBytes, All, Ascending, sizeOf, FunctionKeeps, CellKeeps, CallKeeps, routineId, FunctionsKeep, CellsKeep, CallsKeep, HoldsContents, placed, blockFor}
+use Rattle.block.specs.Encoding.{Routine, Contents, functionRecord, cellRecord, callRecord, records, fileOf, AreBytes, Ascending, sizeOf, FunctionKeeps, CellKeeps, CallKeeps, routineId, FunctionsKeep, CellsKeep, CallsKeep, HoldsContents, placed, blockFor}
+use Rattle.wire.specs.All.{All}
 use Rattle.block.proofs.EncodingLaws.{functionBody, cellBody, callBody, bytes-drop, bytes-split, routineIn, function-size, function-split, function-length-in, function-keeps}
 use Rattle.block.proofs.BodyLaws.{cell-split, cell-keeps, call-split, call-keeps}
 use Rattle.block.proofs.ContentsLaws.{all-snoc, ascending-snoc, record-length, cell-length, call-length, placed-length, placed-ids, holding, sent, sent-file, sent-function, sent-cell, sent-call, block-function, block-cell}
@@ -307,7 +308,7 @@ module _ (file : List ℕ) (short : length file ≤ 65536) where
   right-from (suc turns) (ended g) r = r
 
 nothing-stands : (file : List ℕ) → AreBytes file → Held file 0 0 file emptyBlock
-unfolding total balances All Ascending blockFor placed records sent
+unfolding total balances Ascending blockFor placed records sent
 nothing-stands file bytes =
     record {
       fs = [];

@@ -19,7 +19,8 @@ use Rattle.wire.specs.Bytes.{number}
 use Rattle.block.specs.Key.{firstContract, isBalance}
 use Rattle.block.specs.Record.{Cell, Block, functionId, functionKind, cellKind, callKind, endKind, callBytes, recordOf, lengthAllowed, cellOf, cellAllowed}
 use Rattle.block.specs.Reader.{Read, accepted, due, ended, emptyBlock, rises, balances, readFunction, readCell, withCall, readCall, readEnd, readBody, readRecord, readFrom, readBlock}
-use Rattle.block.specs.Encoding.{Routine, Contents, functionRecord, cellRecord, callRecord, records, fileOf, All, Ascending, sizeOf, FunctionKeeps, CellKeeps, CallKeeps, routineId, FunctionsKeep, CellsKeep, CallsKeep, KeepsRules, placed, blockFor}
+use Rattle.block.specs.Encoding.{Routine, Contents, functionRecord, cellRecord, callRecord, records, fileOf, Ascending, sizeOf, FunctionKeeps, CellKeeps, CallKeeps, routineId, FunctionsKeep, CellsKeep, CallsKeep, KeepsRules, placed, blockFor}
+use Rattle.wire.specs.All.{All}
 use Rattle.block.proofs.EncodingLaws.{functionBody, cellBody, callBody, function-contract, function-number, function-code, function-valid, function-size}
 use Rattle.block.proofs.BodyLaws.{cell-behind, cell-back, cell-allowed, call-behind, call-back}
 use Rattle.block.proofs.ContentsLaws.{ascending-rises, records-append, record-length, cell-length, call-length, placedAt, placed-length, placed-ids, holding, sent, sent-file, sent-none, sent-length, sent-function, sent-cell, sent-call, block-function, block-cell, head-length, head-kind, head-behind}
@@ -127,12 +128,11 @@ module _ {A : Type 0} (of : A → List ℕ) where
 -- ---- what is kept of all, at one of them
 
 all-middle : {A : Type 0} (P : A → Type 0) (before : List A) (x : A) (xs : List A) → All P (before ++ x ∷ xs) → P x
-unfolding All
 all-middle P [] x xs h = h .0
 all-middle P (y ∷ before) x xs h = all-middle P before x xs (h .1)
 
 balances-above : (cs : List Cell) → All CellKeeps cs → noneBelowZero (balances cs) ≡ true
-unfolding balances noneBelowZero All
+unfolding balances noneBelowZero
 balances-above [] h = refl
 balances-above (c ∷ cs) h =
     let rest : noneBelowZero (balances cs) ≡ true = balances-above cs (h .1) in

@@ -10,6 +10,7 @@ use lib.ListN.{length, getD, drop}
 use Rattle.arith.specs.Balance.{total, largest}
 use Rattle.arith.specs.Exact.{unsigned}
 use Rattle.wire.specs.Bytes.{bytesOf}
+use Rattle.wire.specs.All.{All}
 use Rattle.block.specs.Limits.{maxBytes, maxFunctions, maxCode, maxCells, maxCalls, maxFuel}
 use Rattle.block.specs.Key.{firstContract, addressOf, addressIn, fieldIn, aIn, bIn, isBalance, keyAllowed}
 use Rattle.block.specs.Instruction.{instrBytes, decode, isValid}
@@ -67,11 +68,6 @@ fileOf t =
 -- The numbers of a file are bytes.
 abbrev pub AreBytes : List ℕ → Type 0
 AreBytes s = (i : ℕ) → getD s i 0 < 256
-
--- What holds of each element of a list.
-unfoldable pub All : {A : Type 0} → (A → Type 0) → List A → Type 0
-All P [] = Unit {0}
-All P (x ∷ xs) = P x × All P xs
 
 -- "strictly rising"
 unfoldable pub Ascending : List ℕ → Type 0

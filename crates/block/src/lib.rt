@@ -1,11 +1,8 @@
 // The block file: addresses, instructions, call records, and the refusals of an input.
 pub mod address;
-pub mod instruction;
+pub mod format;
 pub mod limits;
-pub mod numbers;
 pub mod outcomes;
-pub mod part;
-pub mod record;
 
 pub use address::Account;
 pub use address::Address;

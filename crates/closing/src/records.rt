@@ -1,14 +1,14 @@
 // The records of a closing sheet. One offset is carried from record to record: where the next one stands, counted from the output's
 // first byte. A record is stored there, and the offset behind it is carried on.
 use crate::tests::status_word;
-use block::record::ADDRESS_BASE;
-use block::record::CELL_BYTES;
-use block::record::CELL_KIND;
-use block::record::END_KIND;
-use block::record::FIELD_BASE;
-use block::record::HEAD_BYTES;
-use block::record::RECEIPT_BYTES;
-use block::record::RECEIPT_KIND;
+use block::format::ADDRESS_BASE;
+use block::format::CELL_BYTES;
+use block::format::CELL_KIND;
+use block::format::END_KIND;
+use block::format::FIELD_BASE;
+use block::format::HEAD_BYTES;
+use block::format::RECEIPT_BYTES;
+use block::format::RECEIPT_KIND;
 use footprint::layout::KEY_WORDS;
 use machine::layout::COUNT_WORD;
 use machine::layout::OUTCOME_WORD;

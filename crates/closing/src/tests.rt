@@ -1,9 +1,9 @@
 // The tests of a closing sheet. The loops over the calls count down, as their definitions do.
 use crate::Found;
+use block::format::FIELD_BASE;
+use block::format::FIELDS;
 use block::outcomes::LAST_OUTCOME;
 use block::outcomes::MAX_COUNT;
-use block::record::FIELD_BASE;
-use block::record::FIELDS;
 use footprint::layout::KEY_WORDS;
 use machine::layout::COUNT_WORD;
 use machine::layout::FINISHED;

@@ -1,9 +1,9 @@
 // The sheet written where its last tests pass.
 use crate::records::put_sheet;
 use crate::tests::receipts_allowed;
-use block::record::CELL_BYTES;
-use block::record::HEAD_BYTES;
-use block::record::RECEIPT_BYTES;
+use block::format::CELL_BYTES;
+use block::format::HEAD_BYTES;
+use block::format::RECEIPT_BYTES;
 use machine::Answer;
 use sheet::Closing;
 ghost use mathlib.Core.Path.{_≡_};

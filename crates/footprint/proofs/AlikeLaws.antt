@@ -8,6 +8,7 @@ use native.Mathlib.Decide.{ℕ-discrete}
 use lib.IntN.{ℤ, pos, _+ℤ_, _-ℤ_}
 use lib.ListN.{getD, getElem?, set}
 use lib.Signed.{ltZ, nonNeg}
+use Rattle.wire.specs.All.{All}
 use Rattle.footprint.specs.SafeSets.{AlikeOn, LeftAlike}
 use Rattle.arith.specs.Choice.{if_then_else_}
 use Rattle.arith.specs.Exact.{addOf, subOf, mulOf, divOf}
@@ -24,7 +25,7 @@ use Rattle.block.specs.declared.Instr.the-variants.{Stop, Throw, Set, Arg, Send
 use Rattle.block.specs.Naming.{cellKey, targetOf}
 use Rattle.footprint.specs.SetsInWords.{instructionsOf}
 use Rattle.rule.proofs.LimitLaws.{update-same, update-other}
-use Rattle.footprint.proofs.TransactionLaws.{Every, HoldsOfFound, every-at}
+use Rattle.footprint.proofs.TransactionLaws.{HoldsOfFound, every-at}
 use Rattle.rule.specs.Rule.{State, update, credit, debit, Result, ends, fails, Course, before, over, assignChecked, transfer, execute, executeAt, unfuelled, runBody, Left, settle, unbegun, runFunction, transactionBy}
 
 module _ (Q : ℕ → Type 0) where
@@ -138,7 +139,7 @@ module _ (Q : ℕ → Type 0) where
     last-alike n σ τ alike none = (refl, refl, alike)
     last-alike n σ τ alike (some i) = (refl, refl)
 
-    run-alike : (body : List Instr) → Every ReadsIn body → (fuel : ℕ) (x y : Course) → Beside x y
+    run-alike : (body : List Instr) → All ReadsIn body → (fuel : ℕ) (x y : Course) → Beside x y
         → ResultsAlike (runBody fuel c body x) (runBody fuel c body y)
     unfolding runBody
     run-alike body each zero (before p ρ n σ) (before q π m τ) h = rw (← (h .0), ← (h .2)) (last-alike n σ τ (h .3) (getElem? body p))
@@ -162,7 +163,7 @@ module _ (Q : ℕ → Type 0) where
     -- Where the test of the sender's balance comes out alike and the function reads within Q, the two leave the like.
     pub transaction-alike : (block : List ℕ) (σ τ : State) → AlikeOn Q σ τ → (f : Option Function)
         → ((g : Function) → f ≡ some g → ltZ (σ (accountBalance (c .sender))) (c .value) ≡ ltZ (τ (accountBalance (c .sender))) (c .value))
-        → ((g : Function) → f ≡ some g → Every ReadsIn (instructionsOf block g))
+        → ((g : Function) → f ≡ some g → All ReadsIn (instructionsOf block g))
         → LeftAlike Q (transactionBy block c σ f) (transactionBy block c τ f)
     unfolding transactionBy runFunction
     transaction-alike block σ τ alike none test each = record { outcome = refl; count = refl; behind = refl; state = alike }

@@ -15,6 +15,8 @@ use Rattle.arith.specs.Exact.{signed}
 use Rattle.arith.proofs.IntegerLaws.{signed-range}
 use Rattle.wire.specs.Bytes.{number, readLe}
 use Rattle.wire.proofs.BytesLaws.{number-lt}
+use Rattle.wire.specs.All.{All}
+use Rattle.wire.proofs.ListLaws.{all-map}
 use Rattle.block.specs.Key.{firstContract, payeeOf, isBalance}
 use Rattle.block.proofs.KeyLaws.{payee-all}
 use Rattle.block.specs.Instruction.{instrBytes, decode}
@@ -32,7 +34,7 @@ use Rattle.block.specs.Encoding.{AreBytes}
 use Rattle.footprint.specs.SafeSets.{InRanges, CallBounded}
 use Rattle.rule.proofs.LimitLaws.{balanceKey, limit-move, limit-other, cell-is-not}
 use Rattle.footprint.specs.SetsInWords.{instructionsOf}
-use Rattle.footprint.proofs.TransactionLaws.{Every, every-map, anyValue, InstrKeeps, PayKeeps, transaction-keeps}
+use Rattle.footprint.proofs.TransactionLaws.{anyValue, InstrKeeps, PayKeeps, transaction-keeps}
 use Rattle.rule.specs.Rule.{State, update, credit, debit, withInstr, bodyOf, stateWithinLimit, transaction}
 
 -- ---- the ranges of a call
@@ -98,14 +100,14 @@ read-call-bounded s h c e = go whole account contract value refl refl refl e
 
 -- ---- the instructions of a code
 
-body-sound : (left size : ℕ) (s : List ℕ) → AreBytes s → Every InstrSound (bodyOf left size s)
+body-sound : (left size : ℕ) (s : List ℕ) → AreBytes s → All InstrSound (bodyOf left size s)
 unfolding bodyOf withInstr
 body-sound zero size s h = tt
 body-sound (suc left) size s h =
     go (decode size s) (decode-fits size s h) (body-sound left size (drop instrBytes s) (drop-bytes instrBytes s h))
   where
-    go : (d : Decoded) → Decodes InstrSound d → Every InstrSound (bodyOf left size (drop instrBytes s))
-        → Every InstrSound (withInstr d (bodyOf left size (drop instrBytes s)))
+    go : (d : Decoded) → Decodes InstrSound d → All InstrSound (bodyOf left size (drop instrBytes s))
+        → All InstrSound (withInstr d (bodyOf left size (drop instrBytes s)))
     go (Valid i) f ih = (f, ih)
     go Invalid f ih = ih
 
@@ -147,7 +149,7 @@ module _ (R : ℤ → Type 0) (K : State → Type 0) (fit : (z : ℤ) → mag z 
   call-keeps-state block h functions σ holds =
       transaction-keeps c R fit K block σ holds (functionOf functions c)
       (λ g e. move σ holds (c .sender .0) (c .contract .0) (fits .ranges .sender) (fits .ranges .contract) (c .value) (fits .value))
-      (λ g e. every-map InstrSound (InstrKeeps c R K) instr-keeps (instructionsOf block g)
+      (λ g e. all-map InstrSound (InstrKeeps c R K) instr-keeps (instructionsOf block g)
       (body-sound (g .size) (g .size) _
       (take-bytes (instrBytes * g .size) (drop (g .start) block) (drop-bytes (g .start) block h))))
 

@@ -12,6 +12,8 @@ use lib.IntN.{ℤ, pos, _+ℤ_, _-ℤ_}
 use lib.Signed.{ltZ, nonNeg}
 use Rattle.arith.proofs.ChoiceLaws.{neither}
 use Rattle.arith.proofs.IntegerLaws.{equal, sum, diff, ltZ-false, le-ltZ, nonNeg-true}
+use Rattle.wire.specs.All.{All}
+use Rattle.wire.proofs.ListLaws.{all-map}
 use Rattle.block.specs.Key.{accountBalance, contractBalance}
 use Rattle.block.specs.Record.{Function}
 use Rattle.block.specs.declared.Call.{Call}
@@ -23,7 +25,7 @@ use Rattle.block.specs.Naming.{cellKey, targetOf, functionOf}
 use Rattle.footprint.proofs.SetsExact.{reads-exact, writes-exact}
 use Rattle.footprint.specs.SetsInWords.{readBy, paidTo, writtenBy, someOf, instructionsOf, isRead, isWritten}
 use Rattle.rule.proofs.LimitLaws.{update-same, update-other, limit-balance}
-use Rattle.footprint.proofs.TransactionLaws.{Every, every-map, none-passes, anyValue, InstrKeeps, PayKeeps, transaction-keeps}
+use Rattle.footprint.proofs.TransactionLaws.{none-passes, anyValue, InstrKeeps, PayKeeps, transaction-keeps}
 use Rattle.footprint.specs.SafeSets.{CallBounded, SafeSets}
 use Rattle.footprint.proofs.AlikeLaws.{ReadsIn, transaction-alike}
 use Rattle.rule.specs.Rule.{State, update, credit, debit, stateWithinLimit}
@@ -99,7 +101,7 @@ entry-frame σ j l m s k e = go (ltZ (pos 0) m) refl e
 module _ (block : List ℕ) (c : Call) (fits : CallBounded c) where
   function-frame : (σ : State) (k : ℕ) (f : Option Function) → isWritten block c k f ≡ false → (g : Function) → f ≡ some g
       → (credit (debit σ (accountBalance (c .sender)) (c .value)) (contractBalance (c .contract)) (c .value) k ≡ σ k)
-      × Every (InstrKeeps c anyValue (Stays k (σ k))) (instructionsOf block g)
+      × All (InstrKeeps c anyValue (Stays k (σ k))) (instructionsOf block g)
   unfolding isWritten
   function-frame σ k f e g s =
       let both =
@@ -107,7 +109,7 @@ module _ (block : List ℕ) (c : Call) (fits : CallBounded c) where
       (someOf (writtenBy c k) (instructionsOf block g)) (rw s at e)
       in (
         entry-frame σ (accountBalance (c .sender)) (contractBalance (c .contract)) (c .value) (fits .value) k (both .0),
-        every-map (λ i. writtenBy c k i ≡ false) (InstrKeeps c anyValue (Stays k (σ k))) (instr-frame c k (σ k)) (instructionsOf block g)
+        all-map (λ i. writtenBy c k i ≡ false) (InstrKeeps c anyValue (Stays k (σ k))) (instr-frame c k (σ k)) (instructionsOf block g)
             (none-passes (writtenBy c k) (instructionsOf block g) (both .1)),
       )
 
@@ -115,7 +117,7 @@ module _ (block : List ℕ) (c : Call) (fits : CallBounded c) where
 
 -- What holds of each key that some instruction reads holds of those that each of them reads.
 every-read : (Q : ℕ → Type 0) (c : Call) (body : List Instr) → ((k : ℕ) → someOf (readBy c k) body ≡ true → Q k)
-    → Every (λ i. (k : ℕ) → readBy c k i ≡ true → Q k) body
+    → All (λ i. (k : ℕ) → readBy c k i ≡ true → Q k) body
 unfolding someOf
 every-read Q c [] h = tt
 every-read Q c (i ∷ is) h = (
@@ -157,7 +159,7 @@ test-alike x y m s sx sy e = go (ltZ (pos 0) m) refl
 module _ (block : List ℕ) (c : Call) (fits : CallBounded c) (σ τ : State) (wσ : stateWithinLimit σ ≡ true) (wτ : stateWithinLimit τ ≡ true) where
   function-same : (f : Option Function) → ((k : ℕ) → isRead block c k f ≡ true → σ k ≡ τ k) → (g : Function) → f ≡ some g
       → (ltZ (σ (accountBalance (c .sender))) (c .value) ≡ ltZ (τ (accountBalance (c .sender))) (c .value))
-      × Every (ReadsIn (λ k. σ k ≡ τ k) c) (instructionsOf block g)
+      × All (ReadsIn (λ k. σ k ≡ τ k) c) (instructionsOf block g)
   unfolding isRead
   function-same f h g s =
       let sender : ℕ = accountBalance (c .sender) in
@@ -170,7 +172,7 @@ module _ (block : List ℕ) (c : Call) (fits : CallBounded c) (σ τ : State) (w
             (λ t. read sender
             (ap (λ (b : Bool). (b && eqb sender sender) || someOf (readBy c sender) body) t
             ∙ ap (λ (b : Bool). b || someOf (readBy c sender) body) (eq-eqb sender sender refl))),
-        every-map (λ i. (k : ℕ) → readBy c k i ≡ true → σ k ≡ τ k) (ReadsIn (λ k. σ k ≡ τ k) c) (instr-reads (λ k. σ k ≡ τ k) c) body
+        all-map (λ i. (k : ℕ) → readBy c k i ≡ true → σ k ≡ τ k) (ReadsIn (λ k. σ k ≡ τ k) c) (instr-reads (λ k. σ k ≡ τ k) c) body
             (every-read (λ k. σ k ≡ τ k) c body
             (λ k e. read k
             (ap (λ (b : Bool). (ltZ (pos 0) (c .value) && eqb k sender) || b) e ∙ or-true (ltZ (pos 0) (c .value) && eqb k sender)))),

@@ -1,10 +1,10 @@
 -- Laws of the accesses of a call: at most two of an instruction, each used, each key below 2^96; and so in the sets.
-use mathlib.Core.Path.{_≡_, refl, subst}
-use mathlib.Core.Logic.{_⊎_, inl, inr, ⊎-elim}
+use mathlib.Core.Path.{_≡_, refl}
+use mathlib.Core.Logic.{_⊎_, inl, inr}
 use mathlib.Core.Bool.{Bool, true, false, _||_, or-true, false≢true}
 use mathlib.Core.List.{List, [], _∷_}
 use mathlib.Core.Option.{Option, none, some}
-use Prim.Native.Nat.{ℕ, zero, suc, _+_, _*_, _^_, _≤_, _<_}
+use Prim.Native.Nat.{ℕ, zero, suc, _+_, _^_, _≤_, _<_}
 use native.Mathlib.Omega.{arith}
 use lib.Dec.{eqb, lit<}
 use lib.IntN.{pos}
@@ -18,8 +18,8 @@ use Rattle.wire.specs.Bytes.{number}
 use Rattle.wire.proofs.BytesLaws.{number-lt}
 use Rattle.block.specs.Key.{firstContract, accountBalance, contractBalance, payeeOf}
 use Rattle.block.proofs.KeyLaws.{payee-all}
-use Rattle.block.specs.Instruction.{instrBytes, decode}
-use Rattle.block.proofs.DecodeLaws.{SourceFits, CellSourcesFit, InstrFits, InstrLawful, Decodes, decodes-map, decode-lawful}
+use Rattle.block.specs.Instruction.{decode}
+use Rattle.block.proofs.DecodeLaws.{SourceFits, InstrFits, InstrLawful, Decodes, decodes-map, decode-lawful}
 use Rattle.block.specs.Record.{Function, argument, codeAt}
 use Rattle.block.specs.declared.Call.{Call}
 use Rattle.block.specs.declared.Payee.{Payee}
@@ -33,8 +33,9 @@ use Rattle.block.specs.declared.Instr.the-variants.{Stop, Throw, Set, Arg, Send
 use Rattle.footprint.specs.Access.{Access, entryAccesses, payAccesses, accesses}
 use Rattle.block.specs.Naming.{cellKey, sourceValue}
 use Rattle.footprint.specs.Sets.{mergeAll, decodedAccesses, codeAccesses, functionSets}
-use Rattle.footprint.proofs.SetLaws.{joinedFlags, EachAccess, merged-each, code-each}
-use Rattle.footprint.specs.Uses.{Keyed, anyKey, Used}
+use Rattle.footprint.proofs.SetLaws.{joinedFlags, merged-each, code-each}
+use Rattle.wire.specs.All.{All}
+use Rattle.footprint.specs.Listed.{Keyed, anyKey, Used}
 
 -- ---- at most two
 
@@ -84,16 +85,16 @@ module _ (c : Call) (K : ℕ → Type 0) (own : K (contractBalance (c .contract)
   keyed-joins : (e a : Access) → Keyed K e → Keyed K a → Keyed K (joinedFlags e a)
   keyed-joins e a p q = record { used = still-used (e .reads) (e .writes) (a .reads) (a .writes) (p .used); keyed = p .keyed }
 
-  pay-keyed : (n : ℕ) → EachAccess (Keyed K) (payAccesses c (payeeOf n))
+  pay-keyed : (n : ℕ) → All (Keyed K) (payAccesses c (payeeOf n))
   unfolding payAccesses
   pay-keyed n =
-      payee-all (λ (p : Payee). EachAccess (Keyed K) (payAccesses c p)) n
+      payee-all (λ (p : Payee). All (Keyed K) (payAccesses c p)) n
       (λ other low. (record { used = refl; keyed = own }, (record { used = refl; keyed = balance n low }, tt)))
       (record { used = refl; keyed = own }, tt)
 
   pub accesses-keyed : (i : Instr)
       → ((x field : ℕ) (a b : Source) → (i ≡ Get x field a b) ⊎ (i ≡ Put x field a b) → K (cellKey c field a b))
-      → EachAccess (Keyed K) (accesses c i)
+      → All (Keyed K) (accesses c i)
   unfolding accesses
   accesses-keyed Stop cell = tt
   accesses-keyed Throw cell = tt
@@ -113,16 +114,16 @@ module _ (c : Call) (K : ℕ → Type 0) (own : K (contractBalance (c .contract)
   accesses-keyed (Jlt x y to) cell = tt
 
   module _ (sender : K (accountBalance (c .sender))) where
-    pub entry-keyed : EachAccess (Keyed K) (entryAccesses c)
+    pub entry-keyed : All (Keyed K) (entryAccesses c)
     unfolding entryAccesses
     entry-keyed =
-        if-all (EachAccess (Keyed K)) (ltZ (pos 0) (c .value))
+        if-all (All (Keyed K)) (ltZ (pos 0) (c .value))
         (λ e. (record { used = refl; keyed = sender }, (record { used = refl; keyed = own }, tt))) (λ e. tt)
 
     -- So do the sets of a function whose code passes.
     pub sets-keyed : (block : List ℕ) (f : Option Function)
-        → ((g : Function) → EachAccess (Keyed K) (codeAccesses c (g .size) (g .size) (codeAt block (g .start) (g .size))))
-        → EachAccess (Keyed K) (functionSets block c f)
+        → ((g : Function) → All (Keyed K) (codeAccesses c (g .size) (g .size) (codeAt block (g .start) (g .size))))
+        → All (Keyed K) (functionSets block c f)
     unfolding functionSets
     sets-keyed block none code = tt
     sets-keyed block (some g) code =
@@ -131,30 +132,24 @@ module _ (c : Call) (K : ℕ → Type 0) (own : K (contractBalance (c .contract)
 
 -- ---- at least one flag
 
-pub entry-accesses-used : (c : Call) → EachAccess Used (entryAccesses c)
-entry-accesses-used c = entry-keyed c anyKey tt (λ n h. tt) tt
-
-pub accesses-used : (c : Call) (i : Instr) → EachAccess Used (accesses c i)
+pub accesses-used : (c : Call) (i : Instr) → All Used (accesses c i)
 accesses-used c i = accesses-keyed c anyKey tt (λ n h. tt) i (λ x field a b e. tt)
 
-decoded-used : (c : Call) (d : Decoded) → EachAccess Used (decodedAccesses c d)
+decoded-used : (c : Call) (d : Decoded) → All Used (decodedAccesses c d)
 decoded-used c (Valid i) = accesses-used c i
 decoded-used c Invalid = tt
 
-pub sets-used : (block : List ℕ) (c : Call) (f : Option Function) → EachAccess Used (functionSets block c f)
+pub sets-used : (block : List ℕ) (c : Call) (f : Option Function) → All Used (functionSets block c f)
 sets-used block c f =
     sets-keyed c anyKey tt (λ n h. tt) tt block f
     (λ g. code-each Used (λ s. Unit {0}) (λ s q. tt) c (g .size) (λ s q. decoded-used c (decode (g .size) s)) (g .size)
     (codeAt block (g .start) (g .size)) tt)
 
--- ---- keys of 96 bits
+-- ---- what arguments and sources stand for
 
 -- The sources' constants have 16 bits.
 abbrev pub InstrSound : Instr → Type 0
 InstrSound = InstrFits (2 ^ 16)
-
-abbrev pub below96 : ℕ → Type 0
-below96 k = k < 2 ^ 96
 
 pub argument-below : (c : Call) (k : ℕ) → InRanges c → argument c k < 2 ^ 32
 unfolding argument
@@ -169,38 +164,6 @@ source-below c source.Zero r h = omega arith
 source-below c (source.Argument k) r h = argument-below c k r
 source-below c source.Sender r h = omega arith
 source-below c (source.Constant n) r h = omega arith
-
-key-below : (address field a b : ℕ) → address < 2 ^ 16 → field < 2 ^ 16 → a < 2 ^ 32 → b < 2 ^ 32
-    → address * 2 ^ 80 + field * 2 ^ 64 + a * 2 ^ 32 + b < 2 ^ 96
-key-below address field a b h₁ h₂ h₃ h₄ = omega arith
-
-module _ (c : Call) (r : InRanges c) where
-  own-below : below96 (contractBalance (c .contract))
-  own-below = key-below (c .contract .0) 0 0 0 (r .contract) (lit< tt) (lit< tt) (lit< tt)
-
-  balance-below : (n : ℕ) → n < firstContract → below96 (accountBalance (record { 0 = n }))
-  balance-below n h = key-below n 0 0 0 (omega arith) (lit< tt) (lit< tt) (lit< tt)
-
-  sender-below : below96 (accountBalance (c .sender))
-  sender-below = key-below (c .sender .0) 0 0 0 (r .sender) (lit< tt) (lit< tt) (lit< tt)
-
-  cell-below : (field : ℕ) (a b : Source) → CellSourcesFit (2 ^ 16) field a b → below96 (cellKey c field a b)
-  cell-below field a b h =
-      key-below (c .contract .0) field (sourceValue c a) (sourceValue c b) (r .contract) (h .below) (source-below c a r (h .first))
-      (source-below c b r (h .second))
-
-  pub entry-below : EachAccess (Keyed below96) (entryAccesses c)
-  entry-below = entry-keyed c below96 own-below balance-below sender-below
-
-  pub accesses-below : (i : Instr) → InstrSound i → EachAccess (Keyed below96) (accesses c i)
-  accesses-below i h =
-      accesses-keyed c below96 own-below balance-below i
-      (λ x field a b e.
-      ⊎-elim (λ g. cell-below field a b (subst InstrSound g h)) (λ p. cell-below field a b (subst InstrSound p h)) e)
-
-  decoded-below : (d : Decoded) → Decodes InstrSound d → EachAccess (Keyed below96) (decodedAccesses c d)
-  decoded-below (Valid i) h = accesses-below i h
-  decoded-below Invalid h = tt
 
 -- ---- what bytes decode to
 
@@ -222,11 +185,3 @@ decode-sound size s h =
 pub decode-fits : (size : ℕ) (s : List ℕ) → AreBytes s → Decodes InstrSound (decode size s)
 decode-fits size s h =
     decodes-map (InstrLawful (2 ^ 16) size) InstrSound (λ i l. l .0) (decode size s) (decode-sound size s h)
-
--- Every key in the sets of a call has 96 bits.
-pub sets-below : (block : List ℕ) → AreBytes block → (c : Call) → InRanges c → (f : Option Function) → EachAccess (Keyed below96) (functionSets block c f)
-sets-below block h c r f =
-    sets-keyed c below96 (own-below c r) (balance-below c r) (sender-below c r) block f
-    (λ g. code-each (Keyed below96) AreBytes (drop-bytes instrBytes) c (g .size)
-    (λ s q. decoded-below c r (decode (g .size) s) (decode-fits (g .size) s q)) (g .size)
-    (codeAt block (g .start) (g .size)) (take-bytes (instrBytes * g .size) (drop (g .start) block) (drop-bytes (g .start) block h)))

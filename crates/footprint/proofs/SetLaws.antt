@@ -11,6 +11,8 @@ use lib.Seq.{drop-drop}
 use Rattle.arith.specs.Choice.{if_then_else_}
 use Rattle.block.specs.Instruction.{instrBytes, decode}
 use Rattle.block.specs.declared.Call.{Call}
+use Rattle.wire.specs.All.{All}
+use Rattle.wire.proofs.ListLaws.{all-append}
 use Rattle.footprint.specs.Access.{Access}
 use Rattle.footprint.specs.Sets.{accessKeys, merge, mergeAll, decodedAccesses, codeAccesses, readSet, writeSet}
 use Rattle.footprint.specs.Conflict.{member}
@@ -113,39 +115,31 @@ merged-distinct es (a ∷ more) d = merged-distinct (merge es a) more (merge-dis
 
 -- ---- what holds of every access
 
-abbrev pub EachAccess : (Access → Type 0) → List Access → Type 0
-EachAccess P [] = Unit {0}
-EachAccess P (e ∷ es) = P e × EachAccess P es
-
 module _ (P : Access → Type 0) where
-  each-append : (es more : List Access) → EachAccess P es → EachAccess P more → EachAccess P (es ++ more)
-  each-append [] more p q = q
-  each-append (e ∷ es) more p q = (p .0, each-append es more (p .1) q)
-
   module _ (joins : (e a : Access) → P e → P a → P (joinedFlags e a)) where
-    merge-each : (es : List Access) (a : Access) → EachAccess P es → P a → EachAccess P (merge es a)
+    merge-each : (es : List Access) (a : Access) → All P es → P a → All P (merge es a)
     unfolding merge
     merge-each [] a p q = (q, tt)
     merge-each (e ∷ es) a p q = go (eqb (e .key) (a .key)) (merge-each es a (p .1) q)
       where
-        go : (b : Bool) → EachAccess P (merge es a) → EachAccess P (if b then joinedFlags e a ∷ es else e ∷ merge es a)
+        go : (b : Bool) → All P (merge es a) → All P (if b then joinedFlags e a ∷ es else e ∷ merge es a)
         go true ih = (joins e a (p .0) q, p .1)
         go false ih = (p .0, ih)
 
     -- What joined flags keep holds of the merged accesses if it holds of all of them.
-    pub merged-each : (es more : List Access) → EachAccess P es → EachAccess P more → EachAccess P (mergeAll es more)
+    pub merged-each : (es more : List Access) → All P es → All P more → All P (mergeAll es more)
     unfolding mergeAll
     merged-each es [] p q = p
     merged-each es (a ∷ more) p q = merged-each (merge es a) more (merge-each es a p (q .0)) (q .1)
 
 -- Of all instructions of a code, where it holds of each one whose bytes pass a test that a shorter rest passes too.
 module _ (P : Access → Type 0) (Q : List ℕ → Type 0) (rest : (s : List ℕ) → Q s → Q (drop instrBytes s)) (c : Call) (size : ℕ)
-    (each : (s : List ℕ) → Q s → EachAccess P (decodedAccesses c (decode size s))) where
-  pub code-each : (left : ℕ) (s : List ℕ) → Q s → EachAccess P (codeAccesses c left size s)
+    (each : (s : List ℕ) → Q s → All P (decodedAccesses c (decode size s))) where
+  pub code-each : (left : ℕ) (s : List ℕ) → Q s → All P (codeAccesses c left size s)
   unfolding codeAccesses
   code-each zero s q = tt
   code-each (suc left) s q =
-      each-append P (decodedAccesses c (decode size s)) (codeAccesses c left size (drop instrBytes s)) (each s q)
+      all-append P (decodedAccesses c (decode size s)) (codeAccesses c left size (drop instrBytes s)) (each s q)
       (code-each left (drop instrBytes s) (rest s q))
 
 -- ---- in which order

@@ -16,6 +16,7 @@ use Rattle.arith.specs.Choice.{if_then_else_}
 use Rattle.arith.proofs.ChoiceLaws.{if-all, neither}
 use Rattle.arith.specs.Exact.{fits64, checked, floorBy, divOf}
 use Rattle.arith.specs.declared.Checked.{Checked}
+use Rattle.wire.specs.All.{All}
 use Rattle.block.specs.Key.{accountBalance, contractBalance}
 use Rattle.block.specs.Outcomes.{ended, balanceTooLow, thrown}
 use Rattle.block.specs.Record.{Function, argument}
@@ -28,28 +29,19 @@ use Rattle.block.specs.Naming.{cellKey, targetOf}
 use Rattle.footprint.specs.SetsInWords.{someOf, instructionsOf}
 use Rattle.rule.specs.Rule.{State, update, credit, debit, Result, ends, fails, Course, before, over, assignChecked, transfer, execute, executeAt, unfuelled, runBody, Left, settle, unbegun, runFunction, transactionBy}
 
--- What holds of everything in a list.
-abbrev pub Every : {A : Type 0} → (A → Type 0) → List A → Type 0
-Every Q [] = Unit {0}
-Every Q (x ∷ xs) = Q x × Every Q xs
-
 -- ---- every instruction of a body
 
 abbrev pub HoldsOfFound : (Instr → Type 0) → Option Instr → Type 0
 HoldsOfFound Q none = Unit {0}
 HoldsOfFound Q (some i) = Q i
 
-pub every-at : (Q : Instr → Type 0) (body : List Instr) → Every Q body → (p : ℕ) → HoldsOfFound Q (getElem? body p)
+pub every-at : (Q : Instr → Type 0) (body : List Instr) → All Q body → (p : ℕ) → HoldsOfFound Q (getElem? body p)
 every-at Q [] q p = tt
 every-at Q (i ∷ is) q zero = q .0
 every-at Q (i ∷ is) q (suc p) = every-at Q is (q .1) p
 
-pub every-map : (P Q : Instr → Type 0) → ((i : Instr) → P i → Q i) → (body : List Instr) → Every P body → Every Q body
-every-map P Q f [] q = tt
-every-map P Q f (i ∷ is) q = (f i (q .0), every-map P Q f is (q .1))
-
 -- Where no instruction passes a test, each fails it.
-pub none-passes : (test : Instr → Bool) (body : List Instr) → someOf test body ≡ false → Every (λ i. test i ≡ false) body
+pub none-passes : (test : Instr → Bool) (body : List Instr) → someOf test body ≡ false → All (λ i. test i ≡ false) body
 unfolding someOf
 none-passes test [] e = tt
 none-passes test (i ∷ is) e = (neither (test i) (someOf test is) e .0, none-passes test is (neither (test i) (someOf test is) e .1))
@@ -57,12 +49,12 @@ none-passes test (i ∷ is) e = (neither (test i) (someOf test is) e .0, none-pa
 -- ---- every register
 
 module _ (R : ℤ → Type 0) where
-  register-at : R (pos 0) → (ρ : List ℤ) → Every R ρ → (x : ℕ) → R (getD ρ x (pos 0))
+  register-at : R (pos 0) → (ρ : List ℤ) → All R ρ → (x : ℕ) → R (getD ρ x (pos 0))
   register-at z [] q x = z
   register-at z (v ∷ ρ) q zero = q .0
   register-at z (v ∷ ρ) q (suc x) = register-at z ρ (q .1) x
 
-  register-set : (ρ : List ℤ) → Every R ρ → (x : ℕ) (v : ℤ) → R v → Every R (set ρ x v)
+  register-set : (ρ : List ℤ) → All R ρ → (x : ℕ) (v : ℤ) → R v → All R (set ρ x v)
   register-set [] q x v h = tt
   register-set (u ∷ ρ) q zero v h = (h, q .1)
   register-set (u ∷ ρ) q (suc x) v h = (q .0, register-set ρ (q .1) x v h)
@@ -84,7 +76,7 @@ EndsWith K σ l = (l .outcome ≡ ended → K (l .state)) × ((l .outcome ≡ en
 
 -- Where a body is, the one of values holds of each register, and the one of states of the state.
 abbrev AtWith : (ℤ → Type 0) → (State → Type 0) → Course → Type 0
-AtWith R K (before p ρ n σ) = Every R ρ × K σ
+AtWith R K (before p ρ n σ) = All R ρ × K σ
 AtWith R K (over r) = LeftWith K r
 
 -- A transfer that passes its tests keeps the one of states.
@@ -120,7 +112,7 @@ module _ (c : Call) (R : ℤ → Type 0) (fit : (z : ℤ) → mag z < 2 ^ 63 →
   abbrev At : Course → Type 0
   At = AtWith R K
 
-  module _ (p : ℕ) (ρ : List ℤ) (n : ℕ) (σ : State) (all : Every R ρ) (holds : K σ) where
+  module _ (p : ℕ) (ρ : List ℤ) (n : ℕ) (σ : State) (all : All R ρ) (holds : K σ) where
     held : (x : ℕ) → R (getD ρ x (pos 0))
     held = register-at R (fit (pos 0) (lit< tt)) ρ all
 
@@ -171,13 +163,13 @@ module _ (c : Call) (R : ℤ → Type 0) (fit : (z : ℤ) → mag z < 2 ^ 63 →
     execute-keeps (Jeq x y to) q = (all, holds)
     execute-keeps (Jlt x y to) q = (all, holds)
 
-  at-keeps : (p : ℕ) (ρ : List ℤ) (n : ℕ) (σ : State) → Every R ρ → K σ → (o : Option Instr) → HoldsOfFound (InstrKeeps c R K) o
+  at-keeps : (p : ℕ) (ρ : List ℤ) (n : ℕ) (σ : State) → All R ρ → K σ → (o : Option Instr) → HoldsOfFound (InstrKeeps c R K) o
       → At (executeAt c p ρ n σ o)
   unfolding executeAt
   at-keeps p ρ n σ all holds none q = holds
   at-keeps p ρ n σ all holds (some i) q = execute-keeps p ρ (n + 1) σ all holds i q
 
-  module _ (body : List Instr) (each : Every (InstrKeeps c R K) body) where
+  module _ (body : List Instr) (each : All (InstrKeeps c R K) body) where
     last-keeps : (n : ℕ) (σ : State) → K σ → (o : Option Instr) → LeftWith K (unfuelled n σ o)
     unfolding unfuelled
     last-keeps n σ holds none = holds
@@ -198,14 +190,14 @@ module _ (c : Call) (R : ℤ → Type 0) (fit : (z : ℤ) → mag z < 2 ^ 63 →
   settle-ends σ (fails outcome n) h = (λ e. absurd (omega (arith, e, h)), λ d. refl)
 
   -- "signed 64 bits, 0 at start"
-  zeros : Every R (pos 0 ∷ pos 0 ∷ pos 0 ∷ pos 0 ∷ pos 0 ∷ pos 0 ∷ pos 0 ∷ pos 0 ∷ [])
+  zeros : All R (pos 0 ∷ pos 0 ∷ pos 0 ∷ pos 0 ∷ pos 0 ∷ pos 0 ∷ pos 0 ∷ pos 0 ∷ [])
   zeros = let z : R (pos 0) = fit (pos 0) (lit< tt) in (z, (z, (z, (z, (z, (z, (z, (z, tt))))))))
 
   -- What the entry of a transaction makes and its instructions keep holds where it ended with 0; else the state is as it was.
   pub transaction-ends : (block : List ℕ) (σ : State) (f : Option Function)
       → ((g : Function) → f ≡ some g → ltZ (σ (accountBalance (c .sender))) (c .value) ≡ false
       → K (credit (debit σ (accountBalance (c .sender)) (c .value)) (contractBalance (c .contract)) (c .value)))
-      → ((g : Function) → f ≡ some g → Every (InstrKeeps c R K) (instructionsOf block g))
+      → ((g : Function) → f ≡ some g → All (InstrKeeps c R K) (instructionsOf block g))
       → EndsWith K σ (transactionBy block c σ f)
   unfolding transactionBy runFunction
   transaction-ends block σ none entry each = (λ e. absurd (omega (arith, e)), λ d. refl)
@@ -222,7 +214,7 @@ module _ (c : Call) (R : ℤ → Type 0) (fit : (z : ℤ) → mag z < 2 ^ 63 →
   pub transaction-keeps : (block : List ℕ) (σ : State) → K σ → (f : Option Function)
       → ((g : Function) → f ≡ some g → ltZ (σ (accountBalance (c .sender))) (c .value) ≡ false
       → K (credit (debit σ (accountBalance (c .sender)) (c .value)) (contractBalance (c .contract)) (c .value)))
-      → ((g : Function) → f ≡ some g → Every (InstrKeeps c R K) (instructionsOf block g))
+      → ((g : Function) → f ≡ some g → All (InstrKeeps c R K) (instructionsOf block g))
       → K (transactionBy block c σ f .state)
   transaction-keeps block σ holds f entry each =
       go (transaction-ends block σ f entry each) (ℕ-discrete (transactionBy block c σ f .outcome) ended)

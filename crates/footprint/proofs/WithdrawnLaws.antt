@@ -14,6 +14,7 @@ use lib.Signed.{ltZ, nonNeg}
 use Rattle.arith.specs.Choice.{if_then_else_}
 use Rattle.arith.proofs.ChoiceLaws.{if-all}
 use Rattle.arith.proofs.IntegerLaws.{diff, le-ltZ, nonNeg-true}
+use Rattle.wire.specs.All.{All}
 use Rattle.block.specs.Key.{withdrawn, payeeOf, accountBalance, balanceOf0, contractBalance, contractCell}
 use Rattle.block.proofs.KeyLaws.{payee-all}
 use Rattle.block.specs.Outcomes.{ended}
@@ -29,7 +30,7 @@ use Rattle.footprint.specs.SetsInWords.{readBy, paidTo, writtenBy, someO
 use Rattle.footprint.specs.SafeSets.{CallBounded}
 use Rattle.footprint.proofs.SetsExact.{reads-exact, writes-exact}
 use Rattle.footprint.proofs.SafeSetsProof.{minus-none, instr-frame}
-use Rattle.footprint.proofs.TransactionLaws.{Every, anyValue, InstrKeeps, EndsWith, transaction-ends}
+use Rattle.footprint.proofs.TransactionLaws.{anyValue, InstrKeeps, EndsWith, transaction-ends}
 use Rattle.rule.proofs.LimitLaws.{update-same, update-other}
 use Rattle.rule.specs.Rule.{State, credit, debit, transaction}
 
@@ -39,7 +40,7 @@ unfolding someOf
 none-of test never [] = refl
 none-of test never (i ∷ is) = ap (λ (b : Bool). b || someOf test is) (never i) ∙ none-of test never is
 
-every-of : (Q : Instr → Type 0) → ((i : Instr) → Q i) → (body : List Instr) → Every Q body
+every-of : (Q : Instr → Type 0) → ((i : Instr) → Q i) → (body : List Instr) → All Q body
 every-of Q each [] = tt
 every-of Q each (i ∷ is) = (each i, every-of Q each is)
 

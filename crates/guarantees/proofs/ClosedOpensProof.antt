@@ -21,7 +21,7 @@ use Rattle.footprint.specs.Plan.{openingValue}
 use Rattle.rule.specs.Rule.{State, transaction, transactions, stateLeft}
 use Rattle.footprint.proofs.RuleLimit.{read-call-bounded}
 use Rattle.footprint.specs.SafeSets.{CallBounded}
-use Rattle.analysis.specs.LayoutOfBlock.{blockOf}
+use Rattle.block.specs.BlockOfFile.{blockOf}
 use Rattle.machine.specs.CallInRun.{Hold}
 use Rattle.machine.specs.Run.{Run, Sizes}
 use Rattle.guarantees.specs.Agreement.{openedIn, runAfterMoves}

@@ -23,10 +23,11 @@ use Rattle.footprint.proofs.RuleLimit.{read-call-bounded, limit-kept}
 use Rattle.footprint.specs.SafeSets.{CallBounded, Safe}
 use Rattle.footprint.proofs.SafeSetsProof.{safe-sets}
 use Rattle.footprint.specs.Sets.{setsOf, readSet, writeSet}
-use Rattle.analysis.specs.KeyTable.{keysIn, RisingKeys}
-use Rattle.analysis.specs.LayoutOfBlock.{blockOf, callCount, setsAt, openingKeys}
-use Rattle.analysis.specs.Masks.{AllListed}
-use Rattle.analysis.proofs.TableWords.{keys-padded}
+use Rattle.footprint.specs.KeyWords.{keysIn, RisingKeys}
+use Rattle.block.specs.BlockOfFile.{blockOf, callCount, openingKeys}
+use Rattle.footprint.specs.BlockSets.{setsAt}
+use Rattle.footprint.specs.Listed.{AllListed}
+use Rattle.footprint.proofs.TableWordLaws.{keys-padded}
 use Rattle.machine.specs.Run.{Run, Sizes, stateOf, statusWord, finished}
 use Rattle.machine.specs.declared.Head.{Head}
 use Rattle.machine.proofs.CallRule.{CallCompletes, call-rule}

@@ -40,7 +40,7 @@ use Rattle.guarantees.proofs.ClosingSheet.SheetLaws.{same-sheet}
 use Rattle.guarantees.proofs.ClosingSheet.SheetWritten.{unfinished-refused, serial-written}
 use Rattle.guarantees.proofs.RunAndTally.SerialPointLaws.{accepted-number, state-of-phase, same-receipt, same-cells, seat-holds, local-is}
 use Rattle.guarantees.proofs.RunAndTally.MovesAndTally.{StepsBySizes, theTally, theMachine, confluent, agreed, finished-closed, behind-matches, no-twenty, steps-in, tally-is, answers-are, since-is}
-use Rattle.analysis.specs.LayoutOfBlock.{callCount}
+use Rattle.block.specs.BlockOfFile.{callCount}
 use Rattle.block.specs.declared.Call.{Call}
 use Rattle.guarantees.specs.RuleRun.{callOfBlock}
 use Rattle.guarantees.proofs.CallsOfRun.ViewCalls.{runView}

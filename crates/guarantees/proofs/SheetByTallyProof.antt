@@ -10,7 +10,7 @@ use Rattle.block.specs.declared.Verdict.the-variants as verdict
 use Rattle.machine.specs.Run.{Run, fixedSizes}
 use Rattle.machine.specs.Opening.{openingOf}
 use Rattle.sheet.specs.Sheet.{sheetBytes}
-use Rattle.analysis.specs.LayoutOfBlock.{callCount}
+use Rattle.block.specs.BlockOfFile.{callCount}
 use Rattle.console.specs.Register.{playInput}
 use Rattle.console.specs.SheetBytes.{closingBytes, closeBytes, sheetOpened, writtenSheet}
 use Rattle.guarantees.specs.BlockTally.{tallyAfter}

@@ -42,8 +42,8 @@ use Rattle.footprint.specs.Sets.{readSet, writeSet}
 use Rattle.footprint.specs.Conflict.{member}
 use Rattle.footprint.proofs.WithdrawnLaws.{withdrawn-written, withdrawn-read, withdrawn-left, withdrawn-falls}
 use Rattle.rule.specs.Rule.{State, transfer, execute, executeAt, transaction, runFunction, transactionBy}
-use Rattle.analysis.specs.KeyTable.{keyAt}
-use Rattle.analysis.specs.LayoutOfBlock.{blockOf, callCount}
+use Rattle.footprint.specs.KeyWords.{keyAt}
+use Rattle.block.specs.BlockOfFile.{blockOf, callCount}
 use Rattle.machine.specs.Run.{Run, Sizes}
 use Rattle.machine.specs.Action.{placeOf, register, checkedAction, payAction, instrAction, entryAction}
 use Rattle.machine.specs.Step.{View, cellAt, savedOf, restored}

@@ -10,7 +10,7 @@ use Rattle.schedule.specs.declared.Move.{Move}
 use Rattle.schedule.specs.Taken.{taken}
 use Rattle.footprint.specs.Sets.{writeSet}
 use Rattle.footprint.specs.Conflict.{member}
-use Rattle.analysis.specs.KeyTable.{keyAt}
+use Rattle.footprint.specs.KeyWords.{keyAt}
 use Rattle.machine.specs.Run as state
 use Rattle.machine.specs.Run.{Run, Sizes}
 use Rattle.machine.specs.Opening.{openingOf}
@@ -18,7 +18,8 @@ use Rattle.machine.specs.Moves.{beginOf, stepOf, runAfter}
 use Rattle.machine.specs.Serial.{runCalls, serialRun, serialRunOf}
 use Rattle.sheet.specs.Sheet.{sheetOf}
 use Rattle.guarantees.specs.BlockTally.{isBefore, stepsIn, tallyAfter}
-use Rattle.analysis.specs.LayoutOfBlock.{callCount, setsAt}
+use Rattle.block.specs.BlockOfFile.{callCount}
+use Rattle.footprint.specs.BlockSets.{setsAt}
 
 -- A call's state and a worker's call as the run writes them.
 abbrev pub stateNumber : Phase → ℕ

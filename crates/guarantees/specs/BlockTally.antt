@@ -6,7 +6,8 @@ use Rattle.schedule.specs.Tally as tally
 use Rattle.schedule.specs.Tally.{Tally}
 use Rattle.schedule.specs.declared.Move.{Move}
 use Rattle.footprint.specs.Conflict.{conflict}
-use Rattle.analysis.specs.LayoutOfBlock.{callCount, setsAt}
+use Rattle.block.specs.BlockOfFile.{callCount}
+use Rattle.footprint.specs.BlockSets.{setsAt}
 use Rattle.machine.specs.Opening.{openingOf}
 use Rattle.machine.specs.Serial.{serialSteps}
 use Rattle.machine.specs.Run.{fixedSizes}

@@ -6,11 +6,13 @@ use lib.ListN.{length}
 use Rattle.schedule.specs.Tally.{finished}
 use Rattle.schedule.specs.declared.Move.{Move}
 use Rattle.block.specs.Limits.{maxBytes, maxCallKeys, maxKeys, maxWorkers}
-use Rattle.block.specs.Encoding.{All, AreBytes, Routine, FunctionFits, CallFits, FunctionsKeep, CallsKeep, placed}
+use Rattle.wire.specs.All.{All}
+use Rattle.block.specs.Encoding.{AreBytes, Routine, FunctionFits, CallFits, FunctionsKeep, CallsKeep, placed}
 use Rattle.block.specs.declared.Call.{Call}
 use Rattle.block.specs.declared.Verdict.the-variants as verdict
 use Rattle.rule.specs.Rule.{State}
-use Rattle.analysis.specs.LayoutOfBlock.{blockOf, callCount, allSets, openingKeys}
+use Rattle.block.specs.BlockOfFile.{blockOf, callCount, openingKeys}
+use Rattle.footprint.specs.BlockSets.{allSets}
 use Rattle.machine.specs.Opening.{openingOf}
 use Rattle.machine.specs.Run.{Run, Sizes}
 use Rattle.sheet.specs.Sheet.{nextFile}

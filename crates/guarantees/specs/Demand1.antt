@@ -14,13 +14,15 @@ use Rattle.schedule.specs.declared.Move.{Move}
 use Rattle.block.specs.Limits.{maxBytes, maxCalls, maxCallKeys, maxKeys, maxWorkers}
 use Rattle.block.specs.Record.{Block, callRecordBytes}
 use Rattle.block.specs.Reader.{accepted, refused, readBlock}
-use Rattle.block.specs.Encoding.{All, AreBytes, Contents, HoldsContents, blockFor, ReaderExact}
+use Rattle.wire.specs.All.{All}
+use Rattle.block.specs.Encoding.{AreBytes, Contents, HoldsContents, blockFor, ReaderExact}
 use Rattle.block.specs.declared.Refusal.{Refusal}
 use Rattle.block.specs.declared.Refusal.the-variants.{InputTooLong, Missing, Kind, Length, Field, NotRising, BeyondLimit, Behind, Balances, Code, CallKeys, AllKeys, Workers, Buffers}
 use Rattle.block.specs.declared.Verdict.the-variants as verdict
 use Rattle.footprint.specs.Access.{Access}
 use Rattle.footprint.specs.Table.{insertKeys}
-use Rattle.analysis.specs.LayoutOfBlock.{allSets, openingKeys}
+use Rattle.footprint.specs.BlockSets.{allSets}
+use Rattle.block.specs.BlockOfFile.{openingKeys}
 use Rattle.block.specs.Outcomes.{lastOutcome, maxCount}
 use Rattle.machine.specs.Run.{Run, Sizes, sizesOf, fixedSizes, heldAt, rowIn, stateOf, statusWord, waitCount, waiting, finished, outcomeWord, countWord}
 use Rattle.footprint.specs.Plan.{entryCell, entryWrites, entryFlags}

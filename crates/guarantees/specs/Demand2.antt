@@ -15,8 +15,9 @@ use Rattle.footprint.specs.Sets.{readSet}
 use Rattle.footprint.specs.Conflict.{member, strongSwap}
 use Rattle.footprint.specs.Plan.{openingValue}
 use Rattle.rule.specs.Rule.{State, Left, stateWithinLimit, stepsFor, transaction, transactions, stateLeft}
-use Rattle.analysis.specs.KeyTable.{keyAt, keysIn}
-use Rattle.analysis.specs.LayoutOfBlock.{blockOf, callCount, setsAt}
+use Rattle.footprint.specs.KeyWords.{keyAt, keysIn}
+use Rattle.block.specs.BlockOfFile.{blockOf, callCount}
+use Rattle.footprint.specs.BlockSets.{setsAt}
 use Rattle.machine.specs.Run.{Run, Sizes, stateOf, statusWord, rowIn, finished, outcomeWord, countWord}
 use Rattle.machine.specs.Opening.{openingOf}
 use Rattle.machine.specs.Step.{View, Stepped, damaged, more, done, cellAt, stepCall}

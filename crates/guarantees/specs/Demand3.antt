@@ -18,7 +18,7 @@ use Rattle.machine.specs.declared.Answer.the-variants.{Accepted, CallUnfinished
 use Rattle.sheet.specs.Sheet.{sheetRecords, unwritten, written, sheetOf}
 use Rattle.guarantees.specs.BlockTally.{isBefore, stepsIn, tallyAfter, tallyAnswers}
 use Rattle.guarantees.specs.Agreement.{stateNumber, seatNumber, openedIn, runAfterMoves, stepsSince, mayWrite, serialRunOfFile, finishedAlone, serialPointAfter, SameSheet}
-use Rattle.analysis.specs.LayoutOfBlock.{callCount}
+use Rattle.block.specs.BlockOfFile.{callCount}
 use Rattle.guarantees.specs.RuleRun.{callOfBlock}
 
 -- The receipt of a call in two runs is one.

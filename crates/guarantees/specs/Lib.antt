@@ -1,7 +1,6 @@
--- To read: Demand1, Demand2 and Demand3 are the demands, a field for each sentence; Withdrawn is M-101, payments to account 0; ZeroDivisors is M-103 and Fuel
--- M-104, both over the turns of Turns; RegisterByTally is what REGISTER prints, ClosedOpens how the next day opens, SheetByTally which bytes of a sheet are written.
--- BlockTally, Agreement and RuleRun name what they compare. Joint is the joint check of the starred examples, Unstarred the others, OnP block P throughout, on the blocks of Blocks;
--- OnAccount0 a block of payments to account 0, OnZeroDivisors one of divisions, OnFuel one of loops.
+-- To read: Demand1, Demand2 and Demand3 are the demands, a field for each sentence; Withdrawn is M-101, payments to account 0; ZeroDivisors is M-103 and
+-- Fuel M-104, both over the turns of Turns; RegisterByTally is what REGISTER prints, ClosedOpens how the next day opens, SheetByTally which bytes of a
+-- sheet are written. BlockTally, Agreement and RuleRun name what they compare. The examples of the documents are computed in `examples`.
 pub mod Demand1
 pub mod BlockTally
 pub mod Agreement
@@ -15,10 +14,3 @@ pub mod Fuel
 pub mod RegisterByTally
 pub mod ClosedOpens
 pub mod SheetByTally
-pub mod Blocks
-pub mod Joint
-pub mod Unstarred
-pub mod OnP
-pub mod OnAccount0
-pub mod OnZeroDivisors
-pub mod OnFuel

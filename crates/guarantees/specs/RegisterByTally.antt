@@ -24,7 +24,7 @@ use Rattle.console.specs.declared.Line.{Line}
 use Rattle.console.specs.declared.Line.the-variants.{Empty}
 use Rattle.guarantees.specs.BlockTally.{tallyAfter, tallyAnswers}
 use Rattle.guarantees.specs.Agreement.{serialRunOfFile}
-use Rattle.analysis.specs.LayoutOfBlock.{callCount}
+use Rattle.block.specs.BlockOfFile.{callCount}
 
 -- The lines of an input, each by its move; none for "a line in no such form". "A line ends at a line feed or, unless empty, at the input's
 -- end".

@@ -5,7 +5,7 @@ use lib.ListN.{getD}
 use Rattle.block.specs.declared.Call.{Call}
 use Rattle.block.specs.declared.CallBody.the-variants.{OutOfRange, InRange}
 use Rattle.block.specs.declared.CallBody.{CallBody}
-use Rattle.analysis.specs.LayoutOfBlock.{blockOf}
+use Rattle.block.specs.BlockOfFile.{blockOf}
 
 -- A call as its record in the block has it; for a record out of range, which no opened block has, some call.
 unfoldable pub bodyCall : CallBody → Call

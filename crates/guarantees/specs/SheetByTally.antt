@@ -11,7 +11,7 @@ use Rattle.block.specs.declared.Refusal.{Refusal}
 use Rattle.block.specs.declared.Verdict.the-variants as verdict
 use Rattle.schedule.specs.declared.Move.{Move}
 use Rattle.rule.specs.Rule.{State}
-use Rattle.analysis.specs.LayoutOfBlock.{callCount}
+use Rattle.block.specs.BlockOfFile.{callCount}
 use Rattle.machine.specs.Run.{Run, fixedSizes}
 use Rattle.machine.specs.Opening.{openingOf}
 use Rattle.sheet.specs.Sheet.{sheetBytes}

@@ -22,8 +22,9 @@ use Rattle.footprint.specs.Access.{changing, accesses}
 use Rattle.footprint.specs.Sets.{readSet, writeSet}
 use Rattle.footprint.specs.Conflict.{member}
 use Rattle.rule.specs.Rule.{State, fails, over, executeAt, runFunction}
-use Rattle.analysis.specs.KeyTable.{keyAt}
-use Rattle.analysis.specs.LayoutOfBlock.{blockOf, callCount, setsAt}
+use Rattle.footprint.specs.KeyWords.{keyAt}
+use Rattle.block.specs.BlockOfFile.{blockOf, callCount}
+use Rattle.footprint.specs.BlockSets.{setsAt}
 use Rattle.machine.specs.Run.{Sizes}
 use Rattle.machine.specs.Opening.{openingOf}
 use Rattle.machine.specs.Action.{doing, instrAction}

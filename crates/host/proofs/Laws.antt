@@ -6,17 +6,13 @@ use Prim.Native.Nat.{ℕ, _+_, _-_, _≤_, _<_}
 use native.Mathlib.Nat.{add-zero, zero-add}
 use native.Mathlib.Numerals.{add-one}
 use native.Mathlib.Omega.{arith}
-use lib.IntN.{ℤ}
 use lib.ListN.{length, getD, set, take, drop, length-set, length-append, length-drop, drop-of-length-le}
 use lib.Seq.{drop-cons, drop-append-seam, take-append-seam, length-take-le}
 use borrow.Rule.Slice.PartMut.{midOf, postOf, putMid}
 use Rattle.block.specs.Limits.{maxBytes}
 use Rattle.wire.specs.Bytes.{stored, repeated}
 use Rattle.wire.proofs.BytesLaws.{stored-append, stored-past, stored-inside}
-use Rattle.machine.specs.Run.{Sizes, fixedSizes}
-use Rattle.listing.specs.Listing.{Listed, listingOf, maxListing}
-use Rattle.listing.proofs.ListingSizes.{listing-fits}
-use Rattle.host.specs.Exchange.{Handed, Filled, Reads, FileIn, Inspects}
+use Rattle.host.specs.Exchange.{Handed, Filled, Reads, FileIn}
 use Rattle.host.specs.declared.Exchange.{Exchange}
 use Rattle.host.specs.declared.FileRead.{FileRead}
 use Rattle.text.specs.Written.{Written}
@@ -109,11 +105,6 @@ module _ (buffer file : List ℕ) {f : FileRead} (i : FileIn buffer file f) (sam
   file-whole long ok more =
       let all : f .length ≡ length buffer = i .reads .whole ok more in omega (arith, length-take-le (f .length) file file-fits)
 
-  pub inspects-of : {before after : List ℕ} {y : Exchange} → length buffer ≡ maxBytes + 1
-      → Handed before (record { ok = f .ok; received = 0; sent = 0 }) (listingOf fixedSizes (take (f .length) file)) after y
-      → Inspects before (record { «file_ok» = f .ok; «file_ended» = f .ended; exchange = y }) after
-  inspects-of long h = record { file = take (f .length) file; whole = λ ok more. file-whole long (h .still ok) more; text = h }
-
 -- ---- a text at the front of a buffer
 
 pub front : {before after : List ℕ} {n : ℕ} {text : List ℕ} → Written before after 0 n text → n ≤ length before → take n after ≡ text
@@ -122,14 +113,6 @@ front {before} {after} {n} {text} w l =
     let f : 0 + length text ≤ length before = omega (arith, e) in
     ap (λ (m : ℕ). take m after) e ∙ ap (take (length text)) (w .same ∙ stored-inside text before 0 f)
     ∙ take-append-seam text (drop (0 + length text) before)
-
-module _ {file : List ℕ} {s : Sizes} {plan keys : List ℕ} {cells : List ℤ} {status seats : List ℕ} {frames : List ℤ} {before after : List ℕ} {n : ℕ}
-    (l : Listed file s plan keys cells status seats frames before after n) where
-  pub listing-room : n ≤ maxListing
-  listing-room = omega (arith, l .text .end, listing-fits s file)
-
-  pub listing-front : s ≡ fixedSizes → maxListing ≤ length before → take n after ≡ listingOf fixedSizes file
-  listing-front e r = front (l .text) (omega (arith, listing-room)) ∙ ap (λ (z : Sizes). listingOf z file) e
 
 -- ---- a text handed over
 

@@ -2,16 +2,12 @@
 use mathlib.Core.Path.{_≡_}
 use mathlib.Core.Bool.{Bool, true, false}
 use mathlib.Core.List.{List, [], _++_}
-use Prim.Native.Nat.{ℕ, _-_, _≤_, _<_}
+use Prim.Native.Nat.{ℕ, _-_, _≤_}
 use lib.Dec.{ltb}
 use lib.ListN.{length, drop}
 use Rattle.wire.specs.Bytes.{repeated}
-use Rattle.block.specs.Limits.{maxBytes}
-use Rattle.machine.specs.Run.{fixedSizes}
-use Rattle.listing.specs.Listing.{listingOf}
 use Rattle.host.specs.declared.Exchange.{Exchange}
 use Rattle.host.specs.declared.FileRead.{FileRead}
-use Rattle.host.specs.declared.Inspected.{Inspected}
 use Rattle.text.specs.Written.{Written}
 
 -- A text is handed to standard output: whole, or, where a write failed, a first part of it. What is handed over stands in the transcript
@@ -44,10 +40,3 @@ pub record Reads (size : ℕ) (r : FileRead) : Type 0 where
 pub record FileIn (before after : List ℕ) (r : FileRead) : Type 0 where
   pub reads : Reads (length before) r
   pub filled : Filled before after (r .length)
-
--- block.bin as listed: for some bytes of the file, all of its listing is handed over. The file is read to its end, or more of it than a block may
--- have.
-pub record Inspects (before : List ℕ) (r : Inspected) (after : List ℕ) : Type 0 where
-  pub file : List ℕ
-  pub whole : r .exchange .ok ≡ true → r .«file_ended» ≡ false → maxBytes < length file
-  pub text : Handed before (record { ok = r .«file_ok»; received = 0; sent = 0 }) (listingOf fixedSizes file) after (r .exchange)

@@ -4,21 +4,12 @@ use block::limits::MAX_BYTES;
 use libc::STDERR_FILENO;
 use libc::STDIN_FILENO;
 use libc::STDOUT_FILENO;
-use listing::MAX_LISTING;
-use machine::layout::CELLS_SIZE;
-use machine::layout::FRAMES_SIZE;
-use machine::layout::KEYS_SIZE;
-use machine::layout::PLAN_SIZE;
-use machine::layout::SEATS_SIZE;
-use machine::layout::STATUS_SIZE;
 ghost use mathlib.Core.Path.{_≡_};
 ghost use mathlib.Core.Bool.{false};
 ghost use Prim.Native.Nat.{_+_, _-_, _^_, _<_, _≤_};
 ghost use lib.ListN.{length, drop};
 ghost use Rattle.wire.specs.Bytes.{stored, repeated};
-ghost use Rattle.machine.specs.Run.{fixedSizes};
-ghost use Rattle.listing.specs.Listing.{listingOf};
-ghost use Rattle.host.specs.Exchange.{Handed, hasArguments, Filled, Reads, FileIn, Inspects};
+ghost use Rattle.host.specs.Exchange.{Handed, hasArguments, Filled, Reads, FileIn};
 
 // How the exchange stands: whether no read and no write failed, how many bytes came from standard input, and how many were handed to
 // standard output.
@@ -39,13 +30,6 @@ pub struct FileRead {
 pub struct Part {
     pub found: bool,
     pub length: usize,
-}
-
-// block.bin, listed: whether it could be read and its end was met, and how the exchange stands.
-pub struct Inspected {
-    pub file_ok: bool,
-    pub file_ended: bool,
-    pub exchange: Exchange,
 }
 
 // One byte more than a block may have is read, so that 1 is told.
@@ -269,50 +253,5 @@ pub fn read_part(buffer: &mut [u8]) -> Part
     Part {
         found: head.found,
         length,
-    }
-}
-
-// The listing of a block, handed to standard output.
-pub fn print_listing(x: Exchange, block: &[u8], transcript: &mut [u8]) -> Exchange
-    ensures text { λ r. ⌜ Handed (now (transcript .entry)) x (listingOf fixedSizes (now (block .entry))) (now (transcript .exit)) r ⌝ }
-    ensures received { λ r. ⌜ r .received ≡ x .received ⌝ }
-{
-    let mut plan = [0u64; PLAN_SIZE];
-    let mut keys = [0u64; KEYS_SIZE];
-    let mut cells = [0i64; CELLS_SIZE];
-    let mut status = [0u64; STATUS_SIZE];
-    let mut seats = [0u64; SEATS_SIZE];
-    let mut frames = [0i64; FRAMES_SIZE];
-    let mut text = [0u8; MAX_LISTING];
-    let length = listing::list(
-        block,
-        &mut plan,
-        &mut keys,
-        &mut cells,
-        &mut status,
-        &mut seats,
-        &mut frames,
-        &mut text,
-    );
-    print(x, &text[..length], transcript)
-}
-
-// Lists block.bin of the current folder. A missing file is read as empty; where a file cannot be read nothing is listed.
-pub fn inspect(transcript: &mut [u8]) -> Inspected
-    ensures { λ r. ⌜ Inspects (now (transcript .entry)) r (now (transcript .exit)) ⌝ }
-{
-    let mut file = [0u8; FILE_BYTES];
-    let f = read_block_file(&mut file);
-    let length = f.length;
-    let x = Exchange {
-        ok: f.ok,
-        received: 0,
-        sent: 0,
-    };
-    let exchange = print_listing(x, &file[..length], transcript);
-    Inspected {
-        file_ok: f.ok,
-        file_ended: f.ended,
-        exchange,
     }
 }

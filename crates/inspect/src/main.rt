@@ -13,5 +13,5 @@ The manual is docs/MANUAL.md.
         return;
     }
     let mut transcript = [0u8; 0];
-    host::inspect(&mut transcript);
+    inspect_run::inspect(&mut transcript);
 }

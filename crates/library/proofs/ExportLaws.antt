@@ -11,7 +11,7 @@ use Rattle.block.specs.Refusal.{verdictNumber, verdictOffset}
 use Rattle.block.specs.declared.Refusal.the-variants.{Buffers}
 use Rattle.machine.specs.Answer.{answerNumber}
 use Rattle.machine.specs.Run.{Run, Sizes, sizesOf, largeEnough}
-use Rattle.machine.specs.Opening.{refusedRun, openingOf}
+use Rattle.machine.specs.Opening.{refusedRun}
 use Rattle.machine.specs.Moves.{Moved, stay}
 use Rattle.machine.specs.Serial.{serialRun}
 use Rattle.machine.specs.declared.Head.{Head}
@@ -23,21 +23,14 @@ use Rattle.opening.proofs.Laws.{opened-as}
 use Rattle.sheet.specs.Sheet.{closingNumber, closingLength, sheetOf}
 use Rattle.sheet.specs.declared.Closing.{Closing}
 use Rattle.closing.specs.Answered.{ClosedAs}
-use Rattle.library.specs.Words.{Words, words, headWords, headIn, runIn, heldStored}
-use Rattle.library.specs.Exports.{openingFor, openedWords, openWords, MovedWords, moveFor, movedWords, moveWords, serialMove, sheetFor, closedWords, sheetWords}
-use Rattle.library.proofs.HeadLaws.{unmoved}
+use Rattle.exports.specs.Words.{Words, words, headWords, headIn, runIn, heldStored}
+use Rattle.exports.specs.Exports.{openingFor, openedWords, openWords, MovedWords, movedWords, moveWords, serialMove, sheetFor, closedWords, sheetWords}
+use Rattle.exports.proofs.LengthLaws.{open-short, move-long, move-short}
+use Rattle.exports.proofs.HeadLaws.{unmoved}
 
 -- ---- openings
 
 module _ (n : ℕ) (s : Sizes) (file : List ℕ) (workers : ℕ) where
-  pub open-long : headWords ≤ n → openingOf s file workers ≡ openingFor n s file workers
-  unfolding openingFor
-  open-long long = rw (le-ltb n headWords long)
-
-  open-short : n < headWords → refusedRun s Buffers ≡ openingFor n s file workers
-  unfolding openingFor
-  open-short short = rw (lt-ltb n headWords short)
-
   -- The number, the offset and the head, of what is opened.
   pub open-told :
       {r : Opened} {plan keys : List ℕ} {cells : List ℤ} {status seats : List ℕ} {frames : List ℤ}
@@ -60,20 +53,12 @@ open-cleared n file workers p k v t u f short e planned keyed celled stated seat
 -- ---- moves
 
 module _ (move : Run → Moved) (l : Words) (worker : ℕ) where
-  move-short : length (l .head) < headWords → stay (runIn l) Damaged ≡ moveFor move l
-  unfolding moveFor
-  move-short short = rw (lt-ltb (length (l .head)) headWords short)
-
-  pub move-long : headWords ≤ length (l .head) → move (runIn l) ≡ moveFor move l
-  unfolding moveFor
-  move-long long = rw (le-ltb (length (l .head)) headWords long)
-
   -- A head that is too short is left as it was, and so is the rest.
   pub move-refused : length (l .head) < headWords → {number : ℕ} → number ≡ answerNumber Damaged
       → record { number = number; words = l } ≡ moveWords move l worker
   move-refused short a =
       rw a
-      (ap (λ (head : List ℕ). told (answerNumber Damaged) head) (sym (unmoved (l .head) worker)) ∙ ap (movedWords l worker) (move-short short))
+      (ap (λ (head : List ℕ). told (answerNumber Damaged) head) (sym (unmoved (l .head) worker)) ∙ ap (movedWords l worker) (move-short move l short))
     where
       told : ℕ → List ℕ → MovedWords
       told number head =
@@ -89,7 +74,7 @@ module _ (move : Run → Moved) (l : Words) (worker : ℕ) where
         words = words head (m .run .plan) (m .run .keys) (m .run .cells) (m .run .status) (m .run .seats) (m .run .frames);
       } ≡ moveWords move l worker
   move-made long read {m} made put a =
-      rw (a, put) (ap (movedWords l worker) (made ∙ ap (λ (x : Head). move (lent x (l .plan) (l .keys) (l .cells) (l .status) (l .seats) (l .frames))) read ∙ move-long long))
+      rw (a, put) (ap (movedWords l worker) (made ∙ ap (λ (x : Head). move (lent x (l .plan) (l .keys) (l .cells) (l .status) (l .seats) (l .frames))) read ∙ move-long move l long))
 
 -- ---- the serial run
 

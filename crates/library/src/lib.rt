@@ -1,15 +1,17 @@
 // The register for programs in other languages: each function takes numbers and slices, keeps nothing, and refuses what it cannot take. A run
 // is its head, a slice of words, and six buffers, all lent by the caller.
-mod answers;
 mod run;
-mod words;
 
-use answers::closing_length;
-use answers::closing_number;
-use answers::size_of;
-use answers::verdict_number;
-use answers::verdict_offset;
 use closing::sheet;
+use export_words::answers::closing_length;
+use export_words::answers::closing_number;
+use export_words::answers::size_of;
+use export_words::answers::verdict_number;
+use export_words::answers::verdict_offset;
+use export_words::words::HEAD_WORDS;
+use export_words::words::head_in;
+use export_words::words::store_held;
+use export_words::words::store_opened;
 use in_place::lender::begin_lending;
 use in_place::lender::cancel_lending;
 use in_place::lender::step_lending;
@@ -17,16 +19,12 @@ use machine::Answer;
 use machine::numbers::answer_number;
 use run::open_for;
 use run::serial_move;
-use words::HEAD_WORDS;
-use words::head_in;
-use words::store_held;
-use words::store_opened;
 ghost use mathlib.Core.Path.{_≡_};
 ghost use lib.ListN.{length};
 ghost use Rattle.machine.specs.Moves.{beginOf, cancelOf, stepOf};
 ghost use Rattle.opening.specs.Opened.{sizesFor};
-ghost use Rattle.library.specs.Words.{words};
-ghost use Rattle.library.specs.Exports.{sizeOf, openWords, moveWords, serialMove, sheetWords};
+ghost use Rattle.exports.specs.Words.{words};
+ghost use Rattle.exports.specs.Exports.{sizeOf, openWords, moveWords, serialMove, sheetWords};
 
 // The fixed size, by number, of the head (0), the plan, the keys, the cells, the status, the seats and the frames (6), of the longest sheet (7)
 // and of the longest block (8); 0 for any other number.

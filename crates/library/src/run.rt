@@ -1,6 +1,6 @@
 // An opening that tests the length of the head too, and the serial run as a move.
-use crate::words::HEAD_WORDS;
 use block::Refusal;
+use export_words::words::HEAD_WORDS;
 use machine::Answer;
 use machine::Head;
 use machine::layout::large_enough;
@@ -15,7 +15,7 @@ ghost use mathlib.Core.Path.{_≡_};
 ghost use lib.ListN.{length};
 ghost use Rattle.moves.specs.Lent.{lent, moved};
 ghost use Rattle.opening.specs.Opened.{sizesFor, OpenedAs};
-ghost use Rattle.library.specs.Exports.{openingFor, serialMove};
+ghost use Rattle.exports.specs.Exports.{openingFor, serialMove};
 
 // The opening of a block, 20 if the head has too few words. The head and the buffers are zero if it is refused.
 pub fn open_for(

@@ -2,7 +2,7 @@
 use mathlib.Core.Path.{_≡_, refl, sym, ap, ap₂, _∙_, subst, fun-ext}
 use mathlib.Core.Bool.{Bool}
 use mathlib.Core.List.{List, [], _∷_, _++_, map}
-use Prim.Native.Nat.{ℕ, zero, suc, _+_, _-_, _*_, _/_, _%_, _≤_, _<_, min}
+use Prim.Native.Nat.{ℕ, suc, _+_, _-_, _*_, _/_, _%_, _≤_, _<_, min}
 use native.Mathlib.Decide.{decLt}
 use native.Mathlib.Nat.{add-zero}
 use native.Mathlib.Omega.{arith}
@@ -12,6 +12,7 @@ use lib.Seq.{getD-take, getD-drop}
 use Rattle.wire.specs.Bytes.{stored}
 use Rattle.wire.specs.Decimal.{decimal, lineFeed, parts}
 use Rattle.wire.proofs.BytesLaws.{stored-append, stored-length}
+use Rattle.wire.proofs.RowLaws.{four-at}
 use Rattle.wire.specs.Rows.{inRow, inWord}
 use Rattle.block.specs.Limits.{maxCalls, maxWorkers}
 use Rattle.block.specs.Reader.{Read, accepted, refused, readBlock}
@@ -26,7 +27,7 @@ use Rattle.text.proofs.Bits.{bits-length}
 use Rattle.text.specs.Written.{Written, spaced}
 use Rattle.reader.specs.Layout.{layoutOf}
 use Rattle.reader.specs.declared.Layout.{Layout}
-use Rattle.analysis.specs.LayoutOfBlock.{blockIn, blockOf}
+use Rattle.block.specs.BlockOfFile.{blockIn, blockOf}
 use Rattle.machine.specs.Run.{Sizes, rowIn}
 use Rattle.machine.specs.Opening as machine
 use Rattle.machine.specs.Opening.{openingOf}
@@ -35,13 +36,6 @@ use Rattle.opening.specs.declared.Opened.{Opened}
 use Rattle.listing.specs.Listing.{callRow, rowsText, listingText, listingOf, Listed}
 
 -- ---- a row
-
-four-words : (plan : List ℕ) (at q : ℕ) → q < 4 → getD (getD plan at 0 ∷ getD plan (at + 1) 0 ∷ getD plan (at + 2) 0 ∷ getD plan (at + 3) 0 ∷ []) q 0 ≡ getD plan (at + q) 0
-four-words plan at zero h = ap (λ (k : ℕ). getD plan k 0) (sym (add-zero at))
-four-words plan at (suc zero) h = refl
-four-words plan at (suc (suc zero)) h = refl
-four-words plan at (suc (suc (suc zero))) h = refl
-four-words plan at (suc (suc (suc (suc q)))) h = absurd (omega arith)
 
 past : (l : List ℕ) (q n : ℕ) → length l ≡ n → (q < n → ⊥) → length l ≤ q
 past l q n e h = omega arith
@@ -52,7 +46,7 @@ same-word plan j q = go (decLt q 4)
   where
     go : Dec (q < 4) → getD (callRow plan j) q 0 ≡ getD (rowIn plan j) q 0
     go (yes h) =
-        four-words plan (32 * j + 27) q h
+        four-at plan (32 * j + 27) q h
         ∙ sym (getD-take 4 (drop (32 * j + 27) plan) q 0 h ∙ getD-drop (32 * j + 27) plan q 0)
     go (no h) =
         List·getD-eq-default (callRow plan j) 0 (past (callRow plan j) q 4 refl h)

@@ -15,7 +15,7 @@ use Rattle.text.specs.Lines.{blockRefusedText, countsText, passing, rowText}
 use Rattle.text.proofs.WrittenLaws.{spaced-line}
 use Rattle.text.proofs.TextSizes.{digits-fit, passing-fit, line-fits}
 use Rattle.text.specs.Written.{spaced}
-use Rattle.analysis.specs.LayoutOfBlock.{blockOf}
+use Rattle.block.specs.BlockOfFile.{blockOf}
 use Rattle.machine.specs.Run.{Sizes, rowIn}
 use Rattle.machine.specs.Opening.{Opened, openingOf}
 use Rattle.listing.specs.Listing.{rowsText, listingText, listingOf, maxRowText, maxListing}

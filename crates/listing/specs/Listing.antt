@@ -10,7 +10,7 @@ use Rattle.block.specs.declared.Verdict.{Verdict}
 use Rattle.block.specs.declared.Verdict.the-variants as verdict
 use Rattle.text.specs.Lines.{blockRefusedText, countsText, rowText}
 use Rattle.text.specs.Written.{Written}
-use Rattle.analysis.specs.LayoutOfBlock.{blockOf}
+use Rattle.block.specs.BlockOfFile.{blockOf}
 use Rattle.machine.specs.Run.{Sizes, rowIn}
 use Rattle.machine.specs.Opening.{Opened, openingOf}
 

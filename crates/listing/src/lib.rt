@@ -2,13 +2,14 @@
 use block::Verdict;
 use block::limits::MAX_CALLS;
 use block::limits::MAX_WORKERS;
-use block::numbers::number_of;
-use block::numbers::offset_of;
+use decoder::numbers::number_of;
+use decoder::numbers::offset_of;
 use footprint::layout::FIRST_ROW_WORD;
 use footprint::layout::PLAN_WORDS;
 use text::block_refused_line;
 use text::counts_line;
 use text::row_line;
+use wire::ROW_WORDS;
 ghost use mathlib.Core.Path.{_≡_};
 ghost use Prim.Native.Nat.{_+_, _<_, _≤_};
 ghost use lib.ListN.{length};
@@ -24,7 +25,7 @@ const MAX_ROW_TEXT: usize = 4 * MAX_CALLS + 6;
 pub const MAX_LISTING: usize = MAX_CALLS * MAX_ROW_TEXT + 86;
 
 // A call's row in the plan; words past its end count as 0.
-fn row_in(plan: &[u64], call: usize) -> [u64; 4]
+fn row_in(plan: &[u64], call: usize) -> [u64; ROW_WORDS]
     requires { ⌜ call < maxCalls ⌝ }
     ensures { λ r. ⌜ r ≡ callRow (now (plan .entry)) call ⌝ }
 {

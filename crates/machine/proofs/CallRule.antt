@@ -30,7 +30,7 @@ use Rattle.footprint.proofs.SetAccessLaws.{drop-bytes, decode-sound, sets-used}
 use Rattle.block.specs.Encoding.{AreBytes}
 use Rattle.footprint.specs.Sets.{functionSets, setsOf, writeSet}
 use Rattle.block.specs.Naming.{functionOf}
-use Rattle.footprint.proofs.SetLaws.{EachAccess}
+use Rattle.wire.specs.All.{All}
 use Rattle.footprint.specs.Plan.{entryWord, codeWords, tableWords}
 use Rattle.rule.specs.Rule.{State, update, credit, debit, stateWithinLimit, ends, Course, before, over, executeAt, unfuelled, runBody, bodyOf, settle, Left, stepsFor, unbegun, runFunction, transactionBy, transaction}
 use Rattle.rule.proofs.LimitLaws.{update-same, update-other, balanceKey, limit-balance, limit-move}
@@ -97,13 +97,6 @@ made-of file c o table room v few known small entries keys =
       able = rw entries (made-restorable table few (functionSets file c o) (v .count) small (sets-used file c o) known);
       entries = entries;
     }
-
--- So does a call's view in a made run.
-pub made-view : (file : List ℕ) (functions : List Function) (c : Call) (table : List ℕ) (room : ℕ) → length table ≤ maxKeys
-    → KeysInTable table (setsOf file functions c) → length (setsOf file functions c) ≤ maxCallKeys
-    → MadeOf (madeView file room functions table c) table (setsOf file functions c)
-made-view file functions c table room few known small =
-    made-of file c (functionOf functions c) table room (madeView file room functions table c) few known small refl refl
 
 -- The view of a call whose function is f.
 abbrev viewIn : (file : List ℕ) (room : ℕ) (table : List ℕ) → Call → Function → View
@@ -292,7 +285,7 @@ module _ (file : List ℕ) (bytes : AreBytes file) (c : Call) (fits : CallBounde
     both-covered : Covered es (changing (balanceKey payer)) × Covered es (writing (balanceKey paid))
     unfolding entryAccesses
     both-covered =
-        let all : EachAccess (Covered es) (changing (balanceKey payer) ∷ writing (balanceKey paid) ∷ []) = rw above at (entry-covered file c f) in
+        let all : All (Covered es) (changing (balanceKey payer) ∷ writing (balanceKey paid) ∷ []) = rw above at (entry-covered file c f) in
         (all .0, all .1 .0)
 
     entry-short : ltZ (start (balanceKey payer)) (c .value) ≡ true → stepCall view (at 0 zeroRegisters 0) old ≡ done 2 0 old

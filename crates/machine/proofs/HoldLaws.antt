@@ -18,9 +18,9 @@ use Rattle.footprint.specs.Table.{cellNumber}
 use Rattle.footprint.specs.Plan.{entryWord, entryWrites}
 use Rattle.rule.specs.Rule.{State, update, credit, debit, stateWithinLimit}
 use Rattle.rule.proofs.LimitLaws.{update-same, update-other, balanceKey, balance-keys, limit-other, limit-move}
-use Rattle.analysis.specs.Masks.{someEntryUses}
-use Rattle.analysis.proofs.MaskLaws.{uses-writes}
-use Rattle.analysis.proofs.TableLaws.{cell-lt, cell-injective}
+use Rattle.footprint.specs.EntryUses.{someEntryUses}
+use Rattle.footprint.proofs.EntryLaws.{uses-writes}
+use Rattle.footprint.proofs.TableLaws.{cell-lt, cell-injective}
 use Rattle.machine.specs.Step.{cellAt, savedOf}
 use Rattle.machine.specs.CallInRun.{Hold}
 use Rattle.machine.proofs.LookupLaws.{KeysInTable, in-each}

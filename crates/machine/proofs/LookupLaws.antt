@@ -12,7 +12,7 @@ use lib.Dec.{eqb}
 use lib.ListN.{length, getD, drop}
 use lib.Seq.{drop-drop}
 use Rattle.arith.specs.Choice.{if_then_else_}
-use Rattle.arith.proofs.ChoiceLaws.{neither}
+use Rattle.arith.proofs.ChoiceLaws.{neither, or-left, or-right}
 use Rattle.wire.specs.Bytes.{repeated, padded}
 use Rattle.wire.specs.Rows.{bit}
 use Rattle.block.specs.Limits.{maxCallKeys, maxKeys}
@@ -26,11 +26,13 @@ use Rattle.footprint.specs.Access.{Access, accesses, entryAccesses}
 use Rattle.footprint.specs.Sets.{mergeAll, decodedAccesses, codeAccesses, functionSets, readSet, writeSet, accessKeys}
 use Rattle.footprint.specs.Conflict.{member}
 use Rattle.footprint.proofs.ConflictLaws.{eqb-sym, member-pick}
-use Rattle.footprint.proofs.SetLaws.{EachAccess, Distinct, keys-union, reads-union, writes-union, merged-distinct}
+use Rattle.footprint.proofs.SetLaws.{Distinct, keys-union, reads-union, writes-union, merged-distinct}
+use Rattle.wire.specs.All.{All}
+use Rattle.wire.proofs.ListLaws.{all-map}
 use Rattle.footprint.specs.Table.{cellNumber}
 use Rattle.footprint.specs.Plan.{entryWord, highWord, lowWord, tableWords, entryReads, entryWrites}
-use Rattle.analysis.proofs.TableLaws.{cell-lt, number-key}
-use Rattle.analysis.proofs.MaskLaws.{InKeys, entry-cell, entry-writes}
+use Rattle.footprint.proofs.TableLaws.{cell-lt, number-key}
+use Rattle.footprint.proofs.EntryLaws.{InKeys, entry-cell, entry-writes}
 use Rattle.machine.proofs.CodeLaws.{stretch-decode}
 use Rattle.machine.specs.Run.{hasKey}
 use Rattle.machine.specs.Step.{View, findEntry, lookup}
@@ -43,16 +45,6 @@ pub record Covered (es : List Access) (a : Access) : Type 0 where
   pub key : member (a .key) (accessKeys es) ≡ true
   pub read : a .reads ≡ true → member (a .key) (readSet es) ≡ true
   pub written : a .writes ≡ true → member (a .key) (writeSet es) ≡ true
-
-or-left : (a b : Bool) → a ≡ true → (a || b) ≡ true
-or-left a b h = rw h
-
-pub or-right : (a b : Bool) → b ≡ true → (a || b) ≡ true
-or-right a b h = rw (h, or-true a)
-
-pub each-map : (P Q : Access → Type 0) → ((a : Access) → P a → Q a) → (as′ : List Access) → EachAccess P as′ → EachAccess Q as′
-each-map P Q f [] h = tt
-each-map P Q f (a ∷ as′) h = (f a (h .0), each-map P Q f as′ (h .1))
 
 -- An access is covered by a list that it stands in.
 covered-first : (a : Access) (es : List Access) → Covered (a ∷ es) a
@@ -77,10 +69,10 @@ covered-later a e es h =
           ∙ or-right (e .writes && eqb (a .key) (e .key)) (member (a .key) (writeSet es)) (h .written w);
     }
 
-covered-append : (xs ys : List Access) → EachAccess (Covered (xs ++ ys)) xs
+covered-append : (xs ys : List Access) → All (Covered (xs ++ ys)) xs
 covered-append [] ys = tt
 covered-append (x ∷ xs) ys =
-    (covered-first x (xs ++ ys), each-map (Covered (xs ++ ys)) (Covered (x ∷ (xs ++ ys))) (λ a h. covered-later a x (xs ++ ys) h) xs (covered-append xs ys))
+    (covered-first x (xs ++ ys), all-map (Covered (xs ++ ys)) (Covered (x ∷ (xs ++ ys))) (λ a h. covered-later a x (xs ++ ys) h) xs (covered-append xs ys))
 
 covered-behind : (xs ys : List Access) (a : Access) → Covered ys a → Covered (xs ++ ys) a
 covered-behind [] ys a h = h
@@ -103,14 +95,14 @@ covered-kept es more a h =
       written = λ w. writes-union (a .key) es more ∙ or-left (member (a .key) (writeSet es)) (member (a .key) (writeSet more)) (h .written w);
     }
 
-covered-self : (es : List Access) → EachAccess (Covered es) es
+covered-self : (es : List Access) → All (Covered es) es
 covered-self [] = tt
 covered-self (e ∷ es) =
-    (covered-first e es, each-map (Covered es) (Covered (e ∷ es)) (λ a h. covered-later a e es h) es (covered-self es))
+    (covered-first e es, all-map (Covered es) (Covered (e ∷ es)) (λ a h. covered-later a e es h) es (covered-self es))
 
 -- The accesses of every instruction of a code are covered by those of the code.
 code-covered : (c : Call) (left size : ℕ) (s : List ℕ) (p : ℕ) → p < left
-    → EachAccess (Covered (codeAccesses c left size s)) (decodedAccesses c (decode size (drop (instrBytes * p) s)))
+    → All (Covered (codeAccesses c left size s)) (decodedAccesses c (decode size (drop (instrBytes * p) s)))
 unfolding codeAccesses
 code-covered c zero size s p l = absurd (not-suc-le-zero l)
 code-covered c (suc left) size s zero l =
@@ -123,8 +115,8 @@ code-covered c (suc left) size s (suc p) l =
     in
     let first : List Access = decodedAccesses c (decode size s) in
     let rest : List Access = codeAccesses c left size (drop instrBytes s) in
-    subst (λ (as′ : List Access). EachAccess (Covered (first ++ rest)) as′) (sym here)
-    (each-map (Covered rest) (Covered (first ++ rest)) (covered-behind first rest)
+    subst (λ (as′ : List Access). All (Covered (first ++ rest)) as′) (sym here)
+    (all-map (Covered rest) (Covered (first ++ rest)) (covered-behind first rest)
     (decodedAccesses c (decode size (drop (instrBytes * p) (drop instrBytes s))))
     (code-covered c left size (drop instrBytes s) p (le-of-suc-le-suc l)))
 
@@ -133,28 +125,28 @@ module _ (file : List ℕ) (c : Call) (f : Function) where
   abbrev stretch : List ℕ
   stretch = codeAt file (f .start) (f .size)
 
-  pub entry-covered : EachAccess (Covered (functionSets file c (some f))) (entryAccesses c)
+  pub entry-covered : All (Covered (functionSets file c (some f))) (entryAccesses c)
   unfolding functionSets
   entry-covered =
       let own : List Access = entryAccesses c in
       let code : List Access = codeAccesses c (f .size) (f .size) stretch in
-      each-map (Covered own) (Covered (mergeAll (mergeAll [] own) code))
+      all-map (Covered own) (Covered (mergeAll (mergeAll [] own) code))
       (λ a h. covered-kept (mergeAll [] own) code a (covered-merged [] own a h)) own (covered-self own)
 
   stretch-covered : (p : ℕ) → p < f .size
-      → EachAccess (Covered (functionSets file c (some f))) (decodedAccesses c (decode (f .size) (drop (instrBytes * p) stretch)))
+      → All (Covered (functionSets file c (some f))) (decodedAccesses c (decode (f .size) (drop (instrBytes * p) stretch)))
   unfolding functionSets
   stretch-covered p l =
       let own : List Access = entryAccesses c in
       let code : List Access = codeAccesses c (f .size) (f .size) stretch in
-      each-map (Covered code) (Covered (mergeAll (mergeAll [] own) code)) (covered-merged (mergeAll [] own) code)
+      all-map (Covered code) (Covered (mergeAll (mergeAll [] own) code)) (covered-merged (mergeAll [] own) code)
       (decodedAccesses c (decode (f .size) (drop (instrBytes * p) stretch)))
       (code-covered c (f .size) (f .size) stretch p l)
 
   pub instr-covered : (p : ℕ) → p < f .size → (i : Instr) → decode (f .size) (drop (f .start + instrBytes * p) file) ≡ Valid i
-      → EachAccess (Covered (functionSets file c (some f))) (accesses c i)
+      → All (Covered (functionSets file c (some f))) (accesses c i)
   instr-covered p l i e =
-      subst (λ (d : Decoded). EachAccess (Covered (functionSets file c (some f))) (decodedAccesses c d)) (stretch-decode file f p l ∙ e) (stretch-covered p l)
+      subst (λ (d : Decoded). All (Covered (functionSets file c (some f))) (decodedAccesses c d)) (stretch-decode file f p l ∙ e) (stretch-covered p l)
 
 -- No key stands twice in the sets of a call.
 pub sets-distinct : (file : List ℕ) (c : Call) (f : Option Function) → Distinct (accessKeys (functionSets file c f))
@@ -223,7 +215,7 @@ pub in-rest : (table : List ℕ) (e : Access) (es : List Access) → KeysInTable
 unfolding member
 in-rest table e es known k m = known k (or-right (eqb k (e .key)) (member k (accessKeys es)) m)
 
-pub in-each : (table : List ℕ) (es : List Access) → KeysInTable table es → EachAccess (InKeys table) es
+pub in-each : (table : List ℕ) (es : List Access) → KeysInTable table es → All (InKeys table) es
 in-each table [] known = tt
 in-each table (e ∷ es) known = (in-first table e es known, in-each table es (in-rest table e es known))
 

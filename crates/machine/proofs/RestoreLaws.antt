@@ -16,13 +16,13 @@ use Rattle.arith.proofs.ChoiceLaws.{by-test, if-all, both, neither}
 use Rattle.wire.specs.Rows.{bit}
 use Rattle.block.specs.Limits.{maxCallKeys, maxKeys}
 use Rattle.footprint.specs.Access.{Access}
-use Rattle.footprint.proofs.SetLaws.{EachAccess}
+use Rattle.wire.specs.All.{All}
 use Rattle.footprint.specs.Table.{cellNumber}
 use Rattle.footprint.specs.Plan.{entryWord, entryCell, entryWrites}
-use Rattle.footprint.specs.Uses.{Used}
-use Rattle.analysis.specs.Masks.{anyOf, someEntryUses}
-use Rattle.analysis.proofs.TableLaws.{cell-lt}
-use Rattle.analysis.proofs.MaskLaws.{entry-cell}
+use Rattle.footprint.specs.Listed.{Used}
+use Rattle.footprint.specs.EntryUses.{anyOf, someEntryUses}
+use Rattle.footprint.proofs.TableLaws.{cell-lt}
+use Rattle.footprint.proofs.EntryLaws.{entry-cell}
 use Rattle.machine.proofs.LookupLaws.{KeysInTable, in-first, in-rest}
 use Rattle.machine.specs.Step.{cellAt, entriesAllowed, restorable, savedOf, restored}
 
@@ -115,7 +115,7 @@ unfolding entryWord
 entry-flagged table e u = flag-used (cellNumber table (e .key)) (e .reads) (e .writes) (u .used)
 
 module _ (table : List ℕ) (few : length table ≤ maxKeys) where
-  pub entries-allowed : (es : List Access) → EachAccess Used es → KeysInTable table es → entriesAllowed (map (entryWord table) es) ≡ true
+  pub entries-allowed : (es : List Access) → All Used es → KeysInTable table es → entriesAllowed (map (entryWord table) es) ≡ true
   unfolding entriesAllowed
   entries-allowed [] used known = refl
   entries-allowed (e ∷ es) used known =
@@ -128,6 +128,6 @@ module _ (table : List ℕ) (few : length table ≤ maxKeys) where
         entries-allowed es (used .1) (in-rest table e es known),
       )
 
-  pub made-restorable : (es : List Access) (count : ℕ) → count ≤ maxCallKeys → EachAccess Used es → KeysInTable table es
+  pub made-restorable : (es : List Access) (count : ℕ) → count ≤ maxCallKeys → All Used es → KeysInTable table es
       → restorable count (map (entryWord table) es) ≡ true
   made-restorable es count small used known = rw (le-leb count maxCallKeys small, entries-allowed es used known)

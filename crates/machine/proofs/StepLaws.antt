@@ -5,7 +5,7 @@ use mathlib.Core.Bool.{Bool, true, false, _&&_, not}
 use mathlib.Core.List.{List, [], _∷_}
 use Prim.Native.Nat.{ℕ, _+_, _-_, _*_, _≤_, _<_}
 use native.Mathlib.Omega.{arith}
-use borrow.Author.Tests.{eqb-true, eqb-false, ne-eqb, le-ltb}
+use borrow.Author.Tests.{eqb-true, eqb-false}
 use lib.IntN.{ℤ, pos, _+ℤ_}
 use lib.Signed.{ltZ, leZ, nonNeg}
 use lib.Dec.{eqb, leb, ltb}
@@ -64,11 +64,6 @@ ranged-count r = omega (arith, r .fuel .1, r .counted)
 
 pub ranged-left : {v : View} {place count : ℕ} → Ranged v place count → 0 < stepsLeft v place count
 ranged-left r = omega (arith, r .counted)
-
--- "a lent fuel of zero or a count above the fuel": neither is so.
-pub ranged-fuel : {v : View} {place count : ℕ} → Ranged v place count → fuelBroken (v .call .fuel) count ≡ false
-ranged-fuel {v} {place} {count} r =
-    rw (ne-eqb (v .call .fuel) 0 (λ e. omega (arith, e, r .fuel .0)), le-ltb (v .call .fuel) count (r .counted))
 
 -- A begun call. "a call takes at most fuel plus 2 accepted steps".
 pub begun-ranged : (v : View) → v .code ≤ maxCode + 1 → FuelInRange (v .call .fuel) → Ranged v 0 0

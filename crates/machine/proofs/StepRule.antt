@@ -30,7 +30,7 @@ use Rattle.footprint.specs.Access.{Access, reading, writing, changing, payAcces
 use Rattle.block.specs.Naming.{sourceValue, cellKey}
 use Rattle.footprint.proofs.SetAccessLaws.{source-below}
 use Rattle.footprint.specs.Sets.{writeSet}
-use Rattle.footprint.proofs.SetLaws.{EachAccess}
+use Rattle.wire.specs.All.{All}
 use Rattle.footprint.specs.Table.{cellNumber}
 use Rattle.footprint.specs.Plan.{entryWord}
 use Rattle.rule.specs.Rule as rule
@@ -230,10 +230,10 @@ module _ (v : View) (table : List ℕ) (es : List Access) (made : MadeOf v table
               (transfer-now σ cells now a target small (omega arith) apart from to (p + 1) n ρ amount 5 s enough))
 
       -- "PAY with 5 if the amount is negative, the target no account, or the contract's balance lower", and where it is account 0.
-      pay-match : (amount : ℤ) (target : ℕ) → EachAccess (Covered es) (payAccesses c (payeeOf target)) → Pays amount (payeeOf target)
+      pay-match : (amount : ℤ) (target : ℕ) → All (Covered es) (payAccesses c (payeeOf target)) → Pays amount (payeeOf target)
       unfolding payAccesses payAction transfer perform
       pay-match amount target =
-          payee-all (λ (p : Payee). EachAccess (Covered es) (payAccesses c p) → Pays amount p) target
+          payee-all (λ (p : Payee). All (Covered es) (payAccesses c p) → Pays amount p) target
           (λ other low covered. pay-account amount target low (covered .0) (covered .1 .0)) (λ covered. end-match 5 refl)
 
       -- The cell of GET and PUT is no balance.
@@ -249,7 +249,7 @@ module _ (v : View) (table : List ℕ) (es : List Access) (made : MadeOf v table
       jump-match false to = next-match ρ σ cells now
 
       -- An instruction: its own step and its own turn.
-      pub instr-match : (i : Instr) → InstrFits (2 ^ 16) i → EachAccess (Covered es) (accesses c i)
+      pub instr-match : (i : Instr) → InstrFits (2 ^ 16) i → All (Covered es) (accesses c i)
           → Concludes (execute c p ρ n σ i) cells (performAction v (p + 1) n (accesses c i) (instrAction c (p + 1) ρ i) cells)
       unfolding execute accesses instrAction perform
       instr-match Stop fit covered = stop-match

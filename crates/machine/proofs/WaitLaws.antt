@@ -1,16 +1,15 @@
 -- The numbers that calls carry: what a change of each leaves of the status, and when all that are to be lowered can be.
 use mathlib.Core.Path.{_≡_, refl, sym, ap, _∙_}
-use mathlib.Core.Bool.{Bool, true, false, _&&_, _||_, not}
+use mathlib.Core.Bool.{Bool, true, false, _&&_}
 use mathlib.Core.List.{List}
 use Prim.Native.Nat.{ℕ, zero, suc, _+_, _*_, _≤_, _<_}
 use native.Mathlib.Decide.{decLt}
 use native.Mathlib.Omega.{arith}
 use borrow.Author.Tests.{le-leb, ne-eqb}
-use lib.Dec.{eqb, leb}
 use lib.ListN.{length, length-set}
 use lib.Seq.{getD-set-same, getD-set-other, set-getD}
 use Rattle.machine.specs.Run.{statusWords, statusWord, waitWord, waitCount, withWait}
-use Rattle.machine.specs.Waits.{eachWait, waitsFor, waitsLowerable}
+use Rattle.machine.specs.Waits.{eachWait, waitsFor, lowerableIf, waitsLowerable}
 
 module _ (new : ℕ → ℕ → ℕ) (status : List ℕ) where
   pub each-length : (n : ℕ) → length (eachWait new n status) ≡ length status
@@ -70,7 +69,7 @@ lowerable-all plan status call (suc later) h =
     one (waitsFor plan call later) (h later (omega arith)) (lowerable-all plan status call later (λ d l. h d (omega arith)))
   where
     one : (t : Bool) → (t ≡ true → (0 < waitCount status later) × (waitCount status later ≤ later)) → waitsLowerable plan status call later ≡ true
-        → ((not t || (not (eqb (waitCount status later) 0) && leb (waitCount status later) later)) && waitsLowerable plan status call later) ≡ true
+        → (lowerableIf t later (waitCount status later) && waitsLowerable plan status call later) ≡ true
     one false own rest = rest
     one true own rest =
         let in-range = own refl in

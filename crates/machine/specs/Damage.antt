@@ -52,9 +52,6 @@ valueAt i v r = withCells r (set (r .cells) i v)
 abbrev pub statusAt : ℕ → ℕ → Run → Run
 statusAt i v r = withStatus r (set (r .status) i v)
 
-abbrev pub seatAt : ℕ → ℕ → Run → Run
-seatAt i v r = withSeats r (set (r .seats) i v)
-
 abbrev pub frameAt : ℕ → ℤ → Run → Run
 frameAt i v r = withFrames r (set (r .frames) i v)
 

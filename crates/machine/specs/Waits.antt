@@ -32,16 +32,23 @@ waitsSet plan calls status = eachWait (λ call old. countedWaits plan status cal
 abbrev pub waitsFor : (plan : List ℕ) → (finished later : ℕ) → Bool
 waitsFor plan call later = ltb call later && namedIn plan call later
 
+-- The number of one call, lowered where it waits for the finished one.
+abbrev pub loweredIf : (waits : Bool) → ℕ → ℕ
+loweredIf waits n = if waits then n - 1 else n
+
 -- "a finish lowers it in each later call whose row names the finished one"
 abbrev pub lowerOne : (plan : List ℕ) → (finished later old : ℕ) → ℕ
-lowerOne plan call later old = if waitsFor plan call later then old - 1 else old
+lowerOne plan call later old = loweredIf (waitsFor plan call later) old
 
 abbrev pub waitsLowered : (plan : List ℕ) → (finished calls : ℕ) → List ℕ → List ℕ
 waitsLowered plan call calls status = eachWait (lowerOne plan call) calls status
 
--- "In a lent run, one above its call's number, or 0 where it is to be lowered, is 20": of those among the first n calls that are to be lowered, none is.
+-- "In a lent run, one above its call's number, or 0 where it is to be lowered, is 20": what the number n of one call is asked where it is to be lowered.
+abbrev pub lowerableIf : (waits : Bool) → (call n : ℕ) → Bool
+lowerableIf waits call n = not waits || (not (eqb n 0) && leb n call)
+
+-- It is so of the first n calls.
 unfoldable pub waitsLowerable : (plan status : List ℕ) → (finished n : ℕ) → Bool
 waitsLowerable plan status call zero = true
 waitsLowerable plan status call (suc later) =
-    (not (waitsFor plan call later) || (not (eqb (waitCount status later) 0) && leb (waitCount status later) later))
-    && waitsLowerable plan status call later
+    lowerableIf (waitsFor plan call later) later (waitCount status later) && waitsLowerable plan status call later

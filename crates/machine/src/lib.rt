@@ -2,6 +2,9 @@
 pub mod layout;
 pub mod numbers;
 
+use block::limits::MAX_WORKERS;
+use layout::REGISTERS;
+
 // The part of a run that every move asks: the numbers of workers, calls and cells, the offset of the first call record, and the call that
 // each worker holds, as its number plus 1, or 0 for none.
 pub struct Head {
@@ -9,7 +12,7 @@ pub struct Head {
     pub calls: usize,
     pub cells: usize,
     pub first_call: usize,
-    pub held: [u16; 8],
+    pub held: [u16; MAX_WORKERS],
 }
 
 // What a move, or the closing sheet, answers. specs/Answer.antt has document 01's numbers.
@@ -40,7 +43,7 @@ pub enum Next {
 // That, with the registers it leaves.
 pub struct Action {
     pub next: Next,
-    pub regs: [i64; 8],
+    pub regs: [i64; REGISTERS],
 }
 
 // Where a call keeps a cell: its number, or nowhere with the flags that are wanted.

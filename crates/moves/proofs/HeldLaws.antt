@@ -9,6 +9,7 @@ use lib.Dec.{eqb, leb, ltb}
 use lib.IntN.{ℤ}
 use lib.Seq.{set-getD}
 use Rattle.arith.specs.Choice.{if_then_else_}
+use Rattle.arith.proofs.ChoiceLaws.{neither}
 use Rattle.block.specs.Limits.{maxCalls, maxWorkers}
 use Rattle.footprint.specs.Plan.{roomEnough}
 use Rattle.machine.specs.Run.{Sizes, fixedSizes, roomIn, largeEnough, heldAt, sizesOf, withHeld}
@@ -33,14 +34,6 @@ and-left false b e = e
 pub and-right : (a b : Bool) → true ≡ (a && b) → true ≡ b
 and-right true b e = e
 and-right false b e = let z : _≡_ {A = ℕ} 0 1 = cc in absurd (omega arith)
-
-or-right : (a b : Bool) → (a || b) ≡ false → b ≡ false
-or-right true b e = let z : _≡_ {A = ℕ} 0 1 = cc in absurd (omega arith)
-or-right false b e = e
-
-or-left : (a b : Bool) → (a || b) ≡ false → a ≡ false
-or-left true b e = e
-or-left false b e = refl
 
 -- ---- the sizes
 
@@ -99,7 +92,7 @@ module _ (large : Bool) (n w : ℕ) where
       go false false e = (refl, refl)
 
   pub passed-large : Passed ≡ workerTested large n w → large ≡ true
-  passed-large e = go large (or-left _ _ (or-left _ _ (passed e .0)))
+  passed-large e = go large (neither _ _ (neither _ _ (passed e .0) .0) .0)
     where
       go : (b : Bool) → not b ≡ false → b ≡ true
       go true e = refl
@@ -107,7 +100,7 @@ module _ (large : Bool) (n w : ℕ) where
 
   pub passed-worker : Passed ≡ workerTested large n w → w < maxWorkers
   passed-worker e =
-      let many : n ≤ maxWorkers = ltb-false _ _ (or-right (not large || eqb n 0) _ (passed e .0)) in
+      let many : n ≤ maxWorkers = ltb-false _ _ (neither (not large || eqb n 0) _ (passed e .0) .1) in
       let own : w < n = leb-false _ _ (passed e .1) in
       omega arith
 

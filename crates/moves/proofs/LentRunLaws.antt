@@ -13,7 +13,7 @@ use Rattle.arith.proofs.ChoiceLaws.{if-all}
 use Rattle.block.specs.Limits.{maxCode}
 use Rattle.block.specs.Outcomes.{thrown}
 use Rattle.block.specs.Record.{headBytes, callBytes, callRecordBytes, callOf}
-use Rattle.block.proofs.Laws.{call-cut}
+use Rattle.decoder.proofs.Laws.{call-cut}
 use Rattle.block.specs.declared.Call.{Call}
 use Rattle.block.specs.declared.CallBody.{CallBody}
 use Rattle.block.specs.declared.CallBody.the-variants.{InRange, OutOfRange}

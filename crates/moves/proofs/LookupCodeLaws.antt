@@ -11,7 +11,7 @@ use Rattle.arith.specs.Choice.{if_then_else_}
 use Rattle.block.specs.Limits.{maxCalls, maxCallKeys, maxKeys}
 use Rattle.footprint.specs.Plan.{planWords, highWord, lowWord, entryCell, entryReads, entryWrites}
 use Rattle.footprint.specs.Access.{Access}
-use Rattle.footprint.specs.declared.KeyUse.{KeyUse}
+use Rattle.key_uses.specs.declared.KeyUse.{KeyUse}
 use Rattle.machine.specs.Run.{hasKey}
 use Rattle.machine.specs.Step.{findEntry}
 use Rattle.machine.specs.Moves.{callKeyCount}

@@ -12,13 +12,12 @@ use lib.Signed.{ltZ, leZ, nonNeg}
 use mir.Syntax.{w64}
 use mir.Val.{SFits}
 use Rattle.arith.specs.Balance.{largest}
-use Rattle.arith.proofs.IntegerLaws.{sum, diff, ltZ-true, ltZ-false, nonNeg-true, le-leZ, lt-leZ, sfits-parts, parts-sfits}
+use Rattle.arith.proofs.IntegerLaws.{sum, diff, ltZ-true, ltZ-false, nonNeg-true, le-leZ, lt-leZ, sfits-parts, parts-sfits, negative, not-negative}
 use Rattle.arith.proofs.Laws.{read, read-back, read-fits, diff-fits}
 use Rattle.block.specs.Key.{isBalance}
-use Rattle.block.proofs.Laws.{negative, not-negative}
 use Rattle.footprint.specs.Access.{Access}
-use Rattle.footprint.specs.declared.KeyUse.{KeyUse}
-use Rattle.footprint.specs.declared.Uses.{Uses}
+use Rattle.key_uses.specs.declared.KeyUse.{KeyUse}
+use Rattle.key_uses.specs.declared.Uses.{Uses}
 use Rattle.machine.specs.Step.{View, Performed, damaged, done, cellAt, restorable, restored, finish, loadCell, storeCell, depositCell, transferCells, perform, lookup}
 use Rattle.block.specs.Outcomes.{thrown}
 use Rattle.machine.specs.declared.Next.{Next}

@@ -1,7 +1,7 @@
 -- The mathematics of the proofs of `step` up to what a place comes to, over plain variables: the entry, the instruction in the block, the
 -- fuel and the place that decide, and what is due there.
-use mathlib.Core.Path.{_≡_, refl, sym, ap, _∙_}
-use mathlib.Core.Bool.{Bool, true, false, _||_}
+use mathlib.Core.Path.{_≡_, sym, ap, _∙_}
+use mathlib.Core.Bool.{true, false, or-true}
 use mathlib.Core.List.{List, []}
 use Prim.Native.Nat.{ℕ, _+_, _-_, _*_, _≤_, _<_}
 use native.Mathlib.Omega.{arith}
@@ -20,8 +20,8 @@ use Rattle.block.specs.declared.Decoded.{Decoded}
 use Rattle.block.specs.declared.Decoded.the-variants.{Valid, Invalid}
 use Rattle.block.specs.declared.Instr.{Instr}
 use Rattle.footprint.specs.Access.{Access, accesses, entryAccesses}
-use Rattle.footprint.specs.Uses.{usesOf}
-use Rattle.footprint.specs.declared.Uses.{Uses}
+use Rattle.key_uses.specs.Uses.{usesOf}
+use Rattle.key_uses.specs.declared.Uses.{Uses}
 use Rattle.machine.specs.Action.{entryAction, instrAction}
 use Rattle.block.specs.Outcomes.{ended, outOfFuel, unknownFunction}
 use Rattle.machine.specs.Run.{planWord}
@@ -87,11 +87,6 @@ module _ (block : List ℕ) (start size index : ℕ) (inside : index < size) whe
       rw (same-read 1 0 (omega arith), same-read 1 1 (omega arith), same-read 1 2 (omega arith), same-read 1 3 (omega arith), same-read 4 4 (omega arith))
 
 -- ---- what is due at a place
-
--- The second of two tests, whatever the first finds.
-second-found : (p : Bool) {q : Bool} → q ≡ true → (p || q) ≡ true
-second-found true e = refl
-second-found false e = e
 
 -- No use of a key is one that has its words.
 pub none-worded : KeyWorded (usesOf [] .first) × KeyWorded (usesOf [] .second)
@@ -175,7 +170,7 @@ module _ (block plan keys : List ℕ) (c : ℕ) (call : Call) (place : ℕ) (reg
     unfolding stepBody
     fuel-past {d} {fuel} own h b =
         let past : call .fuel < count = rw own at h in
-        rw (b, second-found (eqb (call .fuel) 0) (lt-ltb (call .fuel) count past))
+        rw (b, lt-ltb (call .fuel) count past, or-true (eqb (call .fuel) 0))
 
     pub body-ended : {d : Due} {fuel : ℕ} → fuel ≡ call .fuel → (fuel ≡ 0 → ⊥) → count ≤ fuel → {code : ℕ} → code ≡ planWord plan c 1 → place ≡ code → d ≡ endDue ended count
         → doneAt d ≡ stepBody (viewIn block plan keys c call) place count regs cells

@@ -18,7 +18,7 @@ use Rattle.block.specs.declared.Instr.{Instr}
 use Rattle.block.specs.declared.Instr.the-variants.{Stop, Throw, Set, Arg, Sender, Value, Add, Sub, Mul, Div, Get, Put, Bal, Pay, Jeq, Jlt}
 use Rattle.footprint.specs.Access.{Access, accesses, entryAccesses, payAccesses}
 use Rattle.block.specs.Naming.{targetOf}
-use Rattle.footprint.specs.Uses.{useOf, usesOf}
+use Rattle.key_uses.specs.Uses.{useOf, usesOf}
 use Rattle.machine.specs.Action.{checkedAction, payAction, instrAction, entryAction}
 use Rattle.machine.specs.Step.{accessAt, lookup, perform, transferCells}
 use Rattle.machine.specs.declared.Next.{Next}

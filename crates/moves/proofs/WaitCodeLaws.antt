@@ -1,19 +1,18 @@
 -- The mathematics of the walks over the calls behind a finished one, over plain variables: the bit that is tested, and a call more at each turn.
 use mathlib.Core.Path.{_≡_, sym, ap, ap₂, _∙_}
-use mathlib.Core.Bool.{Bool, true, false, _&&_, _||_, not, and-true, and-false}
+use mathlib.Core.Bool.{Bool, true, false, and-true, and-false}
 use mathlib.Core.List.{List}
 use Prim.Native.Nat.{ℕ, zero, suc, _+_, _-_, _*_, _/_, _%_, _≤_, _<_}
 use native.Mathlib.Nat.{zero-add, suc-add}
 use native.Mathlib.Numerals.{add-one}
 use native.Mathlib.Omega.{arith}
 use borrow.Author.Tests.{lt-ltb, le-ltb, ne-eqb}
-use lib.Dec.{eqb, leb}
+use lib.Dec.{leb}
 use lib.ListN.{getD, drop, set}
 use lib.Seq.{getD-take, getD-drop, set-getD}
-use Rattle.arith.specs.Choice.{if_then_else_}
 use Rattle.wire.specs.Rows.{inWord, inRow}
 use Rattle.machine.specs.Run.{waitCount, withWait}
-use Rattle.machine.specs.Waits.{namedIn, eachWait, waitsFor, lowerOne, waitsLowered, waitsLowerable}
+use Rattle.machine.specs.Waits.{namedIn, eachWait, waitsFor, loweredIf, lowerOne, waitsLowered, lowerableIf, waitsLowerable}
 use Rattle.machine.proofs.WaitLaws.{each-beyond, each-none, lowerable-all}
 
 -- The bit of a call in the row of another, in the word that is read.
@@ -24,29 +23,23 @@ named-word plan later call l =
     (sym (getD-take 4 (drop (32 * later + 27) plan) (call / 64) 0 (omega arith) ∙ getD-drop (32 * later + 27) plan (call / 64) 0))
 
 -- One call: what its number is asked, and what it becomes.
-abbrev pub askedOf : (named : Bool) → (later n : ℕ) → Bool
-askedOf named later n = not named || (not (eqb n 0) && leb n later)
-
 module _ {t named : Bool} (e : t ≡ named) (later : ℕ) where
-  pub asked-unnamed : (n : ℕ) → t ≡ false → true ≡ askedOf named later n
+  pub asked-unnamed : (n : ℕ) → t ≡ false → true ≡ lowerableIf named later n
   asked-unnamed n f = rw (← e, f)
 
   module _ {n m : ℕ} (own : n ≡ m) (f : t ≡ true) where
-    pub asked-none : n ≡ 0 → false ≡ askedOf named later m
+    pub asked-none : n ≡ 0 → false ≡ lowerableIf named later m
     asked-none z = rw (← e, f, ← own, z)
 
-    pub asked-some : (n ≡ 0 → ⊥) → leb n later ≡ askedOf named later m
+    pub asked-some : (n ≡ 0 → ⊥) → leb n later ≡ lowerableIf named later m
     asked-some some = rw (← e, f, ← own, ne-eqb n 0 some)
 
-abbrev pub becomes : (named : Bool) → ℕ → ℕ
-becomes named n = if named then n - 1 else n
-
 module _ (status : List ℕ) (later : ℕ) {t named : Bool} (e : t ≡ named) where
-  pub lower-unnamed : t ≡ false → status ≡ withWait status later (becomes named (waitCount status later))
+  pub lower-unnamed : t ≡ false → status ≡ withWait status later (loweredIf named (waitCount status later))
   lower-unnamed f = rw (← e, f) (sym (set-getD status (4 * later + 3) 0))
 
   pub lower-named : t ≡ true → {n m : ℕ} {next : List ℕ} → n ≡ waitCount status later → m ≡ n - 1 → next ≡ set status (4 * later + 3) m
-      → next ≡ withWait status later (becomes named (waitCount status later))
+      → next ≡ withWait status later (loweredIf named (waitCount status later))
   lower-named f own less stored = stored ∙ rw (← e, f, less, own)
 
 module _ (plan : List ℕ) (call : ℕ) where
@@ -67,7 +60,7 @@ module _ (plan : List ℕ) (call : ℕ) where
         both e = let z : _≡_ {A = ℕ} 0 1 = cc in omega arith
 
     module _ (later : ℕ) (above : call < later) (far : waitsLowerable plan status call later ≡ true) {ok : Bool}
-        (asked : ok ≡ askedOf (namedIn plan call later) later (waitCount status later)) where
+        (asked : ok ≡ lowerableIf (namedIn plan call later) later (waitCount status later)) where
       -- The test of one call more.
       pub lowerable-more : waitsLowerable plan status call (later + 1) ≡ ok
       unfolding waitsLowerable
@@ -91,12 +84,12 @@ module _ (plan : List ℕ) (call : ℕ) where
     lowered-start = sym (each-none (lowerOne plan call) status (call + 1) (λ c l. rw (for-earlier c (omega arith))))
 
     pub lowered-more : (later : ℕ) → call < later → {now next : List ℕ} → now ≡ waitsLowered plan call later status
-        → next ≡ withWait now later (becomes (namedIn plan call later) (waitCount now later)) → next ≡ waitsLowered plan call (later + 1) status
+        → next ≡ withWait now later (loweredIf (namedIn plan call later) (waitCount now later)) → next ≡ waitsLowered plan call (later + 1) status
     unfolding eachWait
     lowered-more later above {now} {next} far lower =
         let was : waitCount now later ≡ waitCount status later =
         ap (λ (s : List ℕ). waitCount s later) far ∙ each-beyond (lowerOne plan call) status later later (omega arith) in
         lower
         ∙ ap₂ (λ (s : List ℕ) (k : ℕ). withWait s later k) far
-        (ap (becomes (namedIn plan call later)) was ∙ ap (λ (t : Bool). becomes t (waitCount status later)) (sym (for-later later above)))
+        (ap (loweredIf (namedIn plan call later)) was ∙ ap (λ (t : Bool). loweredIf t (waitCount status later)) (sym (for-later later above)))
         ∙ sym (ap (λ (k : ℕ). waitsLowered plan call k status) (add-one later))

@@ -13,9 +13,9 @@ use Rattle.block.specs.Limits.{maxCalls, maxCallKeys, maxCode, maxKeys, maxWork
 use Rattle.block.specs.declared.Call.{Call}
 use Rattle.footprint.specs.Access.{Access}
 use Rattle.footprint.specs.Plan.{planWords, keyWords, codeStart, codeLength}
-use Rattle.footprint.specs.Uses.{usesOf}
-use Rattle.footprint.specs.declared.KeyUse.{KeyUse}
-use Rattle.footprint.specs.declared.Uses.{Uses}
+use Rattle.key_uses.specs.Uses.{usesOf}
+use Rattle.key_uses.specs.declared.KeyUse.{KeyUse}
+use Rattle.key_uses.specs.declared.Uses.{Uses}
 use Rattle.machine.specs.Run.{frameValues, planWord, savedIn, zeroRegisters}
 use Rattle.machine.specs.Step.{View, Performed, broken, onward, ending, concluded, findEntry, perform}
 use Rattle.machine.specs.Moves.{Moved, callKeyCount, ownEntries, stepped}

@@ -13,6 +13,7 @@ use block::limits::MAX_CALLS;
 use machine::Answer;
 use machine::Head;
 use machine::layout::FINISHED;
+use machine::layout::REGISTERS;
 use machine::layout::RUNNING;
 use machine::layout::STATUS_WORDS;
 use machine::layout::WAITING;
@@ -117,7 +118,7 @@ fn begin_call(
     }
     let n = key_count(plan, call);
     put_seat(seats, worker, 0, 0);
-    put_regs(frames, worker, [0; 8]);
+    put_regs(frames, worker, [0; REGISTERS]);
     save(plan, call, n, cells, frames, worker);
     wire::put_word(status, STATUS_WORDS * call, RUNNING);
     Seated {

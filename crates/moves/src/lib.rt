@@ -10,10 +10,11 @@ mod seat;
 pub mod step;
 mod waits;
 
-use footprint::Uses;
+use key_uses::Uses;
 use machine::Action;
 use machine::Answer;
 use machine::Head;
+use machine::layout::REGISTERS;
 
 // What a move answers, and the head behind it.
 pub struct Reply {
@@ -57,7 +58,7 @@ pub enum Fate {
 pub struct Turn {
     pub fate: Fate,
     pub count: u64,
-    pub regs: [i64; 8],
+    pub regs: [i64; REGISTERS],
 }
 
 // What is due at a place of a call: an action with the keys that it uses, and the count with this place's own instruction. Where it is not

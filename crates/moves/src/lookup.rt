@@ -1,13 +1,13 @@
 // Where a call keeps a cell: the search among its entries for a key with the wanted flags.
 use block::limits::MAX_CALL_KEYS;
 use block::limits::MAX_KEYS;
-use footprint::KeyUse;
 use footprint::layout::ENTRY_FLAGS;
 use footprint::layout::FIRST_ENTRY;
 use footprint::layout::KEY_COUNT;
 use footprint::layout::KEY_WORDS;
 use footprint::layout::PLAN_WORDS;
 use footprint::layout::WRITES_FLAG;
+use key_uses::KeyUse;
 use machine::Lookup;
 ghost use mathlib.Core.Path.{_≡_};
 ghost use mathlib.Core.Bool.{_&&_, _||_, not};

@@ -5,13 +5,14 @@ use crate::Turn;
 use crate::lookup::lookup;
 use action::loaded;
 use arith::LARGEST;
-use block::record::FIELD_BASE;
-use block::record::FIELDS;
-use footprint::KeyUse;
-use footprint::Uses;
+use block::format::FIELD_BASE;
+use block::format::FIELDS;
+use key_uses::KeyUse;
+use key_uses::Uses;
 use machine::Action;
 use machine::Lookup;
 use machine::Next;
+use machine::layout::REGISTERS;
 ghost use mathlib.Core.Path.{_≡_};
 ghost use mathlib.Core.Bool.{true, false};
 ghost use Prim.Native.Nat.{_+_, _≤_};
@@ -28,11 +29,11 @@ pub(crate) fn damaged() -> Turn
     Turn {
         fate: Fate::Broken,
         count: 0,
-        regs: [0; 8],
+        regs: [0; REGISTERS],
     }
 }
 
-fn go_on(place: usize, count: u64, regs: [i64; 8]) -> Turn
+fn go_on(place: usize, count: u64, regs: [i64; REGISTERS]) -> Turn
     ensures { λ r. ⌜ r ≡ going place count regs ⌝ }
 {
     Turn {
@@ -48,7 +49,7 @@ pub(crate) fn done(outcome: u64, count: u64) -> Turn
     Turn {
         fate: Fate::Over(outcome),
         count,
-        regs: [0; 8],
+        regs: [0; REGISTERS],
     }
 }
 
@@ -66,7 +67,7 @@ fn load(
     keys: &[u64],
     cells: &[i64],
     site: Site,
-    regs: [i64; 8],
+    regs: [i64; REGISTERS],
     x: usize,
     u: KeyUse,
 ) -> Turn
@@ -97,7 +98,7 @@ fn store(
     keys: &[u64],
     cells: &mut [i64],
     site: Site,
-    regs: [i64; 8],
+    regs: [i64; REGISTERS],
     v: i64,
     u: KeyUse,
 ) -> Turn
@@ -123,7 +124,7 @@ fn pay_into(
     cells: &mut [i64],
     place: usize,
     count: u64,
-    regs: [i64; 8],
+    regs: [i64; REGISTERS],
     amount: i64,
     n: usize,
     m: usize,
@@ -153,7 +154,7 @@ fn deposit(
     keys: &[u64],
     cells: &mut [i64],
     site: Site,
-    regs: [i64; 8],
+    regs: [i64; REGISTERS],
     amount: i64,
     n: usize,
     u: KeyUse,
@@ -180,7 +181,7 @@ fn transfer(
     keys: &[u64],
     cells: &mut [i64],
     site: Site,
-    regs: [i64; 8],
+    regs: [i64; REGISTERS],
     amount: i64,
     short: u64,
     uses: Uses,

@@ -7,22 +7,23 @@ use action::enter;
 use block::Call;
 use block::Decoded;
 use block::Instr;
+use block::format::INSTR_BYTES;
 use block::outcomes::ENDED;
 use block::outcomes::OUT_OF_FUEL;
 use block::outcomes::UNKNOWN_FUNCTION;
-use block::record::INSTR_BYTES;
-use block::record::code_at;
-use footprint::Uses;
-use footprint::access::bal_uses;
-use footprint::access::entry_uses;
-use footprint::access::get_uses;
-use footprint::access::no_uses;
-use footprint::access::pay_uses;
-use footprint::access::put_uses;
+use decoder::record::code_at;
 use footprint::layout::CODE_LENGTH;
 use footprint::layout::CODE_START;
+use key_uses::Uses;
+use key_uses::bal_uses;
+use key_uses::entry_uses;
+use key_uses::get_uses;
+use key_uses::no_uses;
+use key_uses::pay_uses;
+use key_uses::put_uses;
 use machine::Action;
 use machine::Next;
+use machine::layout::REGISTERS;
 ghost use mathlib.Core.Path.{_≡_};
 ghost use mathlib.Core.List.{List};
 ghost use Prim.Native.Nat.{ℕ, _+_, _-_, _*_, _≤_, _<_};
@@ -34,7 +35,7 @@ ghost use Rattle.block.specs.Outcomes.{maxCount};
 ghost use Rattle.block.specs.declared.Call.{Call};
 ghost use Rattle.footprint.specs.Access.{accesses};
 ghost use Rattle.footprint.specs.Plan.{codeLength, planWords};
-ghost use Rattle.footprint.specs.Uses.{usesOf};
+ghost use Rattle.key_uses.specs.Uses.{usesOf};
 ghost use Rattle.machine.specs.Run.{planWord};
 ghost use Rattle.machine.specs.Step.{stepBody, stepDecoded, stepEntry, stepInstr, stepPlace};
 ghost use Rattle.moves.specs.Turn.{cellView, dueDone, endDue, nothingDue, viewIn, DueDoable, SiteInRange};
@@ -43,7 +44,7 @@ ghost use Rattle.moves.specs.Turn.{cellView, dueDone, endDue, nothingDue
 fn nothing_due() -> Due
     ensures { λ r. ⌜ r ≡ nothingDue ⌝ }
 {
-    let regs = [0; 8];
+    let regs = [0; REGISTERS];
     Due {
         sound: false,
         count: 0,
@@ -59,7 +60,7 @@ fn nothing_due() -> Due
 fn end_due(outcome: u64, count: u64) -> Due
     ensures { λ r. ⌜ r ≡ endDue outcome count ⌝ }
 {
-    let regs = [0; 8];
+    let regs = [0; REGISTERS];
     Due {
         sound: true,
         count,
@@ -72,7 +73,7 @@ fn end_due(outcome: u64, count: u64) -> Due
 }
 
 // "STEP(worker), at entry: unknown function, outcome 1". Neither fuel nor count is looked at there; behind it the count is 0.
-fn due_at_entry(plan: &[u64], site: Site, regs: [i64; 8], body: Call) -> Due
+fn due_at_entry(plan: &[u64], site: Site, regs: [i64; REGISTERS], body: Call) -> Due
     requires { ⌜ maxCalls * planWords ≤ length (now plan) ⌝ }
     requires { ⌜ site .call < maxCalls ⌝ }
     requires { ⌜ site .place ≤ maxCode ⌝ }
@@ -108,7 +109,7 @@ fn step_uses(c: Call, i: Instr) -> Uses
 }
 
 // "Else one instruction runs and counts 1, also the one that fails." The instruction is the one of the code at the site's place.
-fn due_decoded(code: &[u8], size: u16, site: Site, regs: [i64; 8], body: Call) -> Due
+fn due_decoded(code: &[u8], size: u16, site: Site, regs: [i64; REGISTERS], body: Call) -> Due
     requires { ⌜ (0 < site .place) × (site .place ≤ maxCode) ⌝ }
     requires { ⌜ site .count ≤ maxCount ⌝ }
     ensures { λ r. ⌜ ((block plan keys : List ℕ) (cells : List ℤ)
@@ -133,7 +134,7 @@ fn due_decoded(code: &[u8], size: u16, site: Site, regs: [i64; 8], body: Call) -
 }
 
 // The code stretch lies in the lent block; the instruction is decoded there.
-fn due_at_instr(block: &[u8], plan: &[u64], site: Site, regs: [i64; 8], body: Call) -> Due
+fn due_at_instr(block: &[u8], plan: &[u64], site: Site, regs: [i64; REGISTERS], body: Call) -> Due
     requires { ⌜ maxCalls * planWords ≤ length (now plan) ⌝ }
     requires { ⌜ site .call < maxCalls ⌝ }
     requires { ⌜ (0 < site .place) × (site .place < planWord (now plan) (site .call) codeLength) ⌝ }
@@ -183,7 +184,7 @@ fn due_unfuelled(plan: &[u64], site: Site, fuel: u16) -> Due
 
 // What is due at a place. "At place = length: outcome 0." Where fuel is left, every test of it passes: so one test stands before the others, and they are made
 // only where none is left.
-pub(crate) fn due(block: &[u8], plan: &[u64], site: Site, regs: [i64; 8], body: Call) -> Due
+pub(crate) fn due(block: &[u8], plan: &[u64], site: Site, regs: [i64; REGISTERS], body: Call) -> Due
     requires { ⌜ maxCalls * planWords ≤ length (now plan) ⌝ }
     requires { ⌜ site .call < maxCalls ⌝ }
     requires { ⌜ SiteInRange (now plan) site ⌝ }

@@ -37,13 +37,13 @@ pub(crate) fn put_seat(seats: &mut [u64], worker: usize, place: u64, count: u64)
 }
 
 // The registers of a worker's call.
-pub(crate) fn regs_of(frames: &[i64], worker: usize) -> [i64; 8]
+pub(crate) fn regs_of(frames: &[i64], worker: usize) -> [i64; REGISTERS]
     requires { ⌜ worker < maxWorkers ⌝ }
     requires { ⌜ fixedSizes .frames ≤ length (now frames) ⌝ }
     ensures { λ r. ⌜ r ≡ regsIn (now (frames .entry)) worker ⌝ }
 {
     let at = FRAME_VALUES * worker;
-    let mut regs = [0i64; 8];
+    let mut regs = [0i64; REGISTERS];
     let mut k = 0;
     while k < REGISTERS {
         regs[k] = wire::value(frames, at + k);
@@ -53,7 +53,7 @@ pub(crate) fn regs_of(frames: &[i64], worker: usize) -> [i64; 8]
 }
 
 // The value of one register.
-fn register(regs: [i64; 8], k: usize) -> i64
+fn register(regs: [i64; REGISTERS], k: usize) -> i64
     requires { ⌜ k < registers ⌝ }
     ensures { λ r. ⌜ r ≡ getD regs k (pos 0) ⌝ }
 {
@@ -61,7 +61,7 @@ fn register(regs: [i64; 8], k: usize) -> i64
 }
 
 // The registers, stored.
-pub(crate) fn put_regs(frames: &mut [i64], worker: usize, regs: [i64; 8])
+pub(crate) fn put_regs(frames: &mut [i64], worker: usize, regs: [i64; REGISTERS])
     requires { ⌜ worker < maxWorkers ⌝ }
     requires { ⌜ fixedSizes .frames ≤ length (now frames) ⌝ }
     ensures { λ r. ⌜ now (frames .exit) ≡ withRegs (now (frames .entry)) worker regs ⌝ }

@@ -24,15 +24,16 @@ use crate::waits::can_lower;
 use crate::waits::lower;
 use block::Call;
 use block::CallBody;
+use block::format::CALL_RECORD_BYTES;
+use block::format::HEAD_BYTES;
 use block::limits::MAX_CODE;
 use block::outcomes::THROWN;
-use block::record::CALL_RECORD_BYTES;
-use block::record::HEAD_BYTES;
-use block::record::call_at;
+use decoder::record::call_at;
 use footprint::layout::CODE_LENGTH;
 use machine::Answer;
 use machine::Head;
 use machine::layout::FINISHED;
+use machine::layout::REGISTERS;
 use machine::layout::STATUS_WORDS;
 use machine::layout::large_enough;
 ghost use mathlib.Core.Path.{_≡_};
@@ -62,7 +63,7 @@ fn step_place(
     keys: &[u64],
     cells: &mut [i64],
     site: Site,
-    regs: [i64; 8],
+    regs: [i64; REGISTERS],
     body: Call,
 ) -> Turn
     requires { ⌜ EntriesReady (now plan) (now keys) (site .call) ⌝ }

@@ -5,14 +5,11 @@ use machine::layout::STATUS_WORDS;
 use machine::layout::WAIT_WORD;
 use wire::WORD_BITS;
 ghost use mathlib.Core.Path.{_≡_};
-ghost use mathlib.Core.Bool.{_&&_, _||_, not};
 ghost use Prim.Native.Nat.{_-_, _≤_, _<_};
-ghost use lib.Dec.{eqb, leb};
 ghost use lib.ListN.{length};
-ghost use Rattle.arith.specs.Choice.{if_then_else_};
 ghost use Rattle.block.specs.Limits.{maxCalls};
 ghost use Rattle.machine.specs.Run.{fixedSizes, waitCount, withWait};
-ghost use Rattle.machine.specs.Waits.{namedIn, waitsLowerable, waitsLowered};
+ghost use Rattle.machine.specs.Waits.{namedIn, loweredIf, lowerableIf, waitsLowerable, waitsLowered};
 
 // The number that a call carries.
 pub(crate) fn wait_of(status: &[u64], call: usize) -> u64
@@ -38,9 +35,7 @@ fn can_lower_one(plan: &[u64], status: &[u64], call: usize, later: usize) -> boo
     requires { ⌜ later < maxCalls ⌝ }
     requires { ⌜ call < maxCalls ⌝ }
     requires { ⌜ fixedSizes .plan ≤ length (now plan) ⌝ }
-    ensures { λ r. ⌜ r
-        ≡ (not (namedIn (now (plan .entry)) call later)
-        || (not (eqb (waitCount (now (status .entry)) later) 0) && leb (waitCount (now (status .entry)) later) later)) ⌝ }
+    ensures { λ r. ⌜ r ≡ lowerableIf (namedIn (now (plan .entry)) call later) later (waitCount (now (status .entry)) later) ⌝ }
 {
     if !names(plan, later, call) {
         return true;
@@ -85,10 +80,7 @@ fn lower_one(plan: &[u64], status: &mut [u64], call: usize, later: usize)
     requires { ⌜ call < maxCalls ⌝ }
     requires { ⌜ fixedSizes .plan ≤ length (now plan) ⌝ }
     ensures { λ r. ⌜ now (status .exit)
-        ≡ withWait (now (status .entry)) later
-        (if namedIn (now (plan .entry)) call later
-        then waitCount (now (status .entry)) later - 1
-        else waitCount (now (status .entry)) later) ⌝ }
+        ≡ withWait (now (status .entry)) later (loweredIf (namedIn (now (plan .entry)) call later) (waitCount (now (status .entry)) later)) ⌝ }
 {
     if !names(plan, later, call) {
         return;

@@ -1,14 +1,12 @@
--- The numbers that calls carry at the opening: a call's row as it is read from its plan, and the count of its bits where no call is finished.
+-- The numbers that calls carry at the opening: the count of the bits of a call's row, where no call is finished.
 use mathlib.Core.Path.{_≡_, refl, sym, ap, ap₂, _∙_}
 use mathlib.Core.Bool.{Bool, true, false, cond, _&&_, not}
-use mathlib.Core.List.{List, [], _∷_}
-use Prim.Native.Nat.{ℕ, zero, suc, _+_, _*_, _≤_, _<_}
-use native.Mathlib.Nat.{add-zero}
+use mathlib.Core.List.{List, []}
+use Prim.Native.Nat.{ℕ, zero, suc, _+_, _*_}
 use native.Mathlib.Numerals.{add-one}
 use native.Mathlib.Omega.{arith}
 use lib.Dec.{eqb}
-use lib.ListN.{length, getD, take, drop, set, length-take, length-drop}
-use lib.Seq.{getD-take, getD-drop, ext-getD}
+use lib.ListN.{length, set}
 use Rattle.wire.specs.Bytes.{repeated}
 use Rattle.wire.specs.Rows.{bit, inRow}
 use Rattle.wire.specs.RowOps.{countOf}
@@ -16,26 +14,6 @@ use Rattle.wire.proofs.BytesLaws.{repeated-at}
 use Rattle.schedule.specs.Tally.{unfinishedEarlier}
 use Rattle.machine.specs.Run.{statusWords, stateWord, stateOf, waitWord, finished, rowIn, withWait}
 use Rattle.machine.specs.Waits.{namedIn, finishedIn, countedWaits, eachWait, waitsSet}
-
--- ---- four words read as a row
-
-abbrev fourFrom : List ℕ → ℕ → List ℕ
-fourFrom ws at = getD ws at 0 ∷ getD ws (at + 1) 0 ∷ getD ws (at + 2) 0 ∷ getD ws (at + 3) 0 ∷ []
-
-four-at : (ws : List ℕ) (at i : ℕ) → i < 4 → getD (fourFrom ws at) i 0 ≡ getD ws (at + i) 0
-four-at ws at zero h = ap (λ (k : ℕ). getD ws k 0) (sym (add-zero at))
-four-at ws at (suc zero) h = refl
-four-at ws at (suc (suc zero)) h = refl
-four-at ws at (suc (suc (suc zero))) h = refl
-four-at ws at (suc (suc (suc (suc i)))) h = absurd (omega arith)
-
-pub four-words : (ws : List ℕ) (at : ℕ) → at + 4 ≤ length ws → fourFrom ws at ≡ take 4 (drop at ws)
-four-words ws at h =
-    let long : 4 ≡ length (take 4 (drop at ws)) = simp (length-take, length-drop) (omega arith) in
-    ext-getD 0 (fourFrom ws at) (take 4 (drop at ws)) long
-    (λ i l. four-at ws at i l ∙ sym (getD-take 4 (drop at ws) i 0 l ∙ getD-drop at ws i 0))
-
--- ---- the number of a call
 
 -- Where none is done, each earlier conflicting call counts.
 one-more : (b d : Bool) → d ≡ false → bit b ≡ cond (b && not d) 1 0

@@ -9,6 +9,7 @@ use machine::Head;
 use machine::layout::STATUS_WORDS;
 use machine::layout::WAIT_WORD;
 use machine::layout::large_enough;
+use wire::ROW_WORDS;
 ghost use mathlib.Core.Path.{_≡_};
 ghost use Prim.Native.Nat.{_≤_, _<_};
 ghost use lib.IntN.{pos};
@@ -102,13 +103,14 @@ pub fn clear_prepared(plan: &mut [u64], keys: &mut [u64], cells: &mut [i64])
 }
 
 // The row of a call's earlier conflicting calls.
-fn row_of(plan: &[u64], call: usize) -> [u64; 4]
+fn row_of(plan: &[u64], call: usize) -> [u64; ROW_WORDS]
     requires { ⌜ call < maxCalls ⌝ }
     requires { ⌜ fixedSizes .plan ≤ length (now plan) ⌝ }
     ensures { λ r. ⌜ r ≡ rowIn (now (plan .entry)) call ⌝ }
 {
     let at = PLAN_WORDS * call + FIRST_ROW_WORD;
-    [plan[at], plan[at + 1], plan[at + 2], plan[at + 3]]
+    let end = at + ROW_WORDS;
+    wire::row_from(&plan[at..end])
 }
 
 // Each call carries the number of its earlier conflicting calls; none is finished.

@@ -1,30 +1,29 @@
 -- How long the text of a close can be: a line for each cell and each receipt.
 use mathlib.Core.Path.{_≡_, refl, sym, ap, ap₂, subst, subst⁻¹, _∙_}
-use mathlib.Core.Bool.{Bool, true, false, _||_, not}
+use mathlib.Core.Bool.{Bool, true, false}
 use mathlib.Core.List.{List, [], _∷_, _++_, append-assoc, flatten}
 use Prim.Native.Nat.{ℕ, zero, suc, _+_, _*_, _/_, _^_, _≤_, _<_}
 use native.Mathlib.Omega.{arith}
-use lib.Dec.{eqb, ltb}
+use lib.Dec.{eqb}
 use lib.IntN.{ℤ}
 use lib.ListN.{length, getD, drop, length-append}
 use lib.Seq.{drop-append-seam}
-use borrow.Author.Tests.{ltb-false}
 use Rattle.block.proofs.ContentsLaws.{head-length, head-kind, head-behind}
 use Rattle.text.proofs.TextSizes.{line-fits}
 use Rattle.arith.specs.Choice.{if_then_else_}
-use Rattle.arith.proofs.ChoiceLaws.{if-all, neither}
 use Rattle.arith.specs.Exact.{unsigned}
 use Rattle.wire.specs.Bytes.{number, readLe, bytesOf, repeated}
 use Rattle.wire.proofs.BytesLaws.{read-first, bytesOf-lt}
 use Rattle.block.specs.Limits.{maxCalls, maxKeys}
 use Rattle.block.specs.Record.{recordOf, headBytes, cellBytes, receiptBytes, cellKind, receiptKind, endKind}
-use Rattle.machine.specs.Run.{Run, sizesOf, largeEnough, statusWord}
+use Rattle.machine.specs.Run.{Run, statusWord}
 use Rattle.machine.specs.Step.{cellAt}
 use Rattle.machine.specs.Answer.{answerNumber}
 use Rattle.machine.specs.declared.Answer.{Answer}
 use Rattle.text.specs.Lines.{refusedText}
-use Rattle.sheet.specs.Sheet.{Closed, keyHigh, keyLow, keyBytes, cellRecords, receiptRecords, sheetRecords, sheetBytes, statesAllowed, allFinished, balancesAllowed, receiptsAllowed, unwritten, writtenIf, sheetOf, maxSheet}
+use Rattle.sheet.specs.Sheet.{Closed, keyHigh, keyLow, keyBytes, cellRecords, receiptRecords, sheetRecords, sheetBytes, unwritten, filled, maxSheet}
 use Rattle.sheet.proofs.RecordLists.{joined-one, joined-append, front-whole}
+use Rattle.sheet.proofs.SheetTests.{sheet-all}
 use Rattle.console.specs.Text.{cellLine, receiptLine, recordsText, sheetText}
 use Rattle.console.specs.Register.{closingText, closeRun}
 use Rattle.play.specs.Printed.{maxRecordText, maxCloseText}
@@ -183,20 +182,11 @@ none-short : (out : List ℕ) (a : Answer) → Short (unwritten out a)
 unfolding closingText
 none-short out a = refused-short 0 (answerNumber a)
 
-written-short : (receipts : Bool) (out : List ℕ) (rs : List (List ℕ)) → length (sheetText (flatten rs)) ≤ maxCloseText → Short (writtenIf receipts out rs)
-unfolding writtenIf closingText
-written-short receipts out rs short =
-    if-all Short (ltb (length out) (length (flatten rs))) (λ e. none-short out _) (λ e.
-    if-all Short receipts (λ f. rw (front-whole rs out (ltb-false (length out) (length (flatten rs)) e)) short) (λ f. none-short out _))
+filled-short : (out : List ℕ) (rs : List (List ℕ)) → length (flatten rs) ≤ length out → length (sheetText (flatten rs)) ≤ maxCloseText → Short (filled out rs)
+unfolding closingText
+filled-short out rs fits short = rw (front-whole rs out fits) short
 
 pub close-short : (r : Run) → length (closeRun r) ≤ maxCloseText
-unfolding sheetOf
 close-short r =
     let out : List ℕ = repeated maxSheet 0 in
-    if-all Short (not (largeEnough (sizesOf r)) || ltb maxCalls (r .head .calls)) (λ e. none-short out _) (λ few.
-    if-all Short (not (statesAllowed (r .status) (r .head .calls))) (λ e. none-short out _) (λ e.
-    if-all Short (not (allFinished (r .status) (r .head .calls))) (λ e. none-short out _) (λ e.
-    if-all Short (ltb maxKeys (r .head .cells)) (λ e. none-short out _) (λ keys.
-    if-all Short (not (balancesAllowed (r .keys) (r .cells) (r .head .cells))) (λ e. none-short out _) (λ e.
-    written-short (receiptsAllowed (r .status) (r .head .calls)) out (sheetRecords r)
-    (sheet-short r (ltb-false _ _ (neither (not (largeEnough (sizesOf r))) (ltb maxCalls (r .head .calls)) few .1)) (ltb-false _ _ keys)))))))
+    sheet-all Short r out (none-short out) (λ b fits. filled-short out (sheetRecords r) fits (sheet-short r (b .so-far .calls) (b .cells)))

@@ -1,11 +1,11 @@
 // The records of a sheet as lines of text.
 use crate::Reading;
 use crate::input::at_most;
+use block::format::CELL_KIND;
+use block::format::HEAD_BYTES;
+use block::format::RECEIPT_KIND;
 use block::limits::MAX_CALLS;
 use block::limits::MAX_KEYS;
-use block::record::CELL_KIND;
-use block::record::HEAD_BYTES;
-use block::record::RECEIPT_KIND;
 use text::cell_line;
 use text::receipt_line;
 ghost use Prim.Native.Nat.{_^_, _<_};

@@ -8,6 +8,7 @@ use crate::record::read_record;
 use block::Refusal;
 use block::Verdict;
 use block::limits::MAX_BYTES;
+use block::limits::MAX_FUNCTIONS;
 ghost use mathlib.Core.Path.{_≡_};
 ghost use Prim.Native.Nat.{_+_, _*_, _^_, _-_, _<_};
 ghost use Rattle.block.specs.Reader.{readBlock, refused};
@@ -23,9 +24,9 @@ pub struct Layout {
     pub calls: usize,
     pub opening: usize,
     pub first_call: usize,
-    pub ids: [u64; 64],
-    pub starts: [usize; 64],
-    pub sizes: [usize; 64],
+    pub ids: [u64; MAX_FUNCTIONS],
+    pub starts: [usize; MAX_FUNCTIONS],
+    pub sizes: [usize; MAX_FUNCTIONS],
 }
 
 // How far the reader has come: behind a record of a kind, at a position, with the counts and offsets of the block so far; `least` is
@@ -67,9 +68,9 @@ fn refused(why: Refusal) -> Layout
         calls: 0,
         opening: 0,
         first_call: 0,
-        ids: [0; 64],
-        starts: [0; 64],
-        sizes: [0; 64],
+        ids: [0; MAX_FUNCTIONS],
+        starts: [0; MAX_FUNCTIONS],
+        sizes: [0; MAX_FUNCTIONS],
     }
 }
 
@@ -77,9 +78,9 @@ fn refused(why: Refusal) -> Layout
 fn leave(
     verdict: Verdict,
     p: Progress,
-    ids: [u64; 64],
-    starts: [usize; 64],
-    sizes: [usize; 64],
+    ids: [u64; MAX_FUNCTIONS],
+    starts: [usize; MAX_FUNCTIONS],
+    sizes: [usize; MAX_FUNCTIONS],
 ) -> Layout
     ensures { λ r. ⌜ r ≡ layoutLeft verdict p ids starts sizes ⌝ }
 {
@@ -125,9 +126,9 @@ pub fn read_block(file: &[u8]) -> Layout
     if MAX_BYTES < file.len() {
         return refused(Refusal::InputTooLong);
     }
-    let mut ids = [0u64; 64];
-    let mut starts = [0usize; 64];
-    let mut sizes = [0usize; 64];
+    let mut ids = [0u64; MAX_FUNCTIONS];
+    let mut starts = [0usize; MAX_FUNCTIONS];
+    let mut sizes = [0usize; MAX_FUNCTIONS];
     let mut p = start();
     loop {
         let at = p.at;

@@ -31,9 +31,10 @@ use Rattle.host.specs.Exchange.{Handed, FileIn}
 use Rattle.host.proofs.Laws.{file-whole, front, handed-as, handed-empty, handed-more}
 use Rattle.host.specs.declared.Exchange.{Exchange}
 use Rattle.host.specs.declared.FileRead.{FileRead}
-use Rattle.register_run.specs.Runs.{chunkSize, printedLines, printedClose, printedOf, InputRead, PlaysBytes, PiecePlayed, InputPlayed, exchangeStart, printedEnd, printedOpened, RunsOn, Runs, Registers}
-use Rattle.register_run.specs.declared.Output.{Output}
-use Rattle.register_run.specs.declared.Output.the-variants.{Text, Sheet}
+use Rattle.printing.specs.Printing.{printedLines, printedClose}
+use Rattle.register_run.specs.Runs.{chunkSize, printedOf, InputRead, PlaysBytes, PiecePlayed, InputPlayed, exchangeStart, printedEnd, printedOpened, RunsOn, Runs, Registers}
+use Rattle.printing.specs.declared.Output.{Output}
+use Rattle.printing.specs.declared.Output.the-variants.{Text, Sheet}
 use Rattle.register_run.specs.declared.Piece.{Piece}
 use Rattle.register_run.specs.declared.Input.{Input}
 use Rattle.register_run.specs.declared.Ran.{Ran}
@@ -84,9 +85,6 @@ some-taken (suc n) f = omega arith
 -- ---- pieces, one after another
 
 module _ (output : Output) (block : List ℕ) where
-  abbrev after-bytes : ℕ → Line → Run → List ℕ → Session
-  after-bytes number line run xs = playBytes block (freshSession number line run) xs
-
   -- A session that has written a text goes on as one that has written none.
   afresh : (s : Session) → s ≡ withTextBefore (s .output) (freshSession (s .number) (s .line) (s .run))
   afresh s = λ i. record { number = s .number; line = s .line; run = s .run; output = sym (append-nil (s .output)) i }

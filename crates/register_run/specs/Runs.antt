@@ -4,24 +4,24 @@
 -- text, and the sheet's bytes alone.
 use mathlib.Core.Path.{_≡_}
 use mathlib.Core.Bool.{Bool, true, false}
-use mathlib.Core.List.{List, [], _++_}
+use mathlib.Core.List.{List, _++_}
 use Prim.Native.Nat.{ℕ, _+_, _≤_, _<_}
 use lib.ListN.{length}
 use Rattle.block.specs.Refusal.{isAccepted}
 use Rattle.block.specs.Limits.{maxBytes, maxWorkers}
 use Rattle.machine.specs.Run.{Run, fixedSizes}
 use Rattle.machine.specs.Opening.{openingOf}
-use Rattle.console.specs.Text.{sheetText}
-use Rattle.console.specs.Register.{Session, playBytes, playEnd, closeRun, maxInput, registerOf}
-use Rattle.console.specs.SheetBytes.{closeBytes, writtenSheet}
+use Rattle.console.specs.Register.{Session, playBytes, playEnd, maxInput, registerOf}
+use Rattle.console.specs.SheetBytes.{writtenSheet}
 use Rattle.console.specs.declared.Line.{Line}
 use Rattle.console.specs.declared.Line.the-variants.{Empty}
 use Rattle.play.specs.Shown.{freshSession}
 use Rattle.play.specs.declared.Session as play
 use Rattle.host.specs.Exchange.{Handed}
 use Rattle.host.specs.declared.Exchange.{Exchange}
-use Rattle.register_run.specs.declared.Output.{Output}
-use Rattle.register_run.specs.declared.Output.the-variants.{Text, Sheet}
+use Rattle.printing.specs.Printing.{printedLines, printedClose}
+use Rattle.printing.specs.declared.Output.{Output}
+use Rattle.printing.specs.declared.Output.the-variants.{Text, Sheet}
 use Rattle.register_run.specs.declared.Piece.{Piece}
 use Rattle.register_run.specs.declared.Input.{Input}
 use Rattle.register_run.specs.declared.Ran.{Ran}
@@ -31,22 +31,7 @@ use Rattle.register_run.specs.declared.Registered.{Registered}
 abbrev pub chunkSize : ℕ
 chunkSize = 512
 
--- What is printed of a text of lines; beside the sheet's bytes none is, and it is told on standard error.
-unfoldable pub printedLines : Output → List ℕ → List ℕ
-printedLines Text text = text
-printedLines Sheet text = []
-
--- What is printed of a sheet: its lines, or its bytes.
-unfoldable pub printedSheet : Output → List ℕ → List ℕ
-printedSheet Text sheet = sheetText sheet
-printedSheet Sheet sheet = sheet
-
--- .. of a run's close, ..
-unfoldable pub printedClose : Output → Run → List ℕ
-printedClose Text run = closeRun run
-printedClose Sheet run = closeBytes run
-
--- .. and of a block with an input: all of REGISTER's text, or all of the sheet's bytes.
+-- What is printed of a block with an input: all of REGISTER's text, or all of the sheet's bytes.
 unfoldable pub printedOf : Output → List ℕ → List ℕ → List ℕ
 printedOf Text block input = registerOf block input
 printedOf Sheet block input = writtenSheet block input

@@ -2,17 +2,12 @@
 // prints `r`, its line, its number; a refused block only `e`, number, offset; then the closing sheet is printed, or `r 0 27` for an unfinished
 // run. As bytes, the sheet alone is printed, and these lines are told on standard error. What is handed to standard output is kept in a
 // transcript that the caller lends, as far as it fits; its length changes nothing else.
-use block::Refusal;
 use block::Verdict;
 use block::limits::MAX_WORKERS;
-use block::numbers::number_of;
-use block::numbers::offset_of;
-use closing::sheet;
 use console::Line;
 use host::Exchange;
 use host::FILE_BYTES;
 use libc::STDIN_FILENO;
-use machine::Answer;
 use machine::Head;
 use machine::layout::CELLS_SIZE;
 use machine::layout::FRAMES_SIZE;
@@ -20,30 +15,24 @@ use machine::layout::KEYS_SIZE;
 use machine::layout::PLAN_SIZE;
 use machine::layout::SEATS_SIZE;
 use machine::layout::STATUS_SIZE;
-use machine::numbers::answer_number;
 use play::Session;
 use play::input::MAX_ANSWER;
 use play::input::play_chunk;
 use play::input::play_end;
-use play::records::MAX_CLOSE_TEXT;
-use play::records::sheet_text;
-use sheet::Closing;
-use sheet::MAX_SHEET;
+use printing::Output;
+use printing::close;
+use printing::refuse_block;
+use printing::say;
 ghost use mathlib.Core.Path.{_≡_};
 ghost use Prim.Native.Nat.{_*_, _≤_, _<_};
 ghost use lib.ListN.{length};
-ghost use Rattle.block.specs.Refusal.{numberOf, offsetOf};
-ghost use Rattle.text.specs.Lines.{refusedText, blockRefusedText};
-ghost use Rattle.machine.specs.Answer.{answerNumber};
 ghost use Rattle.moves.specs.Lent.{lent};
-ghost use Rattle.console.specs.Text.{sheetText};
 ghost use Rattle.console.specs.declared.Line.the-variants.{Empty};
 ghost use Rattle.play.specs.Shown.{freshSession};
 ghost use Rattle.play.specs.AnswerLength.{maxAnswer};
-ghost use Rattle.play.specs.Printed.{maxCloseText};
 ghost use Rattle.host.specs.Exchange.{Handed};
-ghost use Rattle.register_run.specs.declared.Output.the-variants.{Text, Sheet};
-ghost use Rattle.register_run.specs.Runs.{chunkSize, printedLines, printedSheet, printedClose, printedEnd, InputRead, PiecePlayed, InputPlayed, RunsOn, Runs, Registers};
+ghost use Rattle.printing.specs.declared.Output.the-variants.{Text, Sheet};
+ghost use Rattle.register_run.specs.Runs.{chunkSize, printedEnd, InputRead, PiecePlayed, InputPlayed, RunsOn, Runs, Registers};
 
 // The input is read in pieces of at most so many bytes, and each byte of it makes at most MAX_ANSWER bytes of answers.
 const CHUNK: usize = 512;
@@ -52,12 +41,6 @@ const ANSWERS: usize = MAX_ANSWER * CHUNK;
 
 // "Standard input counts as ended after 2^32 - 1 bytes."
 const MAX_INPUT: u32 = 4294967295;
-
-// What a run prints: text lines, or the bytes of its sheet.
-pub enum Output {
-    Text,
-    Sheet,
-}
 
 // A read of standard input: how the exchange stands behind it, and how many bytes came, 0 at the input's end.
 struct Got {
@@ -132,17 +115,6 @@ fn read_some(x: Exchange, chunk: &mut [u8], limit: usize) -> Got
             sent,
         },
         count: n as u16,
-    }
-}
-
-// A text of lines, printed, or, beside the sheet's bytes, told on standard error.
-fn say(output: Output, x: Exchange, text: &[u8], transcript: &mut [u8]) -> Exchange
-    ensures text { λ r. ⌜ Handed (now (transcript .entry)) x (printedLines output (now (text .entry))) (now (transcript .exit)) r ⌝ }
-    ensures received { λ r. ⌜ r .received ≡ x .received ⌝ }
-{
-    match output {
-        Output::Text => host::print(x, text, transcript),
-        Output::Sheet => host::tell(x, text),
     }
 }
 
@@ -292,68 +264,6 @@ fn play_input(
     }
 }
 
-// Prints the lines of a sheet.
-fn print_lines(x: Exchange, bytes: &[u8], transcript: &mut [u8]) -> Exchange
-    requires { ⌜ length (now bytes) < 65536 ⌝ }
-    requires { ⌜ length (sheetText (now bytes)) ≤ maxCloseText ⌝ }
-    ensures text { λ r. ⌜ Handed (now (transcript .entry)) x (sheetText (now (bytes .entry))) (now (transcript .exit)) r ⌝ }
-    ensures received { λ r. ⌜ r .received ≡ x .received ⌝ }
-{
-    let mut text = [0u8; MAX_CLOSE_TEXT];
-    let n = sheet_text(bytes, bytes.len() as u16, &mut text);
-    host::print(x, &text[..n], transcript)
-}
-
-// Prints a sheet: its lines, or its bytes.
-fn print_sheet(output: Output, x: Exchange, bytes: &[u8], transcript: &mut [u8]) -> Exchange
-    requires { ⌜ length (now bytes) < 65536 ⌝ }
-    requires { ⌜ length (sheetText (now bytes)) ≤ maxCloseText ⌝ }
-    ensures text { λ r. ⌜ Handed (now (transcript .entry)) x (printedSheet output (now (bytes .entry))) (now (transcript .exit)) r ⌝ }
-    ensures received { λ r. ⌜ r .received ≡ x .received ⌝ }
-{
-    match output {
-        Output::Text => print_lines(x, bytes, transcript),
-        Output::Sheet => host::print(x, bytes, transcript),
-    }
-}
-
-// Says the line of a refused sheet.
-fn refuse_sheet(output: Output, answer: Answer, x: Exchange, transcript: &mut [u8]) -> Exchange
-    ensures text { λ r. ⌜ Handed (now (transcript .entry)) x (printedLines output (refusedText 0 (answerNumber answer))) (now (transcript .exit)) r ⌝ }
-    ensures received { λ r. ⌜ r .received ≡ x .received ⌝ }
-{
-    let mut text = [0u8; MAX_ANSWER];
-    let n = text::refused_line(&mut text, 0, 0, answer_number(answer));
-    say(output, x, &text[..n], transcript)
-}
-
-// The close of a run: its sheet, or the sheet's refusal.
-fn close(
-    output: Output,
-    head: Head,
-    plan: &[u64],
-    keys: &[u64],
-    cells: &[i64],
-    status: &[u64],
-    seats: &[u64],
-    frames: &[i64],
-    x: Exchange,
-    transcript: &mut [u8],
-) -> Exchange
-    ensures text { λ r. ⌜ Handed (now (transcript .entry)) x
-        (printedClose output
-        (lent head (now (plan .entry)) (now (keys .entry)) (now (cells .entry)) (now (status .entry)) (now (seats .entry))
-        (now (frames .entry))))
-        (now (transcript .exit)) r ⌝ }
-    ensures received { λ r. ⌜ r .received ≡ x .received ⌝ }
-{
-    let mut bytes = [0u8; MAX_SHEET];
-    match sheet(head, plan, keys, cells, status, seats, frames, &mut bytes) {
-        Closing::Written(n) => print_sheet(output, x, &bytes[..n], transcript),
-        Closing::Refused(answer) => refuse_sheet(output, answer, x, transcript),
-    }
-}
-
 // The last line of the input, if it has no line feed, and the close.
 fn finish(
     output: Output,
@@ -403,16 +313,6 @@ fn finish(
         after,
         transcript,
     )
-}
-
-// Says the line of a refused block.
-fn refuse_block(output: Output, why: Refusal, x: Exchange, transcript: &mut [u8]) -> Exchange
-    ensures text { λ r. ⌜ Handed (now (transcript .entry)) x (printedLines output (blockRefusedText (numberOf why) (offsetOf why))) (now (transcript .exit)) r ⌝ }
-    ensures received { λ r. ⌜ r .received ≡ x .received ⌝ }
-{
-    let mut text = [0u8; MAX_ANSWER];
-    let n = text::block_refused_line(&mut text, 0, number_of(why), offset_of(why));
-    say(output, x, &text[..n], transcript)
 }
 
 // A block that is opened, run with at most `limit` bytes of input and closed.

@@ -10,6 +10,7 @@ use lib.Dec.{eqb}
 use lib.ListN.{length, getD, set, length-set, List·getD-eq-default}
 use lib.Seq.{getD-set-same, getD-set-other, set-out}
 use borrow.Author.Tests.{eqb-true, eq-eqb, ne-eqb}
+use Rattle.arith.proofs.ChoiceLaws.{or-left, or-right, neither}
 use Rattle.schedule.specs.Calls.{Calls, CallCourse, more, done, isDone, Apart, advance, trace, Lawful, Laws}
 use Rattle.schedule.proofs.RunLaws.{one-answer}
 use Rattle.schedule.specs.Calculator.{Instr, const, load, add, store, fail, stop, CalculatorResult, CalculatorLocal, loads, stores, codeCells, isMember, codeUses, some, conflicts, look, keep, putBack, act, code, calculator}
@@ -17,18 +18,6 @@ use Rattle.schedule.specs.Calculator.{Instr, const, load, add, store, fa
 -- The calls of a block of codes over a register of `size` cells. A code ends at a stop or past its last instruction.
 
 -- Sets: membership in a part, and in the whole.
-or-left : (a b : Bool) → a ≡ true → (a || b) ≡ true
-or-left true b e = refl
-or-left false b e = one-answer e refl
-
-or-right : (a b : Bool) → b ≡ true → (a || b) ≡ true
-or-right true b e = refl
-or-right false b e = e
-
-neither : (a b : Bool) → (a || b) ≡ false → (a ≡ false) × (b ≡ false)
-neither true b e = one-answer refl e
-neither false b e = (refl, e)
-
 single : (y x : ℕ) → y ≡ x → isMember (y ∷ []) x ≡ true
 unfolding isMember
 single y x e = rw (eq-eqb y x e)

@@ -86,12 +86,6 @@ module _ (Y : Calls) where
   serial-in-order (suc m) s = inOrder-append (blockOrder m) (m ∷ []) s ∙ ap (λ r. whole Y m r .state) (serial-in-order m s)
 
 module _ (Y : Calls) (laws : Laws Y) where
-  -- The states of a run in any order are good, so an exchange may follow other calls.
-  pub inOrder-good : (cs : List ℕ) → OfBlock Y cs → (s : Y .State) → Y .Good s → Y .Good (inOrder Y cs s)
-  unfolding inOrder
-  inOrder-good [] l s g = g
-  inOrder-good (c ∷ cs) l s g = inOrder-good cs (l .1) (whole Y c s .state) (whole-good Y c (laws .call c (l .0)) s g)
-
   -- States with the same cells run on to the same cells and receipts.
   order-cells :
       (cs : List ℕ) → OfBlock Y cs → (s s′ : Y .State) → Y .Good s → Y .Good s′ → ((x : ℕ) → Y .get s x ≡ Y .get s′ x) →

@@ -1,12 +1,11 @@
 -- The offsets of a sheet's records: each is a head and a body, so its head says where the next one stands; a written sheet answers the one behind
 -- them all.
 use mathlib.Core.Path.{_≡_, refl, ap, ap₂, subst, subst⁻¹, _∙_}
-use mathlib.Core.Bool.{Bool, true, false, _||_, not}
+use mathlib.Core.Bool.{Bool, true, false}
 use mathlib.Core.List.{List, [], _∷_, _++_, flatten}
 use Prim.Native.Nat.{ℕ, zero, suc, _+_, _-_, _<_, _≤_}
 use native.Mathlib.Omega.{arith}
-use borrow.Author.Tests.{ltb-false}
-use lib.Dec.{eqb, ltb}
+use lib.Dec.{eqb}
 use lib.IntN.{ℤ}
 use lib.ListN.{length, getD, take, drop, length-append}
 use lib.Seq.{take-append-seam, getD-append-seam}
@@ -15,18 +14,18 @@ use Rattle.arith.specs.Exact.{unsigned}
 use Rattle.arith.proofs.ChoiceLaws.{if-all}
 use Rattle.wire.specs.Bytes.{number, readLe, bytesOf}
 use Rattle.wire.proofs.BytesLaws.{stored-inside}
-use Rattle.block.specs.Limits.{maxCalls, maxKeys}
 use Rattle.block.specs.Record.{headBytes, recordOf, cellKind, receiptKind, endKind}
-use Rattle.block.specs.Encoding.{All}
+use Rattle.wire.specs.All.{All}
 use Rattle.block.proofs.ContentsLaws.{record-length, head-length}
-use Rattle.machine.specs.Run.{Run, sizesOf, largeEnough, statusWord}
+use Rattle.machine.specs.Run.{Run, statusWord}
 use Rattle.machine.specs.Step.{cellAt}
-use Rattle.sheet.specs.Sheet.{Closed, keyHigh, keyLow, keyBytes, recordsAt, receiptAt, cellRecords, receiptRecords, sheetRecords, sheetBytes, recordOffset, offsetBehind, statesAllowed, allFinished, receiptsAllowed, balancesAllowed, filled, writtenIf, sheetOf}
+use Rattle.sheet.specs.Sheet.{Closed, keyHigh, keyLow, keyBytes, recordsAt, receiptAt, cellRecords, receiptRecords, sheetRecords, sheetBytes, recordOffset, offsetBehind, filled, sheetOf}
 use Rattle.sheet.specs.Offsets.{cellsBefore, receiptsBefore, bytesBefore, recordAt, offsetAt, SheetOffsetsHold}
 use Rattle.sheet.specs.declared.Closing.{Closing}
 use Rattle.sheet.specs.declared.Closing.the-variants.{Written, Refused}
 use Rattle.sheet.proofs.RecordLists.{joined-one, joined-append, behind-whole, offset-next, at-offset, lengths-none}
 use Rattle.sheet.proofs.SheetRecords.{cell-body, receipt-body, end-length}
+use Rattle.sheet.proofs.SheetTests.{sheet-all}
 
 -- ---- the bytes before the request
 
@@ -65,18 +64,16 @@ is-record : (kind : ℕ) (body : List ℕ) → length body < 65536 → IsRecord 
 is-record kind body short = record { kind = kind; body = body; is = refl; short = short }
 
 all-join : (xs ys : List (List ℕ)) → All IsRecord xs → All IsRecord ys → All IsRecord (xs ++ ys)
-unfolding All
 all-join [] ys p q = q
 all-join (x ∷ xs) ys p q = (p .0, all-join xs ys (p .1) q)
 
 all-at : (rs : List (List ℕ)) → All IsRecord rs → (k : ℕ) → k < length rs → IsRecord (getD rs k [])
-unfolding All
 all-at [] h k l = absurd (omega arith)
 all-at (r ∷ rs) h zero l = h .0
 all-at (r ∷ rs) h (suc k) l = all-at rs (h .1) k (omega arith)
 
 cells-are : (keys : List ℕ) (cells : List ℤ) (left n : ℕ) → All IsRecord (cellRecords keys cells left n)
-unfolding cellRecords All
+unfolding cellRecords
 cells-are keys cells zero n = tt
 cells-are keys cells (suc left) n =
     let bits : ℕ = unsigned 64 (cellAt cells n) in
@@ -87,7 +84,7 @@ cells-are keys cells (suc left) n =
     (cells-are keys cells left (n + 1))
 
 receipts-are : (status : List ℕ) (left c : ℕ) → All IsRecord (receiptRecords status left c)
-unfolding receiptRecords All
+unfolding receiptRecords
 receipts-are status zero c = tt
 receipts-are status (suc left) c =
     let outcome : ℕ = statusWord status c 1 in
@@ -120,7 +117,6 @@ module _ (r : Run) (output : List ℕ) where
       (joined-one end)
 
   each : (k : ℕ) → k < length rs → IsRecord (recordAt r k)
-  unfolding All
   each =
       all-at rs
       (subst⁻¹ (All IsRecord) parts
@@ -177,15 +173,7 @@ module _ (r : Run) (output : List ℕ) where
       record { says = (refl, stored-inside (sheetBytes r) output 0 (omega arith) ∙ ap (λ (n : ℕ). sheetBytes r ++ drop n output) e) }
 
   sheet-says : Told (sheetOf r output)
-  unfolding sheetOf writtenIf
-  sheet-says =
-      if-all Told (not (largeEnough (sizesOf r)) || ltb maxCalls (r .head .calls)) (λ e. record { says = tt }) (λ e.
-      if-all Told (not (statesAllowed (r .status) (r .head .calls))) (λ e. record { says = tt }) (λ e.
-      if-all Told (not (allFinished (r .status) (r .head .calls))) (λ e. record { says = tt }) (λ e.
-      if-all Told (ltb maxKeys (r .head .cells)) (λ e. record { says = tt }) (λ e.
-      if-all Told (not (balancesAllowed (r .keys) (r .cells) (r .head .cells))) (λ e. record { says = tt }) (λ e.
-      if-all Told (ltb (length output) (length (sheetBytes r))) (λ e. record { says = tt }) (λ e.
-      if-all Told (receiptsAllowed (r .status) (r .head .calls)) (λ f. filled-says (ltb-false _ _ e)) (λ f. record { says = tt })))))))
+  sheet-says = sheet-all Told r output (λ a. record { says = tt }) (λ b. filled-says)
 
   written : (n : ℕ) → sheetOf r output .answer ≡ Written n → Says (sheetOf r output .output) (Written n)
   written n e = subst (Says (sheetOf r output .output)) e (sheet-says .says)

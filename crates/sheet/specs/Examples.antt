@@ -12,7 +12,7 @@ use Rattle.block.specs.Worked.{P, zeroDivisors, fuelled}
 use Rattle.machine.specs.Run.{Run}
 use Rattle.machine.specs.Opening.{openedForEight}
 use Rattle.machine.specs.Serial.{serialRun}
-use Rattle.machine.specs.Examples.{startD, closedD, startF, closedF}
+use Rattle.machine.specs.WorkedRuns.{startD, closedD, startF, closedF}
 use Rattle.machine.specs.Damage.{tooShort, valueAt, statusAt, callsAs, cellsAs, workersAs}
 use Rattle.sheet.specs.Sheet.{closingNumber, closingLength, sheetOf, sheetRecords, sheetBytes, recordOffset, nextFile}
 use Rattle.sheet.specs.Computing.{computing}

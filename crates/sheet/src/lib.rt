@@ -1,9 +1,9 @@
 // The closing sheet of a run.
+use block::format::CELL_BYTES;
+use block::format::HEAD_BYTES;
+use block::format::RECEIPT_BYTES;
 use block::limits::MAX_CALLS;
 use block::limits::MAX_KEYS;
-use block::record::CELL_BYTES;
-use block::record::HEAD_BYTES;
-use block::record::RECEIPT_BYTES;
 use machine::Answer;
 
 // The longest sheet: its cells, its receipts and its end.

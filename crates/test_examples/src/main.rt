@@ -2,7 +2,7 @@
 // likewise. For each it prints `# ` and the title, what `inspect` prints of the block, and what REGISTER prints of it with these moves.
 use host::Exchange;
 use host::FILE_BYTES;
-use register_run::Output;
+use printing::Output;
 
 const TITLE_BYTES: usize = 100;
 
@@ -41,7 +41,7 @@ fn run_in(x: Exchange, file: &mut [u8], moves: &mut [u8]) -> Exchange {
     let part = host::read_part(file);
     let length = part.length;
     let input = host::next_length();
-    let listed = host::print_listing(x, &file[..length], &mut transcript);
+    let listed = inspect_run::print_listing(x, &file[..length], &mut transcript);
     let ran = register_run::run(
         Output::Text,
         &file[..length],

@@ -2,7 +2,7 @@
 // its moves likewise.
 use host::Exchange;
 use host::FILE_BYTES;
-use register_run::Output;
+use printing::Output;
 
 // More blocks than any input here has.
 const MAX_BLOCKS: usize = 1000000;

@@ -1,7 +1,7 @@
 // Lines of output.
 use block::Verdict;
-use block::numbers::number_of;
-use block::numbers::offset_of;
+use decoder::numbers::number_of;
+use decoder::numbers::offset_of;
 use libc::STDOUT_FILENO;
 
 pub(crate) fn text(s: &[u8]) {

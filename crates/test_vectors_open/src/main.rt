@@ -15,7 +15,7 @@ fn list_in(x: Exchange, file: &mut [u8]) -> Exchange {
         received: 0,
         sent: 0,
     };
-    host::print_listing(next, &file[..length], &mut transcript)
+    inspect_run::print_listing(next, &file[..length], &mut transcript)
 }
 
 fn list_next(x: Exchange) -> Exchange {

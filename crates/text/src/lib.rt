@@ -1,6 +1,7 @@
 // Lines of text as bytes in a lent buffer: each function stores one line from a position on and answers the position behind it; what
 // does not fit is dropped, and all other bytes are unchanged.
 use wire::ROW_BITS;
+use wire::ROW_WORDS;
 use wire::decimal::DECIMAL_DIGITS;
 use wire::decimal::LINE_FEED;
 use wire::decimal::MINUS;
@@ -155,7 +156,7 @@ pub fn cell_line(
 }
 
 // The numbers of the set bits of a row from a position of the buffer on, each a part.
-fn put_bits(out: &mut [u8], at: usize, row: [u64; 4]) -> usize
+fn put_bits(out: &mut [u8], at: usize, row: [u64; ROW_WORDS]) -> usize
     requires { ⌜ at < 2 ^ 34 ⌝ }
     ensures text { λ r. ⌜ now (out .exit) ≡ stored (now (out .entry)) at (spaced (map decimal (passing (inRow row) 256 0))) ⌝ }
     ensures end { λ r. ⌜ r ≡ at + length (spaced (map decimal (passing (inRow row) 256 0))) ⌝ }
@@ -173,7 +174,7 @@ fn put_bits(out: &mut [u8], at: usize, row: [u64; 4]) -> usize
 }
 
 // A call's line of a listing: its earlier conflicting calls in rising order.
-pub fn row_line(out: &mut [u8], from: u32, call: u64, row: [u64; 4]) -> usize
+pub fn row_line(out: &mut [u8], from: u32, call: u64, row: [u64; ROW_WORDS]) -> usize
     ensures { λ r. ⌜ Written (now (out .entry)) (now (out .exit)) from r (rowText call row) ⌝ }
 {
     wire::put_byte(out, from as usize, b'w');

@@ -1,18 +1,13 @@
 -- Laws of reading and writing: a byte more, two widths joined, ranges, what a write leaves where, what a buffer holds. Each is said once, for every width.
 use mathlib.Core.Path.{_≡_, refl, sym, ap, ap₂, _∙_}
-use mathlib.Core.Logic.{_⊎_, inl, inr}
 use mathlib.Core.List.{List, [], _∷_, _++_}
 use Prim.Native.Nat.{ℕ, zero, suc, _+_, _-_, _*_, _/_, _%_, _^_, _≤_, _<_}
 use native.Mathlib.Nat.{zero-add, add-zero, suc-add, add-suc, add-assoc, one-mul, mul-assoc, mul-comm, mul-add, pow-suc, div-one, div-div-eq-div-mul, mod-lt}
 use native.Mathlib.Numerals.{add-one}
 use native.Mathlib.Omega.{arith}
-use borrow.Author.Tests.{lt-ltb, le-ltb}
 use lib.Dec.{lit<}
-use lib.IntN.{ℤ, pos, negsuc}
-use lib.Signed.{mag}
 use lib.ListN.{length, getD, take, drop, set, length-set, length-append, length-replicate, drop-of-length-le, take-append-drop, List·getD-append}
-use lib.Seq.{drop-nil, drop-cons, drop-append-add, length-take-le, set-out, getD-set-same, getD-set-other, sets, sets-eq}
-use Rattle.arith.specs.Exact.{signed, unsigned}
+use lib.Seq.{drop-nil, drop-cons, length-take-le, set-out, getD-set-same, getD-set-other, sets, sets-eq}
 use Rattle.wire.specs.Bytes.{number, readLe, bytesOf, stored, writeLe, repeated, padded}
 
 -- ---- reading
@@ -78,7 +73,7 @@ read-same (suc k) s t at h =
     (read-same k s t (at + 1) (λ i lo hi. h i (omega arith) (omega arith)))
     ∙ sym (read-suc k t at)
 
--- A number in two lists behind each other: in the first where it lies there whole, and in the second from that one's start on.
+-- A number in two lists behind each other is in the first where it lies there whole.
 pub read-first : (k : ℕ) (s t : List ℕ) (at : ℕ) → at + k ≤ length s → readLe k (s ++ t) at ≡ readLe k s at
 read-first k s t at h = read-same k (s ++ t) s at (λ i lo hi. List·getD-append s t 0 i (omega arith))
 
@@ -87,9 +82,6 @@ pub read-taken : (k n : ℕ) (s : List ℕ) (at : ℕ) → at + k ≤ n → n �
 read-taken k n s at h fit =
     let long : length (take n s) ≡ n = length-take-le n s fit in
     sym (read-first k (take n s) (drop n s) at (omega arith)) ∙ ap (λ (t : List ℕ). readLe k t at) (take-append-drop n s)
-
-pub read-second : (k : ℕ) (s t : List ℕ) (at : ℕ) → readLe k (s ++ t) (length s + at) ≡ readLe k t at
-read-second k s t at = ap (number k) (drop-append-add s t at)
 
 -- ---- writing
 
@@ -179,27 +171,8 @@ write-join j k s at n =
     ap (stored s at) (bytesOf-join j k n) ∙ stored-append (bytesOf j n) (bytesOf k (n / 256 ^ j)) s at
     ∙ ap (λ (m : ℕ). stored (writeLe j s at n) (at + m) (bytesOf k (n / 256 ^ j))) (bytesOf-length j n)
 
-pub write-length : (k : ℕ) (s : List ℕ) (at n : ℕ) → length (writeLe k s at n) ≡ length s
-write-length k s at n = stored-length (bytesOf k n) s at
-
 pub write-past : (k : ℕ) (s : List ℕ) (at n : ℕ) → length s ≤ at → writeLe k s at n ≡ s
 write-past k s at n h = stored-past (bytesOf k n) s at h
-
-set-lt : (s : List ℕ) (at b : ℕ) → b < 256 → ((i : ℕ) → getD s i 0 < 256) → (i : ℕ) → getD (set s at b) i 0 < 256
-set-lt [] at b hb hs i = lit< tt
-set-lt (x ∷ s) zero b hb hs zero = hb
-set-lt (x ∷ s) zero b hb hs (suc i) = hs (suc i)
-set-lt (x ∷ s) (suc at) b hb hs zero = hs 0
-set-lt (x ∷ s) (suc at) b hb hs (suc i) = set-lt s at b hb (λ j. hs (suc j)) i
-
--- Bytes stay bytes.
-pub stored-lt : (bs s : List ℕ) (at : ℕ) → ((i : ℕ) → getD bs i 0 < 256) → ((i : ℕ) → getD s i 0 < 256) → (i : ℕ) → getD (stored s at bs) i 0 < 256
-unfolding stored
-stored-lt [] s at hb hs = hs
-stored-lt (b ∷ bs) s at hb hs = stored-lt bs (set s at b) (at + 1) (λ i. hb (suc i)) (set-lt s at b (hb 0) hs)
-
-pub write-lt : (k : ℕ) (s : List ℕ) (at n : ℕ) → ((i : ℕ) → getD s i 0 < 256) → (i : ℕ) → getD (writeLe k s at n) i 0 < 256
-write-lt k s at n h = stored-lt (bytesOf k n) s at (bytesOf-lt k n) h
 
 -- Reading back what was written.
 pub read-written : (k : ℕ) (s : List ℕ) (at n : ℕ) → n < 256 ^ k → at + k ≤ length s → readLe k (writeLe k s at n) at ≡ n
@@ -213,13 +186,6 @@ read-written (suc k) s at n h fit =
     (stored-before (bytesOf k (n / 256)) (set s at (n % 256)) (at + 1) at 0 (omega arith) ∙ getD-set-same s at (n % 256) 0 (omega arith))
     (read-written k (set s at (n % 256)) (at + 1) (n / 256) (omega arith) room)
     ∙ omega arith
-
--- Reading apart from what was written.
-pub read-elsewhere : (j k : ℕ) (s : List ℕ) (at n i : ℕ) → (i + j ≤ at) ⊎ (at + k ≤ i) → readLe j (writeLe k s at n) i ≡ readLe j s i
-read-elsewhere j k s at n i (inl h) =
-    read-same j (writeLe k s at n) s i (λ m lo hi. stored-before (bytesOf k n) s at m 0 (omega arith))
-read-elsewhere j k s at n i (inr h) =
-    read-same j (writeLe k s at n) s i (λ m lo hi. stored-behind (bytesOf k n) s at m 0 (rw (bytesOf-length k n) (omega arith)))
 
 -- ---- buffers
 
@@ -243,24 +209,3 @@ module _ {A : Type 0} where
   pub padded-length : (n : ℕ) (a : A) (l : List A) → length l ≤ n → length (padded n a l) ≡ n
   unfolding repeated
   padded-length n a l h = simp (length-append, length-replicate) (omega arith)
-
--- ---- values
-
-unsigned-lt : (z : ℤ) → mag z < 2 ^ 63 → unsigned 64 z < 2 ^ 64
-unfolding unsigned
-unsigned-lt (pos n) h = omega arith
-unsigned-lt (negsuc n) h = omega arith
-
-signed-unsigned : (z : ℤ) → mag z < 2 ^ 63 → signed 64 (unsigned 64 z) ≡ z
-unfolding signed unsigned
-signed-unsigned (pos n) h = simp (lt-ltb n (2 ^ 63) h)
-signed-unsigned (negsuc n) h =
-    let up : 2 ^ 63 ≤ 2 ^ 64 - 1 - n = omega arith in
-    let back : 2 ^ 64 - 1 - (2 ^ 64 - 1 - n) ≡ n = omega arith in
-    simp (le-ltb (2 ^ 64 - 1 - n) (2 ^ 63) up) (ap negsuc back)
-
--- Reading back a value that was written.
-pub value-written : (s : List ℕ) (at : ℕ) (z : ℤ) → mag z < 2 ^ 63 → at + 8 ≤ length s
-    → signed 64 (readLe 8 (writeLe 8 s at (unsigned 64 z)) at) ≡ z
-value-written s at z h fit =
-    ap (signed 64) (read-written 8 s at (unsigned 64 z) (unsigned-lt z h) fit) ∙ signed-unsigned z h

@@ -1,4 +1,5 @@
--- Laws of bytes, of what is stored and of rows, for every crate above; MaskedBits and Laws are for this crate's own code.
+-- Laws of lists, of bytes, of what is stored and of rows, for every crate above; MaskedBits and Laws are for this crate's own code.
+pub mod ListLaws
 pub mod BytesLaws
 pub mod StoringLaws
 pub mod RowLaws

@@ -3,23 +3,58 @@ use mathlib.Core.Bool.{Bool, true, false, _||_}
 use mathlib.Core.Path.{_≡_, refl, sym, ap, ap₂, _∙_}
 use mathlib.Core.List.{List, [], _∷_, _++_}
 use Prim.Native.Nat.{ℕ, zero, suc, _+_, _*_, _/_, _%_, _^_, _≤_, _<_}
-use native.Mathlib.Nat.{lt-of-lt-of-le, div-one, div-eq-of-lt, mod-lt, pow-suc, suc-inj, not-suc-le-zero, le-of-suc-le-suc}
+use native.Mathlib.Nat.{add-zero, lt-of-lt-of-le, div-one, div-eq-of-lt, mod-lt, pow-suc, suc-inj, not-suc-le-zero, le-of-suc-le-suc}
 use native.Mathlib.Numerals.{one-add}
 use native.Mathlib.Decide.{decLt, ℕ-discrete}
 use native.Mathlib.Omega.{arith}
-use borrow.Author.Tests.{eq-eqb, ne-eqb, eqb-false}
+use borrow.Author.Tests.{eq-eqb, ne-eqb, eqb-false, le-leb, lt-leb}
 use lib.Bits.{bitOr, or-shr, or-mod, or-lt}
 use lib.Dec.{eqb, lit<, eqb·zero-suc, eqb·suc-zero, eqb·suc-suc}
-use lib.ListN.{length, getD, set, take, drop, length-append, length-set, length-take, List·getD-eq-default}
+use lib.ListN.{length, getD, set, take, drop, length-append, length-set, length-take, length-drop, List·getD-eq-default}
 use lib.Pow.{pow-pos, pow-mono, pow-lt, shr-shr}
-use lib.Seq.{getD-set-same, getD-set-other, getD-take, getD-drop, ext-getD, set-out}
+use lib.Seq.{getD-set-same, getD-set-other, getD-take, getD-drop, ext-getD, set-out, take-all}
 use Rattle.wire.specs.Rows.{bit, wordOf, rowOf, inWord, inRow}
-use Rattle.wire.specs.RowOps.{withBit, unionOf}
+use Rattle.wire.specs.RowOps.{rowFrom, withBit, unionOf}
 
 -- A row: four words of 64 bits.
 pub record IsRow (ws : List ℕ) : Type 0 where
   pub four : length ws ≡ 4
   pub words : (i : ℕ) → getD ws i 0 < 2 ^ 64
+
+-- ---- a row in some words
+
+-- The four words from a position on.
+abbrev pub fourFrom : List ℕ → ℕ → List ℕ
+fourFrom ws at = getD ws at 0 ∷ getD ws (at + 1) 0 ∷ getD ws (at + 2) 0 ∷ getD ws (at + 3) 0 ∷ []
+
+pub four-at : (ws : List ℕ) (at i : ℕ) → i < 4 → getD (fourFrom ws at) i 0 ≡ getD ws (at + i) 0
+four-at ws at zero h = ap (λ (k : ℕ). getD ws k 0) (sym (add-zero at))
+four-at ws at (suc zero) h = refl
+four-at ws at (suc (suc zero)) h = refl
+four-at ws at (suc (suc (suc zero))) h = refl
+four-at ws at (suc (suc (suc (suc i)))) h = absurd (omega arith)
+
+-- They are the row that stands there.
+pub row-read : (ws : List ℕ) (at : ℕ) → at + 4 ≤ length ws → fourFrom ws at ≡ take 4 (drop at ws)
+row-read ws at h =
+    let long : 4 ≡ length (take 4 (drop at ws)) = simp (length-take, length-drop) (omega arith) in
+    ext-getD 0 (fourFrom ws at) (take 4 (drop at ws)) long
+    (λ i l. four-at ws at i l ∙ sym (getD-take 4 (drop at ws) i 0 l ∙ getD-drop at ws i 0))
+
+pub row-stands : (ws : List ℕ) → 4 ≤ length ws → rowFrom ws ≡ take 4 ws
+unfolding rowFrom
+row-stands ws h = rw (le-leb 4 (length ws) h)
+
+pub row-lacks : (ws : List ℕ) → length ws < 4 → rowFrom ws ≡ 0 ∷ 0 ∷ 0 ∷ 0 ∷ []
+unfolding rowFrom
+row-lacks ws h = rw (lt-leb 4 (length ws) h)
+
+-- The row at a position of a list that has it, from a part of as many words.
+pub row-part : (ws : List ℕ) (at n : ℕ) → n ≡ 4 → at + 4 ≤ length ws → rowFrom (take n (drop at ws)) ≡ take 4 (drop at ws)
+row-part ws at n e h =
+    let long : 4 ≡ length (take 4 (drop at ws)) = simp (length-take, length-drop) (omega arith) in
+    ap (λ (k : ℕ). rowFrom (take k (drop at ws))) e
+    ∙ row-stands (take 4 (drop at ws)) (omega (arith, long)) ∙ take-all 4 (take 4 (drop at ws)) (omega (arith, long))
 
 -- ---- bits of a word
 
@@ -217,19 +252,6 @@ inRow-withBit ws i j four h = go (ℕ-discrete (j / 64) (i / 64))
         ap (λ (x : ℕ). inWord x (j % 64)) (getD-set-other ws (i / 64) (j / 64) new 0 n)
         ∙ or-false (inWord (getD ws (j / 64) 0) (j % 64))
         ∙ ap (λ (b : Bool). inWord (getD ws (j / 64) 0) (j % 64) || b) (sym (ne-eqb i j (λ e. n (ap (λ (k : ℕ). k / 64) (sym e)))))
-
-or-true : (b : Bool) → b || true ≡ true
-or-true true = refl
-or-true false = refl
-
--- Set, then tested at the same place, and at another.
-pub withBit-same : (ws : List ℕ) (i : ℕ) → length ws ≡ 4 → i < 256 → inRow (withBit ws i) i ≡ true
-withBit-same ws i four h =
-    inRow-withBit ws i i four h ∙ ap (λ (b : Bool). inRow ws i || b) (eq-eqb i i refl) ∙ or-true (inRow ws i)
-
-pub withBit-other : (ws : List ℕ) (i j : ℕ) → length ws ≡ 4 → i < 256 → (i ≡ j → ⊥) → inRow (withBit ws i) j ≡ inRow ws j
-withBit-other ws i j four h n =
-    inRow-withBit ws i j four h ∙ ap (λ (b : Bool). inRow ws j || b) (ne-eqb i j n) ∙ sym (or-false (inRow ws j))
 
 -- Past the row nothing changes.
 pub withBit-past : (ws : List ℕ) (i : ℕ) → length ws ≡ 4 → 256 ≤ i → withBit ws i ≡ ws

@@ -1,11 +1,16 @@
--- A row with one bit more, and the union of two rows; the first position that passes a test, and how many do.
+-- A row that stands among words, a row with one bit more, and the union of two rows; the first position that passes a test, and how many do.
 use mathlib.Core.Bool.{Bool}
 use mathlib.Core.List.{List, [], _∷_}
 use Prim.Native.Nat.{ℕ, zero, suc, _+_, _/_, _%_, _^_}
 use lib.Bits.{bitOr}
-use lib.ListN.{getD, set}
+use lib.Dec.{leb}
+use lib.ListN.{length, getD, set, take}
 use Rattle.arith.specs.Choice.{if_then_else_}
-use Rattle.wire.specs.Rows.{bit}
+use Rattle.wire.specs.Rows.{bit, rowWords}
+
+-- The row that the first words are; an empty row where there are too few.
+unfoldable pub rowFrom : List ℕ → List ℕ
+rowFrom words = if leb rowWords (length words) then take rowWords words else 0 ∷ 0 ∷ 0 ∷ 0 ∷ []
 
 -- The row with bit i set as well; a bit past the row changes nothing.
 unfoldable pub withBit : List ℕ → ℕ → List ℕ

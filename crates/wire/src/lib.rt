@@ -9,7 +9,7 @@ ghost use lib.ListN.{length, getD, set};
 ghost use Rattle.arith.specs.Exact.{signed, unsigned};
 ghost use Rattle.wire.specs.Bytes.{readLe, writeLe, repeated};
 ghost use Rattle.wire.specs.Rows.{inRow, inWord, rowBits};
-ghost use Rattle.wire.specs.RowOps.{withBit, unionOf, countOf};
+ghost use Rattle.wire.specs.RowOps.{rowFrom, withBit, unionOf, countOf};
 
 // The byte at a position.
 pub fn byte(s: &[u8], i: usize) -> u8
@@ -266,8 +266,18 @@ pub fn word_test(word: u64, i: usize) -> bool
     word & mask(i) != 0
 }
 
+// The row that the first four words are; an empty row where there are fewer.
+pub fn row_from(words: &[u64]) -> [u64; ROW_WORDS]
+    ensures { λ r. ⌜ r ≡ rowFrom (now (words .entry)) ⌝ }
+{
+    if words.len() < ROW_WORDS {
+        return [0; ROW_WORDS];
+    }
+    [words[0], words[1], words[2], words[3]]
+}
+
 // Whether a bit of a row is set; there is none past the row.
-pub fn row_test(row: [u64; 4], i: usize) -> bool
+pub fn row_test(row: [u64; ROW_WORDS], i: usize) -> bool
     ensures { λ r. ⌜ r ≡ inRow row i ⌝ }
 {
     if ROW_BITS <= i {
@@ -277,7 +287,7 @@ pub fn row_test(row: [u64; 4], i: usize) -> bool
 }
 
 // The row with one bit set as well; past the row nothing changes.
-pub fn row_set(mut row: [u64; 4], i: usize) -> [u64; 4]
+pub fn row_set(mut row: [u64; ROW_WORDS], i: usize) -> [u64; ROW_WORDS]
     ensures { λ r. ⌜ r ≡ withBit row i ⌝ }
 {
     if i < ROW_BITS {
@@ -288,14 +298,14 @@ pub fn row_set(mut row: [u64; 4], i: usize) -> [u64; 4]
 }
 
 // The bits that are set in either row.
-pub fn row_union(a: [u64; 4], b: [u64; 4]) -> [u64; 4]
+pub fn row_union(a: [u64; ROW_WORDS], b: [u64; ROW_WORDS]) -> [u64; ROW_WORDS]
     ensures { λ r. ⌜ r ≡ unionOf a b ⌝ }
 {
     [a[0] | b[0], a[1] | b[1], a[2] | b[2], a[3] | b[3]]
 }
 
 // How many of the first n bits of a row are set: those of the whole words, and those of the word that they end in.
-fn count_within(row: [u64; 4], n: usize) -> u64
+fn count_within(row: [u64; ROW_WORDS], n: usize) -> u64
     requires { ⌜ n ≤ rowBits ⌝ }
     ensures { λ r. ⌜ r ≡ countOf (inRow row) n ⌝ }
 {
@@ -312,7 +322,7 @@ fn count_within(row: [u64; 4], n: usize) -> u64
 }
 
 // How many bits of a row below a position are set; there are none past the row.
-pub fn row_count(row: [u64; 4], below: usize) -> u64
+pub fn row_count(row: [u64; ROW_WORDS], below: usize) -> u64
     ensures { λ r. ⌜ r ≡ countOf (inRow row) below ⌝ }
 {
     if ROW_BITS < below {

@@ -22,13 +22,14 @@ use Rattle.footprint.specs.Plan.{plans, tableWords, openingValue}
 use Rattle.rule.specs.Rule.{stateWithinLimit}
 use Rattle.footprint.specs.Table.{cellNumber, analysed}
 use Rattle.footprint.proofs.ConflictLaws.{row-exact}
-use Rattle.analysis.proofs.LayoutLaws.{map-at}
-use Rattle.analysis.specs.KeyTable.{RisingKeys}
-use Rattle.analysis.proofs.TableLaws.{cell-lt, number-key}
-use Rattle.analysis.proofs.TableWords.{words-length}
-use Rattle.analysis.specs.LayoutOfBlock.{blockIn, blockOf, allSets, openingKeys, analysisOf, TableOf}
-use Rattle.analysis.proofs.CollectedLaws.{Complete, analysed-complete}
-use Rattle.analysis.specs.Masks.{EveryListed}
+use Rattle.wire.proofs.ListLaws.{map-at}
+use Rattle.footprint.specs.KeyWords.{RisingKeys}
+use Rattle.footprint.proofs.TableLaws.{cell-lt, number-key}
+use Rattle.footprint.proofs.TableWordLaws.{words-length}
+use Rattle.block.specs.BlockOfFile.{blockIn, blockOf, openingKeys}
+use Rattle.footprint.specs.BlockSets.{allSets, analysisOf, TableOf}
+use Rattle.footprint.proofs.AnalysedLaws.{Complete, analysed-complete}
+use Rattle.footprint.specs.Listed.{EveryListed}
 use Rattle.machine.specs.Run.{Run, Sizes, sizesOf, largeEnough, rowIn}
 use Rattle.machine.specs.Waits.{waitsSet}
 use Rattle.machine.specs.Opening.{headOf, openingOf}

@@ -9,6 +9,7 @@ use lib.Dec.{eqb}
 use lib.ListN.{length, getD, getElem?, take, drop, length-map}
 use Rattle.arith.specs.Choice.{if_then_else_}
 use Rattle.wire.specs.Bytes.{padded}
+use Rattle.wire.specs.All.{All}
 use Rattle.block.specs.Limits.{maxCallKeys}
 use Rattle.block.specs.Record.{Function, Block, functionId, callId, callOf, callRecordBytes, headBytes}
 use Rattle.block.proofs.ReaderLaws as reading
@@ -25,11 +26,11 @@ use Rattle.footprint.proofs.SetLaws.{Distinct, merged-distinct}
 use Rattle.footprint.specs.Conflict.{rowFor}
 use Rattle.footprint.specs.Table.{cellNumber}
 use Rattle.footprint.specs.Plan.{entryWord, codeWords, plans, tableWords, entryCell}
-use Rattle.analysis.specs.LayoutOfBlock.{allSets}
-use Rattle.analysis.proofs.LayoutLaws.{map-at}
-use Rattle.analysis.specs.Masks.{AllListed, EveryListed}
-use Rattle.analysis.proofs.MaskLaws.{entry-cell}
-use Rattle.analysis.proofs.TableLaws.{cell-lt, number-key}
+use Rattle.footprint.specs.BlockSets.{allSets}
+use Rattle.wire.proofs.ListLaws.{map-at}
+use Rattle.footprint.specs.Listed.{AllListed, EveryListed}
+use Rattle.footprint.proofs.EntryLaws.{entry-cell}
+use Rattle.footprint.proofs.TableLaws.{cell-lt, number-key}
 use Rattle.machine.specs.Run.{Run, planWord, rowIn}
 use Rattle.machine.specs.Moves.{callKeyCount, ownEntries, viewOf}
 use Rattle.machine.specs.CallInRun.{madeView}
@@ -58,7 +59,7 @@ pub record CallOpened (file : List ℕ) (b : Block) (table : List ℕ) (room : �
   pub few : length (setsOf file (b .functions) c) ≤ maxCallKeys
   pub distinct : Distinct (accessKeys (setsOf file (b .functions) c))
   pub listed : AllListed table (setsOf file (b .functions) c)
-  pub placed : sets.EachAccess (EntryPlaced table) (setsOf file (b .functions) c)
+  pub placed : All (EntryPlaced table) (setsOf file (b .functions) c)
   -- Its words in the plan, and the view that they make.
   pub start : planWord (r .plan) j 0 ≡ getD (codeWords (functionOf (b .functions) c)) 0 0
   pub code : planWord (r .plan) j 1 ≡ getD (codeWords (functionOf (b .functions) c)) 1 0
@@ -91,7 +92,7 @@ every-at table [] j all = tt
 every-at table (es ∷ ls) zero all = all .0
 every-at table (es ∷ ls) (suc j) all = every-at table ls j (all .1)
 
-all-placed : (table : List ℕ) (es : List Access) → AllListed table es → sets.EachAccess (EntryPlaced table) es
+all-placed : (table : List ℕ) (es : List Access) → AllListed table es → All (EntryPlaced table) es
 all-placed table [] all = tt
 all-placed table (e ∷ es) all =
     (record { number = entry-cell table e; inside = cell-lt table (e .key) (all .0 .in-table); key = number-key table (e .key) (all .0 .in-table) }, all-placed table es (all .1))

@@ -23,7 +23,7 @@ use Rattle.footprint.specs.Access.{Access}
 use Rattle.footprint.specs.Table as table
 use Rattle.footprint.specs.Table.{Analysis}
 use Rattle.footprint.specs.Plan.{Room, Prepared, unprepared, roomEnough, prepareAnalysed, prepareRead, plans, tableWords, openingValue}
-use Rattle.analysis.specs.LayoutOfBlock.{analysisOf}
+use Rattle.footprint.specs.BlockSets.{analysisOf}
 use Rattle.machine.specs.Run.{Run, Sizes, fixedSizes, roomIn, largeEnough}
 use Rattle.machine.specs.Waits.{waitsSet}
 use Rattle.machine.specs.Opening.{Opened, headOf, refusedRun, openPrepared, openingOf}

@@ -14,9 +14,10 @@ use Rattle.schedule.proofs.RunLaws.{one-answer}
 use Rattle.footprint.specs.Access.{Access}
 use Rattle.footprint.specs.Table.{cellNumber}
 use Rattle.footprint.specs.Plan.{entryWord, entryCell, entryReads, entryWrites}
-use Rattle.analysis.specs.Masks.{entryTouchesCell, against, anyOf, someEntryUses, AllListed}
-use Rattle.analysis.proofs.MaskLaws.{entry-cell, entriesWait}
-use Rattle.analysis.proofs.TableLaws.{cell-lt}
+use Rattle.footprint.specs.EntryUses.{entryTouchesCell, against, anyOf, someEntryUses}
+use Rattle.footprint.specs.Listed.{AllListed}
+use Rattle.footprint.proofs.EntryLaws.{entry-cell, entriesWait}
+use Rattle.footprint.proofs.TableLaws.{cell-lt}
 use Rattle.machine.proofs.RestoreLaws.{entry-flagged}
 use Rattle.guarantees.proofs.CallsOfRun.ViewCalls.{anyEntry, Proper}
 

@@ -15,7 +15,7 @@ use Rattle.arith.proofs.ChoiceLaws.{both, by-test, if-all}
 use Rattle.schedule.proofs.RunLaws as runs
 use Rattle.block.specs.Limits.{maxCallKeys, maxKeys}
 use Rattle.footprint.specs.Access.{Access}
-use Rattle.analysis.specs.Masks.{anyOf, someEntryUses}
+use Rattle.footprint.specs.EntryUses.{anyOf, someEntryUses}
 use Rattle.machine.specs.Run.{hasKey}
 use Rattle.footprint.specs.Plan.{entryCell, entryReads, entryWrites}
 use Rattle.machine.proofs.RestoreLaws.{oneRestored, onward-length, restored-other, restored-back}

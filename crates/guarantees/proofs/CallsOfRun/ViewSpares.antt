@@ -16,7 +16,7 @@ use Rattle.block.specs.Limits.{maxKeys}
 use Rattle.block.specs.declared.Instr.{Instr}
 use Rattle.footprint.specs.Access.{Access, accesses, entryAccesses}
 use Rattle.footprint.specs.Plan.{keyWords, highWord, lowWord}
-use Rattle.analysis.specs.KeyTable.{keyAt}
+use Rattle.footprint.specs.KeyWords.{keyAt}
 use Rattle.machine.specs.Run.{hasKey}
 use Rattle.machine.specs.Action.{entryAction, instrAction}
 use Rattle.machine.specs.Step.{View, Local, cellAt, lookup, restored, accessAt, stepCall}

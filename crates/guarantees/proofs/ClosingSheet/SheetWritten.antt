@@ -20,9 +20,9 @@ use Rattle.block.specs.Encoding.{AreBytes}
 use Rattle.footprint.specs.Conflict.{member}
 use Rattle.footprint.specs.Plan.{highWord, tableWords}
 use Rattle.rule.specs.Rule.{State, stateWithinLimit, Left}
-use Rattle.analysis.specs.KeyTable.{RisingKeys}
-use Rattle.analysis.specs.LayoutOfBlock.{blockOf, callCount}
-use Rattle.analysis.proofs.TableLaws.{member-at, cell-at}
+use Rattle.footprint.specs.KeyWords.{RisingKeys}
+use Rattle.block.specs.BlockOfFile.{blockOf, callCount}
+use Rattle.footprint.proofs.TableLaws.{member-at, cell-at}
 use Rattle.machine.specs.Run.{Run, Sizes, sizesOf, largeEnough, statusWord, stateOf, finished}
 use Rattle.block.specs.Outcomes.{lastOutcome, maxCount}
 use Rattle.machine.specs.CallInRun.{Hold}

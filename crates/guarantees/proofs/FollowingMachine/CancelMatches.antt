@@ -10,7 +10,7 @@ use Rattle.schedule.specs.Tally as tally
 use Rattle.schedule.specs.Tally.{refusal}
 use Rattle.schedule.specs.declared.Move.the-variants.{Cancel}
 use Rattle.schedule.specs.Machine.{ready, isReady, isEnded, Machine, settleCall, cancelCall, cancelWorker}
-use Rattle.analysis.proofs.GatheredLaws.{if-true}
+use Rattle.arith.proofs.ChoiceLaws.{if-true}
 use Rattle.machine.specs.Run.{Run, savedIn, withState, waiting}
 use Rattle.machine.specs.Step.{restored}
 use Rattle.machine.specs.Moves.{stay, callKeyCount, ownEntries, cancelHeld, cancelFor, cancelOf}

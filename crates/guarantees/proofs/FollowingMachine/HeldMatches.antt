@@ -9,7 +9,7 @@ use lib.Dec.{leb, ltb}
 use Rattle.block.specs.Limits.{maxCalls}
 use Rattle.schedule.specs.Tally as tally
 use Rattle.schedule.specs.Machine.{Machine}
-use Rattle.analysis.proofs.GatheredLaws.{if-true, if-false}
+use Rattle.arith.proofs.ChoiceLaws.{if-true, if-false}
 use Rattle.machine.specs.Run.{Run, heldAt}
 use Rattle.machine.specs.Moves as machine
 use Rattle.machine.specs.Moves.{Moved, stay, answered, heldBy}

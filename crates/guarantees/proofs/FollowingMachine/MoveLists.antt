@@ -21,7 +21,7 @@ use Rattle.guarantees.proofs.FollowingMachine.OpenedRuns.{openedRun, op
 use Rattle.guarantees.proofs.FollowingMachine.MoveMatches.{not-twenty, move-matches}
 use Rattle.guarantees.proofs.SerialAndRule.SerialRun.{MoveSound}
 use Rattle.guarantees.proofs.SerialAndRule.SerialRunOfFile.{sound-whole, opened-laws, opened-good, opened-whole}
-use Rattle.analysis.specs.LayoutOfBlock.{callCount}
+use Rattle.block.specs.BlockOfFile.{callCount}
 use Rattle.guarantees.specs.BlockTally.{isBefore}
 
 -- No answer is 20.

@@ -1,5 +1,5 @@
 -- The lent run follows the worker machine, move by move: equal answers, and a run that stands for the machine again.
-use mathlib.Core.Path.{_≡_, sym, ap, _∙_}
+use mathlib.Core.Path.{_≡_}
 use mathlib.Core.Bool.{Bool, true, false, cond, not}
 use mathlib.Core.List.{List}
 use Prim.Native.Nat.{ℕ}
@@ -8,11 +8,10 @@ use lib.Dec.{leb}
 use Rattle.schedule.specs.declared.Move.{Move}
 use Rattle.schedule.specs.declared.Move.the-variants.{Begin, Step, Cancel}
 use Rattle.schedule.specs.Tally.{Seat, isIdle, blocked, refusal}
-use Rattle.schedule.specs.Machine.{isReady, isEnded, Machine, respond, performMove, make}
+use Rattle.schedule.specs.Machine.{Machine, respond, performMove, make}
 use Rattle.machine.specs.Run.{Run, Sizes}
 use Rattle.machine.specs.Moves.{moveOf}
 use Rattle.machine.specs.Answer.{answerNumber}
-use Rattle.machine.specs.declared.Answer.the-variants.{Damaged}
 use Rattle.guarantees.proofs.FollowingMachine.RunMatches.{Base, callsIn, UndamagedMove, Matches}
 use Rattle.guarantees.proofs.AcceptedOpening.AfterOpening.{AfterOpening}
 use Rattle.guarantees.proofs.FollowingMachine.OpenedRuns.{openedRun, openedCalls, OpenedMatches, OpenedWhole, base}
@@ -20,7 +19,7 @@ use Rattle.guarantees.proofs.FollowingMachine.Follows.{Follows}
 use Rattle.guarantees.proofs.FollowingMachine.BeginMatches.{begin-follows}
 use Rattle.guarantees.proofs.FollowingMachine.StepMatches.{step-follows}
 use Rattle.guarantees.proofs.FollowingMachine.CancelMatches.{cancel-follows}
-use Rattle.analysis.specs.LayoutOfBlock.{callCount}
+use Rattle.block.specs.BlockOfFile.{callCount}
 use Rattle.guarantees.specs.BlockTally.{isBefore}
 
 -- One move of a run that stands for a state of the machine.
@@ -60,10 +59,3 @@ module _ (s : Sizes) (file : List ℕ) (workers : ℕ) (after : AfterOpening s f
   move-matches =
       let f = move-follows file workers (callCount file) (isBefore file) (openedRun s file workers) (base s file workers after) M r m h whole in
       (f .same, f .run)
-
-  -- 20: "none after an opening and moves alone".
-  pub never-damaged : moveOf file r m .answer ≡ Damaged → ⊥
-  unfolding respond answerNumber
-  never-damaged e =
-      not-twenty workers (callCount file) (isBefore file) (λ i. isReady (M .call i)) (λ i. isEnded (M .call i)) (M .seat) m
-      (sym (move-matches .0) ∙ ap answerNumber e)

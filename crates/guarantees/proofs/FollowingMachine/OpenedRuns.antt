@@ -26,8 +26,8 @@ use Rattle.footprint.specs.Conflict.{conflict}
 use Rattle.footprint.specs.Sets.{setsOf}
 use Rattle.block.specs.Naming.{functionOf}
 use Rattle.footprint.specs.Plan.{entryWord, codeWords}
-use Rattle.analysis.specs.LayoutOfBlock.{blockOf, callCount}
-use Rattle.analysis.proofs.MaskLaws.{entriesWait, waits-conflict}
+use Rattle.block.specs.BlockOfFile.{blockOf, callCount}
+use Rattle.footprint.proofs.EntryLaws.{entriesWait, waits-conflict}
 use Rattle.machine.specs.Run.{Run, Sizes, largeEnough, heldAt, statusWords, stateWord, stateOf, finished, waitCount}
 use Rattle.machine.specs.Waits.{namedIn, finishedIn}
 use Rattle.machine.specs.Moves.{ownEntries, viewOf}

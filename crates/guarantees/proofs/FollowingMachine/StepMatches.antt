@@ -19,7 +19,7 @@ use Rattle.schedule.specs.Tally.{refusal}
 use Rattle.schedule.specs.declared.Move.the-variants.{Step}
 use Rattle.schedule.specs.Machine as schedule
 use Rattle.schedule.specs.Machine.{active, ended, isReady, isEnded, activity, Machine, settleCall, stepWorker}
-use Rattle.analysis.proofs.GatheredLaws.{if-false}
+use Rattle.arith.proofs.ChoiceLaws.{if-false}
 use Rattle.machine.specs.Run.{Run, seatWords, registers, frameValues, withHeld, placeIn, withSeat, withRegs, savedIn, planWord, withReceipt}
 use Rattle.machine.specs.Waits.{waitsLowered}
 use Rattle.machine.specs.Step.{Local, Stepped, damaged, more, done, stepCall}

@@ -3,20 +3,19 @@
 use mathlib.Core.Path.{_≡_, refl, sym, ap, ap₂, _∙_}
 use mathlib.Core.Bool.{Bool, true, false, cond, _&&_}
 use mathlib.Core.List.{List}
-use Prim.Native.Nat.{ℕ, _+_, _-_, _*_, _≤_, _<_}
+use Prim.Native.Nat.{ℕ, _+_, _*_, _≤_, _<_}
 use native.Mathlib.Decide.{decLt}
 use native.Mathlib.Omega.{arith}
 use borrow.Author.Tests.{lt-ltb, le-ltb, ltb-true}
 use lib.Dec.{ltb}
 use lib.ListN.{length}
-use Rattle.arith.specs.Choice.{if_then_else_}
 use Rattle.arith.proofs.ChoiceLaws.{both}
 use Rattle.schedule.specs.Tally.{put, unfinishedEarlier}
 use Rattle.schedule.specs.Machine.{isEnded, Machine}
 use Rattle.schedule.proofs.Valid.{put-here, put-there, put-all}
 use Rattle.schedule.proofs.CountLaws.{count-same, count-most, count-some, count-less}
 use Rattle.machine.specs.Run.{Run, statusWords, waitCount}
-use Rattle.machine.specs.Waits.{waitsFor, waitsLowered, waitsLowerable}
+use Rattle.machine.specs.Waits.{waitsFor, loweredIf, waitsLowered, waitsLowerable}
 use Rattle.machine.proofs.WaitLaws.{each-new, lowerable-all}
 use Rattle.guarantees.proofs.FollowingMachine.RunMatches.{CallState, Base, callsIn, Matches}
 use Rattle.guarantees.proofs.FollowingMachine.Follows.{row-read}
@@ -30,14 +29,14 @@ module _ (before : ℕ → ℕ → Bool) (done done′ : ℕ → Bool) (c d : �
   number′ = unfinishedEarlier before done′ d d
 
   lowered-count : ((i : ℕ) → ¬ (i ≡ c) → done i ≡ done′ i) → done c ≡ false → done′ c ≡ true
-      → (if ltb c d && before c d then number - 1 else number) ≡ number′
+      → loweredIf (ltb c d && before c d) number ≡ number′
   lowered-count others was is = go (decLt c d)
     where
-      one : (b : Bool) (k j : ℕ) → k ≡ cond b 1 0 + j → (if b then k - 1 else k) ≡ j
+      one : (b : Bool) (k j : ℕ) → k ≡ cond b 1 0 + j → loweredIf b k ≡ j
       one true k j e = omega arith
       one false k j e = omega arith
 
-      go : Dec (c < d) → (if ltb c d && before c d then number - 1 else number) ≡ number′
+      go : Dec (c < d) → loweredIf (ltb c d && before c d) number ≡ number′
       go (yes l) = rw (lt-ltb c d l) (one (before c d) number number′ (count-less before done done′ d c others was is d l))
       go (no x) = rw (le-ltb c d (omega arith)) (count-same before done d before done′ d (λ i l. refl) (λ i l. others i (omega arith)))
 
@@ -70,7 +69,7 @@ module _ (file : List ℕ) (workers n : ℕ) (before : ℕ → ℕ → Bool) (r�
         → (d : ℕ) → d < n → waitCount (waitsLowered (r .plan) c (r .head .calls) status) d ≡ unfinishedEarlier before (λ i. isEnded (put (M .call) c a i)) d d
     waits-lowered was is room d l =
         ap (λ (k : ℕ). waitCount (waitsLowered (r .plan) c k status) d) (m .callCount) ∙ each-new _ status n d l room
-        ∙ ap₂ (λ (b : Bool) (k : ℕ). if b then k - 1 else k) (waits-for d l) (words d ∙ m .waits d l)
+        ∙ ap₂ loweredIf (waits-for d l) (words d ∙ m .waits d l)
         ∙ lowered-count before ended ended′ c d (λ i x. ap isEnded (sym (put-there (M .call) c a i x))) was (ap isEnded (put-here (M .call) c a) ∙ is)
 
   -- Where a call that ends is waited for, the number is above 0, and at most the waiting call's index.

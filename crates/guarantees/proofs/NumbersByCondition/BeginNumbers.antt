@@ -9,7 +9,7 @@ use lib.Dec.{eqb, leb, ltb}
 use Rattle.arith.specs.Choice.{if_then_else_}
 use Rattle.arith.proofs.ChoiceLaws.{if-all, neither}
 use Rattle.block.specs.Limits.{maxCalls, maxCallKeys, maxKeys, maxWorkers}
-use Rattle.block.specs.Encoding.{All}
+use Rattle.wire.specs.All.{All}
 use Rattle.machine.specs.Run.{Run, sizesOf, largeEnough, stateOf, isState, waitCount, waiting, finished}
 use Rattle.footprint.specs.Plan.{entryCell, entryWrites}
 use Rattle.machine.specs.Step.{entriesAllowed, restorable}
@@ -49,7 +49,7 @@ sized-exact r = (found, passes)
 
 -- A call's entries.
 allowed-exact : (es : List ℕ) → Exactly (entriesAllowed es ≡ true) (All EntryIn es)
-unfolding entriesAllowed All
+unfolding entriesAllowed
 allowed-exact [] = (λ e. tt, λ h. refl)
 allowed-exact (e ∷ es) =
     both-exact (not (eqb (e % 4) 0) && (not (entryWrites e) || ltb (entryCell e) maxKeys)) (entriesAllowed es)

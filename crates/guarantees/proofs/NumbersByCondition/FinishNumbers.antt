@@ -1,17 +1,16 @@
 -- The number of a step that ends a call, by the numbers that the calls waiting for it carry: when it is 20, exactly, and what it leaves of them.
 use mathlib.Core.Path.{_≡_, refl, sym, ap, _∙_}
-use mathlib.Core.Bool.{Bool, true, false, _&&_, _||_, not}
+use mathlib.Core.Bool.{Bool, true, false, _&&_, not}
 use mathlib.Core.List.{List}
-use Prim.Native.Nat.{ℕ, _-_, _*_, _≤_, _<_}
+use Prim.Native.Nat.{ℕ, _*_, _≤_, _<_}
 use native.Mathlib.Omega.{arith}
 use borrow.Author.Tests.{not-false}
 use lib.Dec.{eqb, leb, ltb}
 use lib.IntN.{ℤ}
 use lib.ListN.{length}
-use Rattle.arith.specs.Choice.{if_then_else_}
 use Rattle.arith.proofs.ChoiceLaws.{if-all}
 use Rattle.machine.specs.Run.{Run, sizesOf, waitCount, withReceipt}
-use Rattle.machine.specs.Waits.{namedIn, waitsFor, lowerOne, waitsLowerable, waitsLowered}
+use Rattle.machine.specs.Waits.{namedIn, waitsFor, loweredIf, lowerOne, lowerableIf, waitsLowerable, waitsLowered}
 use Rattle.machine.specs.Step.{done}
 use Rattle.machine.specs.Moves.{Moved, stepped}
 use Rattle.machine.specs.declared.Answer.the-variants as answer
@@ -37,7 +36,7 @@ module _ (r : Run) (call : ℕ) where
   unfolding waitsLowerable
   lowerable-exact =
       all-exact (waitsLowerable (r .plan) (r .status) call)
-      (λ later. not (waitsFor (r .plan) call later) || (not (eqb (waitCount (r .status) later) 0) && leb (waitCount (r .status) later) later))
+      (λ later. lowerableIf (waitsFor (r .plan) call later) later (waitCount (r .status) later))
       (λ later. WaitsFor r call later → InRange later) refl (λ n. refl)
       (λ later. under-exact (waitsFor (r .plan) call later) (not (eqb (waitCount (r .status) later) 0) && leb (waitCount (r .status) later) later)
       (for-exact later)
@@ -78,7 +77,8 @@ module _ (r : Run) (call : ℕ) where
           ∙ each-new (lowerOne (r .plan) call) received (r .head .calls) later own (omega (arith, few))
           ∙ ap (lowerOne (r .plan) call later) (receipt-wait (r .status) call outcome count later)
 
-      by-name : (t : Bool) → waitsFor (r .plan) call later ≡ t → lowerOne (r .plan) call later (waitCount (r .status) later) ≡ (if t then waitCount (r .status) later - 1 else waitCount (r .status) later)
+      by-name : (t : Bool) → waitsFor (r .plan) call later ≡ t
+          → lowerOne (r .plan) call later (waitCount (r .status) later) ≡ loweredIf t (waitCount (r .status) later)
       by-name t e = rw e
 
       unnamed : (t : Bool) → waitsFor (r .plan) call later ≡ t → (WaitsFor r call later → ⊥) → t ≡ false

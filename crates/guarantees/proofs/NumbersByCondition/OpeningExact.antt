@@ -10,16 +10,18 @@ use lib.ListN.{length, length-map}
 use Rattle.block.specs.Limits.{maxCallKeys, maxKeys}
 use Rattle.block.specs.Record.{Function, Block, callRecordBytes}
 use Rattle.block.specs.Reader.{readBlock}
-use Rattle.block.specs.Encoding.{All, AreBytes, Contents, blockFor, ReaderExact}
+use Rattle.wire.specs.All.{All}
+use Rattle.block.specs.Encoding.{AreBytes, Contents, blockFor, ReaderExact}
 use Rattle.block.specs.declared.Call.{Call}
 use Rattle.block.specs.declared.Refusal.{Refusal}
 use Rattle.block.specs.declared.Verdict.the-variants as verdict
 use Rattle.footprint.specs.Access.{Access}
 use Rattle.footprint.specs.Sets.{setsOf}
 use Rattle.footprint.specs.Table.{analysed, refused, analyse, insertKeys}
-use Rattle.analysis.specs.LayoutOfBlock.{allSets, openingKeys, analysisOf}
-use Rattle.analysis.proofs.CollectedLaws.{analyse-over, analyse-full, analyse-next}
-use Rattle.analysis.proofs.TableLaws.{inserts-length}
+use Rattle.footprint.specs.BlockSets.{allSets, analysisOf}
+use Rattle.block.specs.BlockOfFile.{openingKeys}
+use Rattle.footprint.proofs.AnalysedLaws.{analyse-over, analyse-full, analyse-next}
+use Rattle.footprint.proofs.TableLaws.{inserts-length}
 use Rattle.machine.specs.Run.{Sizes}
 use Rattle.machine.specs.Opening.{openingOf}
 use Rattle.guarantees.specs.Demand1.{Exactly, Openable, keysTogether}
@@ -48,7 +50,7 @@ module _ (file : List ℕ) (functions : List Function) where
   -- Within the limits the analysis gives all sets and the table of all keys.
   analyse-whole : (cs : List Call) (at : ℕ) (before : List (List Access)) (table : List ℕ) → SetsWithin (own cs) table
       → analyse file functions cs at before table ≡ analysed (before ++ own cs) (keysTogether table (own cs))
-  unfolding analyse keysTogether All
+  unfolding analyse keysTogether
   analyse-whole [] at before table w = ap (λ (sets : List (List Access)). analysed sets table) (sym (append-nil before))
   analyse-whole (c ∷ cs) at before table w =
       let es : List Access = setsOf file functions c in
@@ -62,7 +64,7 @@ module _ (file : List ℕ) (functions : List Function) where
   -- It refuses nothing only within the limits.
   analyse-within : (cs : List Call) (at : ℕ) (before : List (List Access)) (table : List ℕ) (sets : List (List Access)) (keys : List ℕ)
       → length table ≤ maxKeys → analyse file functions cs at before table ≡ analysed sets keys → SetsWithin (own cs) table
-  unfolding keysTogether All
+  unfolding keysTogether
   analyse-within [] at before table sets keys few e = record { each = tt; together = few }
   analyse-within (c ∷ cs) at before table sets keys few e =
       go (ltb maxCallKeys (length es)) refl (ltb maxKeys (length next)) refl

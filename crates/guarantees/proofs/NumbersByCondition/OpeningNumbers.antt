@@ -22,8 +22,9 @@ use Rattle.footprint.specs.Sets.{setsOf}
 use Rattle.footprint.specs.Plan.{Prepared, unprepared, prepareAnalysed, prepareRead}
 use Rattle.footprint.specs.Table as table
 use Rattle.footprint.specs.Table.{Analysis, analyse, insertKeys}
-use Rattle.analysis.specs.LayoutOfBlock.{allSets, openingKeys, analysisOf}
-use Rattle.analysis.proofs.CollectedLaws.{analyse-over, analyse-full, analyse-next}
+use Rattle.footprint.specs.BlockSets.{allSets, analysisOf}
+use Rattle.block.specs.BlockOfFile.{openingKeys}
+use Rattle.footprint.proofs.AnalysedLaws.{analyse-over, analyse-full, analyse-next}
 use Rattle.machine.specs.Run.{Sizes, roomIn, largeEnough}
 use Rattle.machine.specs.Opening.{Opened, refusedRun, openPrepared, openingOf}
 use Rattle.guarantees.specs.Demand1.{Exactly, Large, keysTogether, KeysBefore, Over24, Over1024, Before1, OpeningRefuses}

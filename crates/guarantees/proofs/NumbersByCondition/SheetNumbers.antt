@@ -1,15 +1,14 @@
 -- The number of the sheet: when it is written and which answer refuses it, exactly, and that a refusal leaves the output as it was.
-use mathlib.Core.Path.{_≡_, refl, ap, subst, subst⁻¹, _∙_}
+use mathlib.Core.Path.{_≡_, refl, ap, subst, _∙_}
 use mathlib.Core.Bool.{true, _&&_, _||_, not}
 use mathlib.Core.List.{List}
 use Prim.Native.Nat.{ℕ, _≤_, _<_}
-use borrow.Author.Tests.{ltb-true, ltb-false, lt-ltb, le-ltb, not-true, not-false}
+use borrow.Author.Tests.{lt-ltb, le-ltb}
 use lib.Dec.{eqb, leb, ltb}
 use lib.IntN.{ℤ}
 use lib.ListN.{length}
 use lib.Signed.{nonNeg}
 use Rattle.arith.specs.Choice.{if_then_else_}
-use Rattle.arith.proofs.ChoiceLaws.{if-all, neither}
 use Rattle.block.specs.Limits.{maxCalls, maxKeys}
 use Rattle.block.specs.Outcomes.{lastOutcome, maxCount}
 use Rattle.machine.specs.Run.{Run, sizesOf, largeEnough, statusWord, stateOf, isState, finished}
@@ -19,6 +18,7 @@ use Rattle.machine.specs.declared.Answer.the-variants as answer
 use Rattle.sheet.specs.Sheet.{Closed, fieldOf, sheetRecords, sheetBytes, offsetBehind, statesAllowed, allFinished, receiptsAllowed, balancesAllowed, unwritten, filled, writtenIf, written, sheetOf}
 use Rattle.sheet.specs.declared.Closing.{Closing}
 use Rattle.sheet.specs.declared.Closing.the-variants.{Written, Refused}
+use Rattle.sheet.proofs.SheetTests.{FoundBefore27, FoundBefore28, sheet-each}
 use Rattle.guarantees.specs.Demand1.{Exactly, CallFinished, Before27, Before28, SheetRefuses, Writable}
 use Rattle.guarantees.proofs.NumbersByCondition.ExactTests.{itself, leb-exact, eqb-exact, both-exact, under-exact, TestsAll, all-exact}
 use Rattle.guarantees.proofs.AcceptedOpening.OpeningPassed.{large-sizes, sizes-large}
@@ -136,55 +136,33 @@ module _ (r : Run) (output : List ℕ) where
   given-whole b =
       sheet-written (b .so-far) (λ c l. (b .outcomes c l, b .counts c l)) ∙ rw (le-ltb (length output) (length (sheetBytes r)) (b .fits))
 
-  -- From each number on, the sheet says what it should.
-  damaged : SheetTold r output (unwritten output answer.Damaged)
-  damaged = record { told = (refl, λ d. absurd (d refl)) }
-
-  told-28 : Before28 r → SheetTold r output from28
-  unfolding writtenIf
-  told-28 b =
-      if-all (SheetTold r output) (ltb (length output) (length (sheetBytes r)))
-      (λ e. record { told = (refl, λ d. (b, ltb-true (length output) (length (sheetBytes r)) e)) })
-      λ e.
-      if-all (SheetTold r output) (receiptsAllowed (r .status) (r .head .calls))
-      (λ f.
-      let receipts = receipts-exact (r .status) (r .head .calls) .every .0 f in
+  -- What the tests found, in the words of the statement; and with it the sheet says what it should.
+  before-27 : FoundBefore27 r → Before27 r
+  before-27 b =
       record {
-        told =
-            record {
-              so-far = b;
-              fits = ltb-false (length output) (length (sheetBytes r)) e;
-              outcomes = λ c l. receipts c l .0;
-              counts = λ c l. receipts c l .1;
-            };
-      })
-      (λ f. damaged)
+        large = large-sizes (sizesOf r) (b .large);
+        calls = b .calls;
+        states = states-exact (r .status) (r .head .calls) .every .0 (b .states);
+      }
 
-  told-27 : Before27 r → SheetTold r output from27
-  told-27 b =
-      if-all (SheetTold r output) (not (allFinished (r .status) (r .head .calls)))
-      (λ e. record { told = (refl, λ d. (b, finished-exact (r .status) (r .head .calls) .one .0 (not-true (allFinished (r .status) (r .head .calls)) e))) })
-      λ e.
-      if-all (SheetTold r output) (ltb maxKeys (r .head .cells)) (λ f. damaged) λ f.
-      if-all (SheetTold r output) (not (balancesAllowed (r .keys) (r .cells) (r .head .cells))) (λ g. damaged) λ g.
-      told-28 record {
-        so-far = b;
-        finished = finished-exact (r .status) (r .head .calls) .every .0 (not-false (allFinished (r .status) (r .head .calls)) e);
-        cells = ltb-false maxKeys (r .head .cells) f;
-        balances = balances-exact (r .keys) (r .cells) (r .head .cells) .every .0 (not-false (balancesAllowed (r .keys) (r .cells) (r .head .cells)) g);
+  before-28 : FoundBefore28 r → Before28 r
+  before-28 b =
+      record {
+        so-far = before-27 (b .so-far);
+        finished = finished-exact (r .status) (r .head .calls) .every .0 (b .finished);
+        cells = b .cells;
+        balances = balances-exact (r .keys) (r .cells) (r .head .cells) .every .0 (b .balances);
       }
 
   sheet-told : SheetTold r output (sheetOf r output)
   sheet-told =
-      subst⁻¹ (SheetTold r output) sheet-is
-      (if-all (SheetTold r output) (not (largeEnough (sizesOf r)) || ltb maxCalls (r .head .calls)) (λ e. damaged) λ e.
-      let few = neither (not (largeEnough (sizesOf r))) (ltb maxCalls (r .head .calls)) e in
-      if-all (SheetTold r output) (not (statesAllowed (r .status) (r .head .calls))) (λ f. damaged) λ f.
-      told-27 record {
-        large = large-sizes (sizesOf r) (not-false (largeEnough (sizesOf r)) (few .0));
-        calls = ltb-false maxCalls (r .head .calls) (few .1);
-        states = states-exact (r .status) (r .head .calls) .every .0 (not-false (statesAllowed (r .status) (r .head .calls)) f);
-      })
+      sheet-each (SheetTold r output) r output
+      record { told = (refl, λ d. absurd (d refl)) }
+      (λ b e. record { told = (refl, λ d. (before-27 b, finished-exact (r .status) (r .head .calls) .one .0 e)) })
+      (λ b e. record { told = (refl, λ d. (before-28 b, e)) })
+      λ b fits e.
+      let receipts = receipts-exact (r .status) (r .head .calls) .every .0 e in
+      record { told = record { so-far = before-28 b; fits = fits; outcomes = λ c l. receipts c l .0; counts = λ c l. receipts c l .1 } }
 
   found : (k : Closing) → sheetOf r output .answer ≡ k → ClosingTold r output (sheetOf r output .output) k
   found k e = subst (ClosingTold r output (sheetOf r output .output)) e (sheet-told .told)

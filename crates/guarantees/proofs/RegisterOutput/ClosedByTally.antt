@@ -15,7 +15,7 @@ use Rattle.machine.specs.declared.Answer.the-variants.{CallUnfinished}
 use Rattle.sheet.specs.Sheet.{sheetRecords, sheetBytes, offsetBehind, Closed, unwritten, filled, sheetOf, maxSheet}
 use Rattle.console.specs.Register.{Session, maxInput}
 use Rattle.console.specs.declared.Line.the-variants.{Empty}
-use Rattle.analysis.specs.LayoutOfBlock.{callCount}
+use Rattle.block.specs.BlockOfFile.{callCount}
 use Rattle.guarantees.specs.BlockTally.{tallyAfter}
 use Rattle.guarantees.specs.Agreement.{openedIn, runAfterMoves, serialRunOfFile}
 use Rattle.guarantees.specs.Demand3.{Demand3}

@@ -1,22 +1,21 @@
 -- The sheet fits REGISTER's output, and stands there whole.
 use mathlib.Core.Path.{_≡_, refl, ap, subst}
-use mathlib.Core.Bool.{Bool, _||_, not}
+use mathlib.Core.Bool.{Bool}
 use mathlib.Core.List.{List, [], flatten}
 use Prim.Native.Nat.{ℕ, _≤_}
 use native.Mathlib.Omega.{arith}
-use borrow.Author.Tests.{le-ltb, ltb-false}
-use lib.Dec.{ltb}
+use borrow.Author.Tests.{le-ltb}
 use lib.ListN.{length, take, length-replicate}
 use Rattle.arith.specs.Choice.{if_then_else_}
-use Rattle.arith.proofs.ChoiceLaws.{if-all}
 use Rattle.wire.specs.Bytes.{repeated}
 use Rattle.block.specs.Limits.{maxCalls, maxKeys}
-use Rattle.machine.specs.Run.{Run, sizesOf, largeEnough}
+use Rattle.machine.specs.Run.{Run}
 use Rattle.machine.specs.declared.Answer.{Answer}
 use Rattle.machine.specs.declared.Answer.the-variants.{SheetTooLong}
-use Rattle.sheet.specs.Sheet.{sheetRecords, sheetBytes, offsetBehind, statesAllowed, allFinished, receiptsAllowed, balancesAllowed, Closed, unwritten, filled, writtenIf, written, sheetOf, maxSheet}
+use Rattle.sheet.specs.Sheet.{sheetRecords, sheetBytes, offsetBehind, Closed, unwritten, filled, writtenIf, written, sheetOf, maxSheet}
 use Rattle.sheet.proofs.RecordLists.{joined-length, front-whole}
 use Rattle.sheet.proofs.SheetRecords.{cells-few, sheet-lengths}
+use Rattle.sheet.proofs.SheetTests.{sheet-all}
 use Rattle.console.specs.SheetBytes.{closingBytes}
 
 pub sheet-at-most : (r : Run) → r .head .calls ≤ maxCalls → r .head .cells ≤ maxKeys → length (sheetBytes r) ≤ maxSheet
@@ -57,12 +56,4 @@ module _ (r : Run) where
   filled-whole fits some = sheet-front (sheetRecords r) (subst (λ (n : ℕ). length (sheetBytes r) ≤ n) (zeros-length maxSheet) fits)
 
   pub close-whole : Whole (sheetOf r room)
-  unfolding sheetOf writtenIf
-  close-whole =
-      if-all Whole (not (largeEnough (sizesOf r)) || ltb maxCalls (r .head .calls)) (λ e. none-whole _) (λ e.
-      if-all Whole (not (statesAllowed (r .status) (r .head .calls))) (λ e. none-whole _) (λ e.
-      if-all Whole (not (allFinished (r .status) (r .head .calls))) (λ e. none-whole _) (λ e.
-      if-all Whole (ltb maxKeys (r .head .cells)) (λ e. none-whole _) (λ e.
-      if-all Whole (not (balancesAllowed (r .keys) (r .cells) (r .head .cells))) (λ e. none-whole _) (λ e.
-      if-all Whole (ltb (length room) (length (sheetBytes r))) (λ e. none-whole _) (λ e.
-      if-all Whole (receiptsAllowed (r .status) (r .head .calls)) (λ f. filled-whole (ltb-false (length room) (length (sheetBytes r)) e)) (λ f. none-whole _)))))))
+  close-whole = sheet-all Whole r room none-whole (λ b. filled-whole)

@@ -16,7 +16,7 @@ use Rattle.schedule.proofs.Simulation.{opening-agrees, play-agrees}
 use Rattle.schedule.proofs.Confluence.{confluence}
 use Rattle.schedule.specs.Confluent.{tally, machine, since, Confluent}
 use Rattle.block.specs.Encoding.{AreBytes}
-use Rattle.analysis.specs.LayoutOfBlock.{callCount}
+use Rattle.block.specs.BlockOfFile.{callCount}
 use Rattle.machine.specs.Run.{Sizes}
 use Rattle.machine.specs.Serial.{serialSteps}
 use Rattle.machine.specs.Moves.{answersOf}

@@ -11,12 +11,12 @@ use Rattle.footprint.specs.Sets.{setsOf, writeSet}
 use Rattle.footprint.specs.Conflict.{member}
 use Rattle.footprint.specs.Table.{cellNumber}
 use Rattle.footprint.specs.Plan.{entryWord, tableWords, entryWrites}
-use Rattle.analysis.specs.KeyTable.{keyAt}
-use Rattle.analysis.proofs.TableLaws.{member-at, cell-at}
-use Rattle.analysis.proofs.TableWords.{keys-at, keys-padded}
-use Rattle.analysis.specs.Masks.{AllListed}
-use Rattle.analysis.proofs.MaskLaws.{listed-keys, uses-writes}
-use Rattle.analysis.specs.LayoutOfBlock.{blockOf, callCount}
+use Rattle.footprint.specs.KeyWords.{keyAt}
+use Rattle.footprint.proofs.TableLaws.{member-at, cell-at}
+use Rattle.footprint.proofs.TableWordLaws.{keys-at, keys-padded}
+use Rattle.footprint.specs.Listed.{AllListed}
+use Rattle.footprint.proofs.EntryLaws.{listed-keys, uses-writes}
+use Rattle.block.specs.BlockOfFile.{blockOf, callCount}
 use Rattle.machine.specs.Run.{Run, Sizes}
 use Rattle.machine.specs.declared.Head.{Head}
 use Rattle.guarantees.specs.Agreement.{mayWrite}

@@ -23,7 +23,8 @@ use Rattle.block.specs.Encoding.{AreBytes}
 use Rattle.footprint.specs.Table as table
 use Rattle.footprint.specs.Table.{Analysis}
 use Rattle.footprint.specs.Plan.{Room, Prepared, roomEnough, prepareAnalysed, prepareRead, tableWords, openingValue}
-use Rattle.analysis.specs.LayoutOfBlock.{blockOf, allSets, analysisOf, callCount}
+use Rattle.block.specs.BlockOfFile.{blockOf, callCount}
+use Rattle.footprint.specs.BlockSets.{allSets, analysisOf}
 use Rattle.schedule.specs.Calls as calls
 use Rattle.machine.specs.Run.{Run, Sizes, fixedSizes, roomIn, largeEnough}
 use Rattle.machine.specs.Opening.{refusedRun, openPrepared, openingOf}

@@ -20,10 +20,10 @@ use Rattle.footprint.specs.Plan.{openingValue}
 use Rattle.rule.specs.Rule.{State, Left, transaction, transactions, stateLeft}
 use Rattle.footprint.specs.Sets.{readSet, writeSet}
 use Rattle.footprint.specs.Table.{cellNumber}
-use Rattle.analysis.specs.KeyTable.{keyAt, keysIn, RisingKeys}
-use Rattle.analysis.specs.Masks.{AllListed}
-use Rattle.analysis.proofs.TableLaws.{member-at, cell-lt, number-key, cell-at}
-use Rattle.analysis.proofs.TableWords.{keys-length, keys-at}
+use Rattle.footprint.specs.KeyWords.{keyAt, keysIn, RisingKeys}
+use Rattle.footprint.specs.Listed.{AllListed}
+use Rattle.footprint.proofs.TableLaws.{member-at, cell-lt, number-key, cell-at}
+use Rattle.footprint.proofs.TableWordLaws.{keys-length, keys-at}
 use Rattle.machine.specs.CallInRun.{Hold, LeavesAsRule}
 use Rattle.machine.specs.Step.{View, Stepped, damaged, more, done, cellAt, stepCall}
 use Rattle.guarantees.proofs.CallsOfRun.ViewCalls.{pointOf}

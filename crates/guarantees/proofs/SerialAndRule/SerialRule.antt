@@ -9,7 +9,7 @@ use native.Mathlib.Omega.{arith}
 use borrow.Author.Tests.{eqb-true}
 use lib.Dec.{eqb}
 use lib.IntN.{ℤ}
-use lib.ListN.{length, getD, getElem?, take, drop}
+use lib.ListN.{length, getD, getElem?, drop}
 use Rattle.schedule.specs.Calls as calls
 use Rattle.schedule.specs.Calls.{Calls, done, trace, whole, alone, serial}
 use Rattle.block.specs.Record.{Function, Block, headBytes, callRecordBytes, callOf}
@@ -25,8 +25,8 @@ use Rattle.footprint.specs.Plan.{openingValue}
 use Rattle.rule.specs.Rule.{State, stateWithinLimit, Left, stepsFor, transaction, transactions, stateLeft}
 use Rattle.footprint.proofs.RuleLimit.{read-call-bounded, limit-kept}
 use Rattle.footprint.specs.SafeSets.{CallBounded}
-use Rattle.analysis.specs.LayoutOfBlock.{blockOf}
-use Rattle.analysis.specs.Masks.{AllListed}
+use Rattle.block.specs.BlockOfFile.{blockOf}
+use Rattle.footprint.specs.Listed.{AllListed}
 use Rattle.machine.specs.Run.{Run, Sizes}
 use Rattle.machine.specs.declared.Head.{Head}
 use Rattle.machine.specs.Opening.{openingOf}
@@ -76,15 +76,7 @@ module _ (file : List ℕ) (functions : List Function) where
   left-listed (x ∷ xs) σ (suc c) h = left-listed xs (transaction file functions x σ .state) c (omega arith)
 
 module _ (file : List ℕ) (functions : List Function) where
-  -- The state after c transactions is what the first c of the fold leave, and after all of them what the fold leaves.
-  pub state-left : (calls : List Call) (σ : State) (c : ℕ)
-      → stateAfter file functions calls σ c ≡ stateLeft σ (take c (transactions file functions calls σ))
-  unfolding stateAfter stateLeft transactions
-  state-left [] σ zero = refl
-  state-left [] σ (suc c) = refl
-  state-left (x ∷ xs) σ zero = refl
-  state-left (x ∷ xs) σ (suc c) = state-left xs (transaction file functions x σ .state) c
-
+  -- The state after all transactions is what the fold leaves.
   pub state-last : (calls : List Call) (σ : State)
       → stateAfter file functions calls σ (length calls) ≡ stateLeft σ (transactions file functions calls σ)
   unfolding stateAfter stateLeft transactions

@@ -3,7 +3,6 @@ use mathlib.Core.Path.{_≡_}
 use mathlib.Core.Bool.{Bool, true}
 use mathlib.Core.List.{List}
 use Prim.Native.Nat.{ℕ, _≤_, _<_}
-use Rattle.wire.specs.Bytes.{below}
 use Rattle.schedule.specs.declared.Move.{Move}
 use Rattle.schedule.specs.declared.Move.the-variants.{Begin, Step, Cancel}
 use Rattle.schedule.specs.Calls as calls
@@ -13,7 +12,7 @@ use Rattle.schedule.proofs.Expected.{ClosedUnderEarlier}
 use Rattle.block.specs.Encoding.{AreBytes}
 use Rattle.machine.specs.Run.{Run, Sizes}
 use Rattle.machine.specs.Step.{stepCall}
-use Rattle.machine.specs.Serial.{runCalls, serialRun, serialRunOf, serialSteps}
+use Rattle.machine.specs.Serial.{serialRun, serialRunOf, serialSteps}
 use Rattle.guarantees.proofs.CallsOfRun.ViewCalls.{placeWithSaved, runView}
 use Rattle.guarantees.proofs.CallsOfRun.ViewLawful.{view-lawful}
 use Rattle.guarantees.proofs.AcceptedOpening.AfterOpening.{AfterOpening}
@@ -22,8 +21,8 @@ use Rattle.guarantees.proofs.FollowingMachine.MoveMatches.{move-matches
 use Rattle.guarantees.specs.Agreement.{serialPointAfter}
 use Rattle.guarantees.proofs.SerialAndRule.ChosenRun.{ran, underway}
 use Rattle.guarantees.proofs.SerialAndRule.SerialRule.{serial-follows}
-use Rattle.guarantees.proofs.SerialAndRule.SerialRun.{MoveSound, SeriallyWhole, MovesMatch, undamaged, serial-run, serial-stepped, serial-steps, serial-run-all, chosen-run-all}
-use Rattle.analysis.specs.LayoutOfBlock.{callCount}
+use Rattle.guarantees.proofs.SerialAndRule.SerialRun.{MoveSound, SeriallyWhole, MovesMatch, undamaged, serial-stepped, serial-steps, serial-run-all, chosen-run-all}
+use Rattle.block.specs.BlockOfFile.{callCount}
 use Rattle.guarantees.specs.BlockTally.{isBefore}
 
 -- A move whose step is not broken in the machine does not find the run damaged.
@@ -64,14 +63,6 @@ module _ (s : Sizes) (file : List ℕ) (workers : ℕ) (bytes : AreBytes file) (
       (serialRun file (openedRun s file workers))
   serially-matches =
       serial-run-all file workers n (isBefore file) r₀ (base s file workers after) opened-laws opened-good (opening-matches s file workers after)
-      opened-moves opened-whole
-
-  -- The serial run of the calls below c.
-  pub partly-matches : (c : ℕ) → c ≤ callCount file
-      → OpenedMatches s file workers (ran (openedCalls s file workers) (openedRun s file workers .cells) (λ i. true) c)
-      (runCalls file (openedRun s file workers) (below c))
-  partly-matches =
-      serial-run file workers n (isBefore file) r₀ (base s file workers after) opened-laws opened-good (opening-matches s file workers after)
       opened-moves opened-whole
 
   -- "only they are begun": the picked calls, which hold with each of them its earlier conflicting calls.

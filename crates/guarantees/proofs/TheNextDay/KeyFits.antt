@@ -9,6 +9,7 @@ use native.Mathlib.Omega.{arith}
 use borrow.Author.Tests.{le-ltb, eqb-true, ne-eqb}
 use lib.Dec.{eqb, ltb, lit<}
 use lib.ListN.{length, getD, drop}
+use Rattle.wire.specs.All.{All}
 use Rattle.block.specs.Key.{firstContract, addressOf, keyOf, addressIn, fieldIn, aIn, bIn, accountBalance, contractBalance, keyAllowed}
 use Rattle.block.proofs.BodyLaws.{cell-keeps}
 use Rattle.block.specs.Encoding.{CellKeeps, AreBytes}
@@ -36,10 +37,11 @@ use Rattle.footprint.proofs.SetLaws as sets
 use Rattle.footprint.proofs.SetLaws.{code-each}
 use Rattle.footprint.specs.Sets.{decodedAccesses, functionSets, setsOf, accessKeys}
 use Rattle.footprint.specs.Table.{analysed, refused, analyse, insertKeys}
-use Rattle.footprint.specs.Uses.{Keyed}
-use Rattle.analysis.proofs.CollectedLaws.{analyse-over, analyse-full, analyse-next}
-use Rattle.analysis.specs.LayoutOfBlock.{openingKeys, blockOf, allSets}
-use Rattle.analysis.proofs.TableLaws.{member-inserts}
+use Rattle.footprint.specs.Listed.{Keyed}
+use Rattle.footprint.proofs.AnalysedLaws.{analyse-over, analyse-full, analyse-next}
+use Rattle.block.specs.BlockOfFile.{openingKeys, blockOf}
+use Rattle.footprint.specs.BlockSets.{allSets}
+use Rattle.footprint.proofs.TableLaws.{member-inserts}
 use Rattle.machine.specs.Run.{Sizes}
 use Rattle.guarantees.proofs.AcceptedOpening.AfterOpening.{AfterOpening}
 
@@ -119,24 +121,24 @@ module _ (c : Call) (fits : CallBounded c) where
       cell-fits (c .contract .0) field (sourceValue c a) (sourceValue c b) (fits .ranges .contract) (h .below)
       (source-below c a (fits .ranges) (h .first)) (source-below c b (fits .ranges) (h .second)) (fits .contract) (h .above)
 
-  instr-fits : (i : Instr) → InstrSound i → sets.EachAccess (Keyed KeyFits) (accesses c i)
+  instr-fits : (i : Instr) → InstrSound i → All (Keyed KeyFits) (accesses c i)
   instr-fits i h =
       accesses-keyed c KeyFits own-fits account-fits i
       (λ x field a b e.
       ⊎-elim (λ g. named-fits field a b (subst InstrSound g h)) (λ p. named-fits field a b (subst InstrSound p h)) e)
 
-  decoded-fits : (d : Decoded) → Decodes InstrSound d → sets.EachAccess (Keyed KeyFits) (decodedAccesses c d)
+  decoded-fits : (d : Decoded) → Decodes InstrSound d → All (Keyed KeyFits) (decodedAccesses c d)
   decoded-fits (Valid i) h = instr-fits i h
   decoded-fits Invalid h = tt
 
-  sets-fit : (block : List ℕ) → AreBytes block → (f : Option Function) → sets.EachAccess (Keyed KeyFits) (functionSets block c f)
+  sets-fit : (block : List ℕ) → AreBytes block → (f : Option Function) → All (Keyed KeyFits) (functionSets block c f)
   sets-fit block h f =
       sets-keyed c KeyFits own-fits account-fits (balance-fits (c .sender .0) (fits .ranges .sender)) block f
       (λ g. code-each (Keyed KeyFits) AreBytes (drop-bytes instrBytes) c (g .size)
       (λ s q. decoded-fits (decode (g .size) s) (decode-fits (g .size) s q)) (g .size)
       (codeAt block (g .start) (g .size)) (take-bytes (instrBytes * g .size) (drop (g .start) block) (drop-bytes (g .start) block h)))
 
-keyed-hold : (K : ℕ → Type 0) (es : List Access) → sets.EachAccess (Keyed K) es → HoldsOfAll K (accessKeys es)
+keyed-hold : (K : ℕ → Type 0) (es : List Access) → All (Keyed K) es → HoldsOfAll K (accessKeys es)
 keyed-hold K [] all = holds-none K
 keyed-hold K (e ∷ es) all = holds-cons K (e .key) (accessKeys es) (all .0 .keyed) (keyed-hold K es (all .1))
 

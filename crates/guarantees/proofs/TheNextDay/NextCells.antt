@@ -17,7 +17,8 @@ use Rattle.arith.proofs.ChoiceLaws.{both}
 use Rattle.arith.specs.Compare.{eqZ}
 use Rattle.arith.proofs.IntegerLaws.{posPart, clash, eqZ-true, eqZ-false}
 use Rattle.block.specs.Key.{addressOf, addressIn, fieldIn, aIn, bIn, isBalance, keyAllowed}
-use Rattle.block.specs.Encoding.{All, Ascending, CellKeeps, CellsKeep}
+use Rattle.wire.specs.All.{All}
+use Rattle.block.specs.Encoding.{Ascending, CellKeeps, CellsKeep}
 use Rattle.block.proofs.KeyLaws.{key-parts}
 use Rattle.block.specs.Limits.{maxCells}
 use Rattle.block.specs.Record.{Cell}
@@ -28,7 +29,7 @@ use Rattle.footprint.specs.Conflict.{member}
 use Rattle.rule.proofs.LimitLaws.{balanceKey, balances-at, limit-balance}
 use Rattle.footprint.specs.Plan.{openingValue}
 use Rattle.rule.specs.Rule.{State, balancesIn, stateWithinLimit}
-use Rattle.analysis.specs.KeyTable.{Above, RisingKeys}
+use Rattle.footprint.specs.KeyWords.{Above, RisingKeys}
 use Rattle.guarantees.proofs.TheNextDay.KeyFits.{KeyFits, HoldsOfAll, holds-none, holds-cons}
 use Rattle.guarantees.proofs.AcceptedOpening.OpeningLimit.{total-first}
 
@@ -139,7 +140,7 @@ kept-cell σ k own e =
     }
 
 cells-each : (σ : State) (table : List ℕ) → HoldsOfAll (KeptCell σ) table → All CellKeeps (cellsOfState σ table)
-unfolding cellsOfState All
+unfolding cellsOfState
 cells-each σ [] all = tt
 cells-each σ (k ∷ ks) all =
     let own : KeptCell σ k = holds-first (KeptCell σ) k ks all in

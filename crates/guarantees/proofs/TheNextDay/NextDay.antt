@@ -17,8 +17,8 @@ use Rattle.block.specs.Limits.{maxKeys}
 use Rattle.footprint.specs.Conflict.{member}
 use Rattle.footprint.specs.Plan.{highWord, lowWord, tableWords, openingValue}
 use Rattle.rule.specs.Rule.{State, stateWithinLimit}
-use Rattle.analysis.specs.KeyTable.{RisingKeys}
-use Rattle.analysis.proofs.TableLaws.{member-at, cell-at}
+use Rattle.footprint.specs.KeyWords.{RisingKeys}
+use Rattle.footprint.proofs.TableLaws.{member-at, cell-at}
 use Rattle.machine.specs.CallInRun.{Hold}
 use Rattle.machine.specs.Opening.{openingOf}
 use Rattle.machine.specs.Run.{Run, Sizes}

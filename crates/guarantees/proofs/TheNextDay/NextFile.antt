@@ -11,7 +11,8 @@ use Rattle.block.specs.Limits.{maxBytes, maxCallKeys, maxKeys}
 use Rattle.block.specs.Key.{addressIn, fieldIn, aIn, bIn}
 use Rattle.block.specs.Record.{Cell, Block, recordOf, functionKind, cellKind, callKind, endKind}
 use Rattle.block.specs.Reader.{readBlock}
-use Rattle.block.specs.Encoding.{Routine, Contents, functionRecord, cellRecord, callRecord, records, fileOf, AreBytes, All, CellKeeps, CellsKeep, FunctionFits, CellFits, CallFits, KeepsRules, Fits, HoldsContents, blockFor}
+use Rattle.block.specs.Encoding.{Routine, Contents, functionRecord, cellRecord, callRecord, records, fileOf, AreBytes, CellKeeps, CellsKeep, FunctionFits, CellFits, CallFits, KeepsRules, Fits, HoldsContents, blockFor}
+use Rattle.wire.specs.All.{All}
 use Rattle.block.proofs.EncodingLaws.{functionBody, cellBody, callBody}
 use Rattle.block.proofs.OneFile.{all-map, keeps-fits}
 use Rattle.block.proofs.ReaderExact.{reader-exact}
@@ -19,7 +20,8 @@ use Rattle.block.specs.declared.Call.{Call}
 use Rattle.block.specs.declared.Verdict.the-variants as verdict
 use Rattle.footprint.specs.Plan.{openingValue}
 use Rattle.rule.specs.Rule.{State}
-use Rattle.analysis.specs.LayoutOfBlock.{blockIn, blockOf, allSets, openingKeys}
+use Rattle.block.specs.BlockOfFile.{blockIn, blockOf, openingKeys}
+use Rattle.footprint.specs.BlockSets.{allSets}
 use Rattle.machine.specs.Opening.{openingOf}
 use Rattle.machine.specs.Run.{Run, Sizes}
 use Rattle.sheet.specs.Sheet.{cellRecords, nextFile}
@@ -50,7 +52,7 @@ record-bytes kind body h =
 
 records-bytes : {A : Type 0} (of : A → List ℕ) (P : A → Type 0) → ((x : A) → P x → AreBytes (of x)) → (xs : List A) → All P xs
     → AreBytes (records of xs)
-unfolding records All
+unfolding records
 records-bytes of P each [] all = λ i. lit< tt
 records-bytes of P each (x ∷ xs) all = bytes-append (of x) (records of xs) (each x (all .0)) (records-bytes of P each xs (all .1))
 

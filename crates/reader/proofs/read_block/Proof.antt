@@ -6,7 +6,7 @@ use Prim.Native.Nat.{_-_, _<_}
 use lib.ListN.{length, set, length-drop}
 use Rattle.wire.specs.Bytes.{repeated}
 use Rattle.reader.specs.Layout.{layoutOf}
-use Rattle.block.proofs.Laws.{to-the-end}
+use Rattle.wire.proofs.ListLaws.{to-the-end}
 use Rattle.reader.proofs.ReadingLaws.{ReadingOn, Advanced, long-file, reading-start, reading-more, going-room, going-function, reading-end}
 use Rattle.reader.proofs.read_block.Statement.{statement}
 use Rattle.reader.proofs.read_block.Tie as tie

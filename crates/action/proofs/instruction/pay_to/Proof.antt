@@ -2,7 +2,7 @@
 use borrow.Author.Needs.{needs}
 use lib.IntN.{ℤ, pos}
 use lib.Signed.{ltZ}
-use Rattle.block.proofs.Laws.{negative, not-negative}
+use Rattle.arith.proofs.IntegerLaws.{negative, not-negative}
 use Rattle.machine.specs.Action.{payAction}
 use Rattle.action.proofs.Laws.{test-read}
 use Rattle.arith.proofs.Laws.{read-back}

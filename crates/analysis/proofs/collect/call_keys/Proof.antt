@@ -6,7 +6,7 @@ use Prim.Native.Nat.{_+_, _-_, _*_, _≤_, _<_}
 use lib.ListN.{length}
 use Rattle.block.specs.Limits.{maxBytes}
 use Rattle.block.specs.Record.{callRecordBytes}
-use Rattle.analysis.specs.LayoutOfBlock.{blockOf}
+use Rattle.block.specs.BlockOfFile.{blockOf}
 use Rattle.analysis.proofs.CallLaws.{Collecting, collecting-start, going-place, set-worded, going-over, going-full, collecting-more, collecting-end, going-refused}
 use Rattle.analysis.proofs.collect.call_keys.Statement.{statement}
 use Rattle.analysis.proofs.collect.call_keys.Tie as tie

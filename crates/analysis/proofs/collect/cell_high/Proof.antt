@@ -2,7 +2,7 @@
 use Rattle.analysis.proofs.OpeningKeyLaws.{cell-high}
 use native.Mathlib.Omega.{arith}
 use borrow.Author.Needs.{needs}
-use Rattle.block.proofs.Laws.{high-named}
+use Rattle.decoder.proofs.Laws.{high-named}
 use Rattle.analysis.proofs.collect.cell_high.Statement.{statement}
 use Rattle.analysis.proofs.collect.cell_high.Tie as tie
 

@@ -2,7 +2,7 @@
 use native.Mathlib.Omega.{arith}
 use Prim.Native.Nat.{_-_, _≤_}
 use Rattle.block.specs.Limits.{maxKeys}
-use Rattle.analysis.specs.KeyTable.{keysIn}
+use Rattle.footprint.specs.KeyWords.{keysIn}
 use Rattle.analysis.proofs.PlanLoops.{EntriesTo, entries-none, entries-more, entries-all, place-few}
 use Rattle.analysis.proofs.plan.entries.Statement.{statement}
 use Rattle.analysis.proofs.plan.entries.Tie as tie

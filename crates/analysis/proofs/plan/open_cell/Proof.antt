@@ -2,7 +2,7 @@
 -- other.
 use borrow.Author.Needs.{needs}
 use Rattle.arith.proofs.Laws.{read-back}
-use Rattle.block.proofs.Laws.{high-named}
+use Rattle.decoder.proofs.Laws.{high-named}
 use Rattle.analysis.proofs.PlanLoops.{cell-stored}
 use Rattle.analysis.proofs.plan.open_cell.Statement.{statement}
 use Rattle.analysis.proofs.plan.open_cell.Tie as tie

@@ -4,10 +4,10 @@ use native.Mathlib.Omega.{arith}
 use mathlib.Core.Path.{_≡_, refl, _∙_}
 use Prim.Native.Nat.{_+_, _*_, _-_, _≤_}
 use lib.ListN.{length}
-use Rattle.analysis.specs.KeyTable.{keysIn}
-use Rattle.analysis.specs.LayoutOfBlock.{blockOf}
+use Rattle.footprint.specs.KeyWords.{keysIn}
+use Rattle.block.specs.BlockOfFile.{blockOf}
 use Rattle.analysis.proofs.PreparedLaws.{openedTo, values-opened-none, opened-turn, values-opened-all, opening-cell-within}
-use Rattle.analysis.proofs.TableWords.{keys-length}
+use Rattle.footprint.proofs.TableWordLaws.{keys-length}
 use Rattle.analysis.proofs.plan.opening_values.Statement.{statement}
 use Rattle.analysis.proofs.plan.opening_values.Tie as tie
 

@@ -1,5 +1,6 @@
 -- `analysis::plan::plan_call` meets its contract: each callee's answer is the part of the call's words that it is asked for.
-use Rattle.analysis.specs.Masks.{entryTouchesCell, maskRowWords}
+use Rattle.footprint.specs.EntryUses.{entryTouchesCell}
+use Rattle.analysis.specs.Masks.{maskRowWords}
 use Rattle.footprint.specs.Plan.{entryWrites}
 use Rattle.analysis.proofs.PlanLoops.{set-fitting, set-few, words-in-table, words-of-call, marks-of-call}
 use borrow.Author.Needs.{needs}

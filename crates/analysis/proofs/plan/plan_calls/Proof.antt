@@ -3,7 +3,7 @@ use native.Mathlib.Omega.{arith}
 use mathlib.Core.Path.{_≡_, refl, sym, _∙_}
 use Prim.Native.Nat.{ℕ, _-_, _≤_}
 use lib.ListN.{length, length-replicate}
-use Rattle.analysis.specs.KeyTable.{keysIn}
+use Rattle.footprint.specs.KeyWords.{keysIn}
 use Rattle.analysis.proofs.LayoutLaws.{laid-whole, laid-calls}
 use Rattle.analysis.proofs.PlanLaws.{PlannedTo, planned-none, planned-more, planned-all, complete}
 use Rattle.analysis.proofs.plan.plan_calls.Statement.{statement}

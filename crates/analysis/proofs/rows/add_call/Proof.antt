@@ -4,7 +4,8 @@ use native.Mathlib.Omega.{arith}
 use Prim.Native.Nat.{_≤_, _-_}
 use mathlib.Core.Path.{_≡_, refl, sym, _∙_}
 use lib.ListN.{length, take, drop}
-use Rattle.analysis.specs.Masks.{entryTouchesCell, addCallWords}
+use Rattle.footprint.specs.EntryUses.{entryTouchesCell}
+use Rattle.analysis.specs.Masks.{addCallWords}
 use Rattle.footprint.specs.Plan.{entryWrites}
 use Rattle.analysis.proofs.RowLoops.{entry-in, add-turn, add-end}
 use Rattle.analysis.proofs.rows.add_call.Statement.{statement}

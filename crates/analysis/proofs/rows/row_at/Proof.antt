@@ -1,62 +1,48 @@
--- `analysis::rows::row_at` meets its contract: the four words from the cell's first on are its row.
+-- `analysis::rows::row_at` meets its contract: the row's words stand in the buffer.
+use mathlib.Core.Path.{_∙_}
+use Prim.Native.Nat.{_+_, _-_, _*_}
+use native.Mathlib.Omega.{arith}
+use Rattle.wire.proofs.RowLaws.{row-part}
 use borrow.Author.Needs.{needs}
-use Rattle.analysis.proofs.RowLoops.{row-by-words}
 use Rattle.analysis.proofs.rows.row_at.Statement.{statement}
 use Rattle.analysis.proofs.rows.row_at.Tie as tie
 
 mul-at : tie.Need-mul-at
 mul-at c = search needs
 
-mul-t4 : tie.Need-mul-t4
-mul-t4 c = search needs
+add-end : tie.Need-add-end
+add-end c = search needs
 
-shared-slice-read-t6 : tie.Need-shared-slice-read-t6
-shared-slice-read-t6 c = search needs
+mul-row-from : tie.Need-mul-row-from
+mul-row-from c = search needs
 
-add-t7 : tie.Need-add-t7
-add-t7 c = search needs
+sub-row-from : tie.Need-sub-row-from
+sub-row-from c = search needs
 
-mul-t8 : tie.Need-mul-t8
-mul-t8 c = search needs
+part-row-from-start : tie.Need-part-row-from-start
+part-row-from-start c = search needs
 
-shared-slice-read-t10 : tie.Need-shared-slice-read-t10
-shared-slice-read-t10 c = search needs
+part-row-from-end : tie.Need-part-row-from-end
+part-row-from-end c = search needs
 
-add-t11 : tie.Need-add-t11
-add-t11 c = search needs
-
-mul-t12 : tie.Need-mul-t12
-mul-t12 c = search needs
-
-shared-slice-read-t14 : tie.Need-shared-slice-read-t14
-shared-slice-read-t14 c = search needs
-
-add-t15 : tie.Need-add-t15
-add-t15 c = search needs
-
-mul-t16 : tie.Need-mul-t16
-mul-t16 c = search needs
-
-shared-slice-read-t18 : tie.Need-shared-slice-read-t18
-shared-slice-read-t18 c = search needs
+row-from-requires : tie.Need-row-from-requires
+row-from-requires c κs = search needs
 
 returns : tie.Need-returns
-returns c = row-by-words (c .before .before .before .before .args .masks .now) (c .before .before .before .before .args .cell) (c .before .before .before .before .pre)
+returns c =
+    let s = c .before .before .before in
+    c .row-from .ensures
+    ∙ row-part (s .args .masks .now) (4 * s .args .cell) (4 * s .args .cell + 4 - 4 * s .args .cell) (omega arith) (omega (arith, s .pre))
 
 pub row-at-spec : {M : Type 1} → statement M
 row-at-spec =
     tie.close
     (tie.spec
     mul-at
-    mul-t4
-    shared-slice-read-t6
-    add-t7
-    mul-t8
-    shared-slice-read-t10
-    add-t11
-    mul-t12
-    shared-slice-read-t14
-    add-t15
-    mul-t16
-    shared-slice-read-t18
+    add-end
+    mul-row-from
+    sub-row-from
+    part-row-from-start
+    part-row-from-end
+    row-from-requires
     returns)

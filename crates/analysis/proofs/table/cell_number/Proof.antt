@@ -1,7 +1,7 @@
 -- `table::cell_number` meets its contract: in a rising table a cell's number is how many keys are below its key.
 use mathlib.Core.Path.{_∙_}
 use borrow.Author.Needs.{needs}
-use Rattle.analysis.proofs.TableLaws.{place-cell}
+use Rattle.analysis.proofs.PlaceLaws.{place-cell}
 use Rattle.analysis.proofs.table.cell_number.Statement.{statement}
 use Rattle.analysis.proofs.table.cell_number.Tie as tie
 

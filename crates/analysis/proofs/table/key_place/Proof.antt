@@ -2,7 +2,7 @@
 -- middle, and a stretch of none is the place.
 use mathlib.Core.Path.{sym, _∙_}
 use native.Mathlib.Omega.{arith}
-use Rattle.analysis.specs.KeyTable.{keyFrom}
+use Rattle.footprint.specs.KeyWords.{keyFrom}
 use Rattle.analysis.proofs.KeyWordLaws.{Between, between-all, between-upper, between-lower, mid-inside, mid-low}
 use Rattle.analysis.proofs.table.key_place.Statement.{statement}
 use Rattle.analysis.proofs.table.key_place.Tie as tie

@@ -1,5 +1,6 @@
 -- `library::run::open_for` meets its contract: behind the test of the head it is the opening.
-use Rattle.library.proofs.ExportLaws.{open-cleared, open-long}
+use Rattle.exports.proofs.LengthLaws.{open-long}
+use Rattle.library.proofs.ExportLaws.{open-cleared}
 use borrow.Author.Needs.{needs}
 use Rattle.library.proofs.run.open_for.Statement.{statement}
 use Rattle.library.proofs.run.open_for.Tie as tie

@@ -2,8 +2,8 @@
 use borrow.Author.Needs.{needs}
 use mathlib.Core.Path.{sym, ap, _∙_}
 use Rattle.footprint.specs.Access.{accesses}
-use Rattle.footprint.specs.Uses.{usesOf}
-use Rattle.footprint.proofs.AccessLaws.{others-none}
+use Rattle.key_uses.specs.Uses.{usesOf}
+use Rattle.key_uses.proofs.AccessLaws.{others-none}
 use Rattle.moves.proofs.place.step_uses.Statement.{statement}
 use Rattle.moves.proofs.place.step_uses.Tie as tie
 

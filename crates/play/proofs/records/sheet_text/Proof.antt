@@ -1,6 +1,6 @@
 -- `play::records::sheet_text` meets its contract: the records of the first bytes are written.
 use borrow.Author.Needs.{needs}
-use Rattle.block.proofs.Laws.{cut-length}
+use Rattle.wire.proofs.ListLaws.{cut-length}
 use native.Mathlib.Omega.{arith}
 use Rattle.play.proofs.PlayingLaws.{at-most-fits, take-most}
 use Rattle.play.proofs.records.sheet_text.Statement.{statement}

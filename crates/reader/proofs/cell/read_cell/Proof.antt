@@ -3,7 +3,7 @@ use borrow.Author.Needs.{needs}
 use native.Mathlib.Omega.{arith}
 use mathlib.Core.Path.{sym, ap, _∙_}
 use borrow.Author.Tests.{not-true, not-false}
-use Rattle.block.proofs.Laws.{high-named}
+use Rattle.decoder.proofs.Laws.{high-named}
 use Rattle.block.specs.Key.{keyAllowed}
 use Rattle.block.specs.declared.address.Address.{Address}
 use Rattle.reader.proofs.Steps.{cell-limit, cell-key-refused, cell-value, balance-bits, cell-rising, cell-sum, cell-more}

@@ -2,7 +2,7 @@
 use borrow.Author.Needs.{needs}
 use mathlib.Core.Path.{ap, _∙_}
 use Prim.Native.Nat.{ℕ}
-use Rattle.block.proofs.Laws.{address-read}
+use Rattle.decoder.proofs.Laws.{address-read}
 use Rattle.block.proofs.KeyLaws.{account-below, contract-above}
 use Rattle.block.specs.Record.{idOf}
 use Rattle.reader.proofs.Steps.{function-limit, function-field, function-code-refused, function-rising, function-more}

@@ -5,7 +5,7 @@ use native.Mathlib.Omega.{arith}
 use mathlib.Core.Path.{refl, sym, _∙_}
 use borrow.Author.Tests.{not-true, not-false}
 use lib.ListN.{length-drop}
-use Rattle.block.proofs.Laws.{to-the-end}
+use Rattle.wire.proofs.ListLaws.{to-the-end}
 use Rattle.block.specs.Reader.{readRecord}
 use Rattle.reader.proofs.record.read_record.Statement.{statement}
 use Rattle.reader.proofs.record.read_record.Tie as tie

@@ -1,0 +1,2 @@
+-- Laws of the uses of an instruction, for this crate and for `moves`.
+pub mod AccessLaws

@@ -1,0 +1,2 @@
+-- Uses is how the code holds the accesses of an instruction.
+pub mod Uses
