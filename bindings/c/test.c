@@ -26,6 +26,13 @@ static const uint8_t loop[] = {
     32, 0, 3, 0, 5, 0, 0, 128, 0, 0, 0, 0, 0, 0, 0, 0, 0, 0, 0, 0, 0, 0, 0, 0, 0, 0, 0, 0, 0, 0, 0, 0, 0, 0, 2, 0, 0, 0, 4, 0,
 };
 
+/* A block of a function without code, and of two calls of it by one sender with value 1: the second waits for the first. */
+static const uint8_t two[] = {
+    4, 0, 1, 0, 0, 128, 0, 0,
+    32, 0, 3, 0, 5, 0, 0, 128, 0, 0, 1, 0, 0, 0, 0, 0, 0, 0, 0, 0, 0, 0, 0, 0, 0, 0, 0, 0, 0, 0, 0, 0, 0, 0, 64, 0,
+    32, 0, 3, 0, 5, 0, 0, 128, 0, 0, 1, 0, 0, 0, 0, 0, 0, 0, 0, 0, 0, 0, 0, 0, 0, 0, 0, 0, 0, 0, 0, 0, 0, 0, 64, 0, 0, 0, 4, 0,
+};
+
 static uint64_t head[ZUMBIQA_HEAD_SIZE + 1], plan[ZUMBIQA_PLAN_SIZE], keys[ZUMBIQA_KEYS_SIZE];
 static uint64_t status[ZUMBIQA_STATUS_SIZE], seats[ZUMBIQA_SEATS_SIZE];
 static int64_t cells[ZUMBIQA_CELLS_SIZE], frames[ZUMBIQA_FRAMES_SIZE];
@@ -50,7 +57,7 @@ static void test_sizes(void) {
     EXPECT(0, zumbiqa_size(SIZE_MAX));
 }
 
-/* The sheet of no calls is the end alone; an output of no bytes is refused. */
+/* The sheet of no calls is the end alone; an output of no bytes is refused, and the length is as it was. */
 static void test_no_calls(void) {
     uint64_t offset = 7, length = 7;
     EXPECT(ZUMBIQA_OPENED, zumbiqa_open(ZUMBIQA_SLICE(none), 8, RUN, &offset));
@@ -58,7 +65,7 @@ static void test_no_calls(void) {
     EXPECT(8, head[ZUMBIQA_HEAD_WORKERS]);
     EXPECT(0, head[ZUMBIQA_HEAD_CALLS]);
     EXPECT(ZUMBIQA_SHEET_TOO_LONG, zumbiqa_sheet(RUN, sheet, 0, &length));
-    EXPECT(0, length);
+    EXPECT(7, length);
     EXPECT(ZUMBIQA_ACCEPTED, zumbiqa_sheet(RUN, sheet, sizeof none, &length));
     EXPECT(sizeof none, length);
     EXPECT(0, memcmp(sheet, none, sizeof none));
@@ -76,6 +83,7 @@ static void test_moves(void) {
     EXPECT(ZUMBIQA_WORKER_BUSY, zumbiqa_begin(RUN, 1, 0));
     EXPECT(ZUMBIQA_NOT_WAITING, zumbiqa_begin(RUN, 0, 0));
     EXPECT(ZUMBIQA_CALL_UNFINISHED, zumbiqa_sheet(RUN, ZUMBIQA_SLICE(sheet), &length));
+    EXPECT(7, length);
     EXPECT(ZUMBIQA_ACCEPTED, zumbiqa_cancel(RUN, 1));
     EXPECT(ZUMBIQA_WORKER_IDLE, zumbiqa_cancel(RUN, 1));
     EXPECT(ZUMBIQA_ACCEPTED, zumbiqa_begin(RUN, 0, 0));
@@ -101,6 +109,28 @@ static void test_fuel(void) {
     EXPECT(2, status[ZUMBIQA_STATUS_COUNT]);
 }
 
+/* The word of the status that an enum names, of a call. */
+static uint64_t status_of(size_t call, enum zumbiqa_status_word word) {
+    return status[ZUMBIQA_STATUS_WORDS * call + word];
+}
+
+/* A call waits for an earlier one by its waiting count, which the end of that one lowers. */
+static void test_waits(void) {
+    uint64_t offset = 7;
+    EXPECT(ZUMBIQA_OPENED, zumbiqa_open(ZUMBIQA_SLICE(two), 2, RUN, &offset));
+    EXPECT(0, status_of(0, ZUMBIQA_STATUS_WAITS));
+    EXPECT(1, status_of(1, ZUMBIQA_STATUS_WAITS));
+    EXPECT(ZUMBIQA_EARLIER_UNFINISHED, zumbiqa_begin(RUN, 1, 1));
+    EXPECT(ZUMBIQA_ACCEPTED, zumbiqa_begin(RUN, 0, 0));
+    EXPECT(1, status_of(1, ZUMBIQA_STATUS_WAITS));
+    EXPECT(ZUMBIQA_ACCEPTED, zumbiqa_step(ZUMBIQA_SLICE(two), RUN, 0));
+    EXPECT(ZUMBIQA_FINISHED, status_of(0, ZUMBIQA_STATUS_STATE));
+    EXPECT(ZUMBIQA_VALUE_NOT_COVERED, status_of(0, ZUMBIQA_STATUS_OUTCOME));
+    EXPECT(0, status_of(1, ZUMBIQA_STATUS_WAITS));
+    EXPECT(ZUMBIQA_ACCEPTED, zumbiqa_begin(RUN, 1, 1));
+    EXPECT(ZUMBIQA_RUNNING, status_of(1, ZUMBIQA_STATUS_STATE));
+}
+
 /* The serial run ends the call of an unknown function. */
 static void test_serial_run(void) {
     uint64_t offset = 7;
@@ -111,16 +141,15 @@ static void test_serial_run(void) {
 
 /* A head of every length but a whole one is refused by 20, and left as it was by all but an opening. */
 static void test_short_heads(void) {
-    uint64_t offset, length;
+    uint64_t offset, length = 7;
     for (size_t words = 0; words < ZUMBIQA_HEAD_SIZE; words++) {
         memset(head, 1, sizeof head);
         EXPECT(ZUMBIQA_DAMAGED, zumbiqa_begin(head, words, BUFFERS, 0, 0));
         EXPECT(ZUMBIQA_DAMAGED, zumbiqa_step(ZUMBIQA_SLICE(one), head, words, BUFFERS, 0));
         EXPECT(ZUMBIQA_DAMAGED, zumbiqa_cancel(head, words, BUFFERS, 0));
         EXPECT(ZUMBIQA_DAMAGED, zumbiqa_serial_run(ZUMBIQA_SLICE(one), head, words, BUFFERS));
-        length = 7;
         EXPECT(ZUMBIQA_DAMAGED, zumbiqa_sheet(head, words, BUFFERS, ZUMBIQA_SLICE(sheet), &length));
-        EXPECT(0, length);
+        EXPECT(7, length);
         for (size_t k = 0; k <= ZUMBIQA_HEAD_SIZE; k++)
             EXPECT(0x0101010101010101, head[k]);
         offset = 7;
@@ -136,6 +165,7 @@ int main(void) {
     test_no_calls();
     test_moves();
     test_fuel();
+    test_waits();
     test_serial_run();
     test_short_heads();
     return failures != 0;

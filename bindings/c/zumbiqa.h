@@ -10,8 +10,8 @@
  *   the last move of a run nothing else changes them; the block stays the same too. Then no answer is 20, and the results are those of
  *   document 01. A run that was changed is safe to use all the same: what is out of its range is refused by 20.
  *
- * A function answers 0 if it did what was asked, else the number of its refusal. A refused move, serial run or sheet changes nothing but the
- * length that a sheet tells, which is then 0; a refused opening leaves the head and all six buffers zero. */
+ * A function answers 0 if it did what was asked, else the number of its refusal. A refused move, serial run or sheet changes nothing;
+ * a refused opening leaves the head and all six buffers zero. */
 #ifndef ZUMBIQA_H
 #define ZUMBIQA_H
 
@@ -59,13 +59,15 @@ enum zumbiqa_head_word {
 };
 
 /* The words of a call in the status: word k of call c is at ZUMBIQA_STATUS_WORDS * c + k. Outcome (0 to 7) and count (0 to 65,535) are
- * those of a finished call. */
+ * those of a finished call. The waiting count is the number of its earlier conflicting calls that are unfinished: while it is above 0, a
+ * begin of the call is refused by 25. */
 #define ZUMBIQA_STATUS_WORDS 4
 
 enum zumbiqa_status_word {
     ZUMBIQA_STATUS_STATE = 0,
     ZUMBIQA_STATUS_OUTCOME = 1,
-    ZUMBIQA_STATUS_COUNT = 2
+    ZUMBIQA_STATUS_COUNT = 2,
+    ZUMBIQA_STATUS_WAITS = 3
 };
 
 enum zumbiqa_state {
@@ -177,8 +179,8 @@ uint64_t zumbiqa_serial_run(const uint8_t *block, size_t block_length,
                             uint64_t *seats, size_t seats_length,
                             int64_t *frames, size_t frames_length);
 
-/* The closing sheet, written to the front of the output; the length is that of the sheet, the offset behind its last record, and bytes behind it
- * are unchanged. */
+/* The closing sheet, written to the front of the output; sheet_length becomes that of the sheet, the offset behind its last record, and bytes
+ * behind it are unchanged. A refused sheet leaves the output and sheet_length as they were. */
 uint64_t zumbiqa_sheet(const uint64_t *head, size_t head_length,
                        const uint64_t *plan, size_t plan_length,
                        const uint64_t *keys, size_t keys_length,
@@ -187,7 +189,7 @@ uint64_t zumbiqa_sheet(const uint64_t *head, size_t head_length,
                        const uint64_t *seats, size_t seats_length,
                        const int64_t *frames, size_t frames_length,
                        uint8_t *output, size_t output_length,
-                       uint64_t *length);
+                       uint64_t *sheet_length);
 
 #ifdef __cplusplus
 }

@@ -1,12 +1,12 @@
-//! Links the archive of the exported functions, which `rt staticlib library` writes.
+//! Links the archive of the exported functions, which `tools/library` writes.
 
 use std::env;
 use std::path::PathBuf;
 use std::process::exit;
 
-/// The archive as `rt` names it, and the name that the linker wants.
-const ARCHIVE: &str = "liblibrary.a";
-const LIBRARY: &str = "library";
+/// The names by which the linker finds the archive: that of this crate, and the
+/// one that `rt staticlib library` gives it. The first that is there is linked.
+const LIBRARIES: [&str; 2] = ["zumbiqa", "library"];
 
 /// Names the archive's folder, if it is elsewhere.
 const FOLDER: &str = "ZUMBIQA_ARCHIVE_DIR";
@@ -17,16 +17,20 @@ fn main() {
         Some(folder) => PathBuf::from(folder),
         None => PathBuf::from(env!("CARGO_MANIFEST_DIR")).join("../../target/staticlib"),
     };
-    let archive = folder.join(ARCHIVE);
-    println!("cargo:rerun-if-changed={}", archive.display());
-    if !archive.is_file() {
-        eprintln!("There is no {}.", archive.display());
-        eprintln!("`rt staticlib {LIBRARY}` at the repository's root proves and writes it;");
+    let archive = |library: &str| folder.join(format!("lib{library}.a"));
+    let found = LIBRARIES.iter().find(|library| {
+        println!("cargo:rerun-if-changed={}", archive(library).display());
+        archive(library).is_file()
+    });
+    let Some(library) = found else {
+        eprintln!("There is no {}.", archive(LIBRARIES[0]).display());
+        eprintln!("`tools/library` of the repository proves and writes it;");
         eprintln!("{FOLDER} names its folder, if it is elsewhere.");
         exit(1);
-    }
+    };
     // The tests of the C programs link the same archive.
-    println!("cargo:rustc-env=ZUMBIQA_ARCHIVE={}", archive.display());
+    let path = archive(library);
+    println!("cargo:rustc-env=ZUMBIQA_ARCHIVE={}", path.display());
     println!("cargo:rustc-link-search=native={}", folder.display());
-    println!("cargo:rustc-link-lib=static={LIBRARY}");
+    println!("cargo:rustc-link-lib=static={library}");
 }

@@ -120,7 +120,7 @@ extern "C" {
         frames_length: usize,
         output: *mut u8,
         output_length: usize,
-        length: *mut u64,
+        sheet_length: *mut u64,
     ) -> u64;
 }
 
@@ -260,7 +260,7 @@ pub(crate) fn serial_run(block: &[u8], words: &mut Words) -> u64 {
     }
 }
 
-/// The number and the length of a sheet.
+/// The number and the length of a sheet, 0 where it is refused.
 pub(crate) fn sheet(view: &View, output: &mut [u8]) -> (u64, u64) {
     let mut length = 0;
     // SAFETY: as in `open`.

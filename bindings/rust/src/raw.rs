@@ -37,6 +37,31 @@ pub fn size_of_number(which: usize) -> usize {
 /// and cells and the offset of the first call record.
 pub const FIRST_HELD: usize = 4;
 
+/// Words of a call in the status.
+pub const STATUS_WORDS: usize = 4;
+
+/// A word of a call in the status; the discriminant is its place among these.
+#[derive(Clone, Copy, Debug, PartialEq, Eq)]
+pub enum StatusWord {
+    /// Its state: waiting 0, running 1 or finished 2.
+    State = 0,
+    /// The outcome of a finished call, 0 to 7.
+    Outcome = 1,
+    /// How many instructions a finished call executed, 0 to 65,535.
+    Count = 2,
+    /// The waiting count: how many of its earlier conflicting calls are
+    /// unfinished. While it is above 0, a begin of the call is refused by 25.
+    Waits = 3,
+}
+
+impl StatusWord {
+    /// The place of this word of a call, one of the 256 that a run can have, in
+    /// the status.
+    pub fn of(self, call: usize) -> usize {
+        STATUS_WORDS * call + self as usize
+    }
+}
+
 /// The head and the buffers of a run, lent to be changed.
 #[derive(Debug, PartialEq, Eq)]
 #[allow(missing_docs)]
@@ -109,7 +134,7 @@ impl Words<'_> {
 impl View<'_> {
     /// Writes the closing sheet to the front of an output and answers its
     /// length, the offset behind its last record. Bytes behind it are
-    /// unchanged.
+    /// unchanged; a refused sheet changes none.
     pub fn sheet(&self, output: &mut [u8]) -> Result<usize, Answer> {
         let (number, length) = ffi::sheet(self, output);
         Answer::told(number)?;

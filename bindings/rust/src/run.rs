@@ -1,16 +1,13 @@
 //! A run of a block over buffers of its own.
 
 use crate::answer::{Answer, Refusal};
-use crate::raw::{self, size, Size, View, Words};
+use crate::raw::{self, size, Size, StatusWord, View, Words};
 
 /// Words of a call in the plan, and the first of its row.
 const PLAN_WORDS: usize = 32;
 const FIRST_ROW_WORD: usize = 27;
 /// Bits of one word of a row.
 const ROW_BITS: usize = 64;
-/// Words of a call in the status: state, outcome, count, and the number of its
-/// earlier conflicting calls that are still unfinished.
-const STATUS_WORDS: usize = 4;
 
 /// How a call ended; the discriminant is the number of document 01, or 02.
 #[derive(Clone, Copy, Debug, PartialEq, Eq, Hash)]
@@ -168,15 +165,22 @@ impl<'b> Run<'b> {
         if call >= self.calls() {
             return None;
         }
-        let [state, outcome, count, _] = self.status_of(call);
-        Some(match state {
+        let word = |word: StatusWord| self.status[word.of(call)];
+        Some(match word(StatusWord::State) {
             0 => State::Waiting,
             1 => State::Running,
             _ => State::Finished(Receipt {
-                outcome: Outcome::told(outcome),
-                count,
+                outcome: Outcome::told(word(StatusWord::Outcome)),
+                count: word(StatusWord::Count),
             }),
         })
+    }
+
+    /// How many of the calls that a call waits for are unfinished; none if there
+    /// is no such call. While it is above 0, a begin of the call is refused by
+    /// [`Answer::EarlierUnfinished`].
+    pub fn unfinished_before(&self, call: usize) -> Option<u64> {
+        (call < self.calls()).then(|| self.status[StatusWord::Waits.of(call)])
     }
 
     /// The call that a worker holds.
@@ -227,10 +231,5 @@ impl<'b> Run<'b> {
             seats: &mut self.seats,
             frames: &mut self.frames,
         }
-    }
-
-    fn status_of(&self, call: usize) -> [u64; STATUS_WORDS] {
-        let words = &self.status[STATUS_WORDS * call..][..STATUS_WORDS];
-        words.try_into().expect("a call has so many words")
     }
 }

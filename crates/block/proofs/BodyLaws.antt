@@ -83,10 +83,10 @@ module _ (c : Cell) (more : List ℕ) where
         (value-allowed (isBalance (c .key)) refl)
 
 module _ (s : List ℕ) (bytes : AreBytes s) where
-  below-16 : (at : ℕ) → readLe 2 s at < 2 ^ 16
+  pub below-16 : (at : ℕ) → readLe 2 s at < 2 ^ 16
   below-16 at = number-lt 2 (drop at s) (bytes-drop at s bytes)
 
-  below-32 : (at : ℕ) → readLe 4 s at < 2 ^ 32
+  pub below-32 : (at : ℕ) → readLe 4 s at < 2 ^ 32
   below-32 at = number-lt 4 (drop at s) (bytes-drop at s bytes)
 
   below-64 : (at : ℕ) → readLe 8 s at < 2 ^ 64
@@ -95,7 +95,7 @@ module _ (s : List ℕ) (bytes : AreBytes s) where
   value-bytes : (at : ℕ) → unsigned 64 (signed 64 (readLe 8 s at)) ≡ readLe 8 s at
   value-bytes at = unsigned-signed 64 (readLe 8 s at) (below-64 at)
 
-  value-fits : (at : ℕ) → mag (signed 64 (readLe 8 s at)) < 2 ^ 63
+  pub value-fits : (at : ℕ) → mag (signed 64 (readLe 8 s at)) < 2 ^ 63
   value-fits at = signed-range 64 (readLe 8 s at) (lit< tt) (below-64 at)
 
   pub cell-split : 20 ≤ length s → s ≡ cellBody (cellOf s) ++ drop 20 s
@@ -228,7 +228,7 @@ module _ (c : Call) (more : List ℕ) where
       (rw (le-leb callBytes (length call) call-long, lt-ltb (c .sender .0) firstContract (keeps .sender), le-leb firstContract (c .contract .0) (keeps .contract .0), keeps .value .0))
 
 -- What its range asks, and that it is the one.
-call-in : (s : List ℕ) (c : Call) → callOf s ≡ InRange c
+pub call-in : (s : List ℕ) (c : Call) → callOf s ≡ InRange c
     → (number 2 s < firstContract) × (firstContract ≤ readLe 2 s 2) × (nonNeg (signed 64 (readLe 8 s 6)) ≡ true) × (c ≡ callInBody s)
 unfolding callOf
 call-in s c e = go (leb callBytes (length s) && ltb (number 2 s) firstContract && leb firstContract (readLe 2 s 2) && nonNeg (signed 64 (readLe 8 s 6))) refl e
@@ -244,7 +244,7 @@ call-in s c e = go (leb callBytes (length s) && ltb (number 2 s) firstContract &
         (ltb-true (number 2 s) firstContract (q .1), leb-true firstContract (readLe 2 s 2) (p .1), o .1, cc)
 
 module _ (s : List ℕ) (bytes : AreBytes s) where
-  in-split : callBytes ≤ length s → s ≡ callBody (callInBody s) ++ drop callBytes s
+  pub in-split : callBytes ≤ length s → s ≡ callBody (callInBody s) ++ drop callBytes s
   in-split fit =
       rw (value-bytes s bytes 6)
       (bytes-split 2 0 s bytes (omega arith) ∙ ap (λ (t : List ℕ). bytesOf 2 (number 2 s) ++ t)

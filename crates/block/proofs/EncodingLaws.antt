@@ -15,6 +15,7 @@ use Rattle.block.specs.Instruction.{decode, isValid, firstInvalid}
 use Rattle.block.specs.Record.{Cell}
 use Rattle.block.specs.Encoding.{Routine, AreBytes, sizeOf, FunctionKeeps}
 use Rattle.block.specs.declared.Call.{Call}
+use Rattle.block.proofs.DecoderExact.{holds-valid, valid-holds}
 
 -- The bodies of the records.
 abbrev pub functionBody : Routine → List ℕ
@@ -107,13 +108,14 @@ module _ (f : Routine) (more : List ℕ) where
     where
       one : (i : ℕ) → i < sizeOf f → isValid (decode (sizeOf f) (drop (8 * i) (f .code ++ more))) ≡ true
       one i h =
-          rw (decode-code i (sizeOf f) (f .code) more (keeps .whole) h) (keeps .valid i h)
+          rw (decode-code i (sizeOf f) (f .code) more (keeps .whole) h)
+          (holds-valid (sizeOf f) (drop (8 * i) (f .code)) (keeps .few) (keeps .valid i h))
 
 pub function-size : (f : Routine) → length (functionBody f) ≡ 4 + length (f .code)
 unfolding bytesOf
 function-size f = omega arith
 
-bytes-take : (n : ℕ) (s : List ℕ) → AreBytes s → AreBytes (take n s)
+pub bytes-take : (n : ℕ) (s : List ℕ) → AreBytes s → AreBytes (take n s)
 bytes-take zero s h i = lit< tt
 bytes-take (suc n) [] h i = h i
 bytes-take (suc n) (b ∷ s) h zero = h 0
@@ -127,7 +129,7 @@ module _ (s : List ℕ) (bytes : AreBytes s) (len : ℕ) (low : 4 ≤ len) (fit 
   code-length : length (take (len - 4) (drop 4 s)) ≡ len - 4
   code-length = length-take-le (len - 4) (drop 4 s) (simp length-drop (omega arith))
 
-  code-split : drop 4 s ≡ take (len - 4) (drop 4 s) ++ drop len s
+  pub code-split : drop 4 s ≡ take (len - 4) (drop 4 s) ++ drop len s
   code-split =
       let all : 4 + (len - 4) ≡ len = omega arith in
       sym (take-append-drop (len - 4) (drop 4 s))
@@ -153,7 +155,10 @@ module _ (s : List ℕ) (bytes : AreBytes s) (len : ℕ) (low : 4 ≤ len) (fit 
         bytes = bytes-take (len - 4) (drop 4 s) (bytes-drop 4 s bytes);
         whole = omega arith;
         few = omega arith;
-        valid = λ i h. valid i (length (take (len - 4) (drop 4 s)) / 8) (omega arith) h;
+        valid = λ i h.
+            valid-holds (length (take (len - 4) (drop 4 s)) / 8) (drop (8 * i) (take (len - 4) (drop 4 s)))
+            (bytes-drop (8 * i) (take (len - 4) (drop 4 s)) (bytes-take (len - 4) (drop 4 s) (bytes-drop 4 s bytes)))
+            (simp length-drop (omega arith)) (valid i (length (take (len - 4) (drop 4 s)) / 8) (omega arith) h);
       }
     where
       valid : (i n : ℕ) → n ≡ (len - 4) / 8 → i < n → isValid (decode n (drop (8 * i) (take (len - 4) (drop 4 s)))) ≡ true

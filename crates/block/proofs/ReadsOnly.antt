@@ -16,6 +16,7 @@ use Rattle.block.specs.Instruction.{firstInvalid}
 use Rattle.block.specs.Record.{Cell, Block, functionId, functionKind, cellKind, callKind, endKind, callBytes, recordOf, lengthAllowed, cellOf, cellAllowed, callOf}
 use Rattle.block.specs.Reader.{Read, Reading, accepted, refused, due, ended, emptyBlock, rises, balances, readFunction, readCell, withCall, readCall, readEnd, readBody, readRecord, readFrom, readBlock}
 use Rattle.block.specs.Encoding.{Routine, Contents, functionRecord, cellRecord, callRecord, records, fileOf, AreBytes, Ascending, sizeOf, FunctionKeeps, CellKeeps, CallKeeps, routineId, FunctionsKeep, CellsKeep, CallsKeep, HoldsContents, placed, blockFor}
+use Rattle.block.specs.Faults.{behindKind, lastKind}
 use Rattle.wire.specs.All.{All}
 use Rattle.block.proofs.EncodingLaws.{functionBody, cellBody, callBody, bytes-drop, bytes-split, routineIn, function-size, function-split, function-length-in, function-keeps}
 use Rattle.block.proofs.BodyLaws.{cell-split, cell-keeps, call-split, call-keeps}
@@ -25,34 +26,47 @@ use Rattle.block.specs.declared.CallBody.{CallBody}
 use Rattle.block.specs.declared.CallBody.the-variants.{InRange, OutOfRange}
 
 -- Before a record, behind one of the given kind: the file so far is the records of contents that keep the rules.
-record Stands (file : List ℕ) (kind at : ℕ) (rest : List ℕ) (fs : List Routine) (cs : List Cell) (ks : List Call) : Type 0 where
-  functions : FunctionsKeep fs
-  cells : CellsKeep cs
-  calls : CallsKeep ks
-  parts : file ≡ sent fs cs ks ++ rest
-  place : at ≡ length (sent fs cs ks)
-  bytes : AreBytes rest
-  noCells : kind < 2 → length cs ≡ 0
-  noCalls : kind < 3 → length ks ≡ 0
+pub record Standing (file : List ℕ) (kind at : ℕ) (rest : List ℕ) (fs : List Routine) (cs : List Cell) (ks : List Call) : Type 0 where
+  pub functions : FunctionsKeep fs
+  pub cells : CellsKeep cs
+  pub calls : CallsKeep ks
+  pub parts : file ≡ sent fs cs ks ++ rest
+  pub place : at ≡ length (sent fs cs ks)
+  pub bytes : AreBytes rest
+  pub last : kind ≡ lastKind (holding fs cs ks)
 
 -- The same of the reader's own block: it is that of the contents.
-record Held (file : List ℕ) (kind at : ℕ) (rest : List ℕ) (b : Block) : Type 0 where
-  fs : List Routine
-  cs : List Cell
-  ks : List Call
-  stands : Stands file kind at rest fs cs ks
-  block : b ≡ blockFor (holding fs cs ks)
+pub record Held (file : List ℕ) (kind at : ℕ) (rest : List ℕ) (b : Block) : Type 0 where
+  pub fs : List Routine
+  pub cs : List Cell
+  pub ks : List Call
+  pub stands : Standing file kind at rest fs cs ks
+  pub block : b ≡ blockFor (holding fs cs ks)
 
 -- At the end: the file is that of the contents.
-abbrev Right : List ℕ → Reading → Type 0
+abbrev pub Right : List ℕ → Reading → Type 0
 Right file (due kind at rest b) = Held file kind at rest b
 Right file (ended (accepted b)) = (t : Contents) × HoldsContents file t × (b ≡ blockFor t)
 Right file (ended (refused why)) = Unit {0}
 
+-- Behind a record of a kind there are none of higher kinds; behind one more record of a kind it is the last.
+no-cells : (fs : List Routine) (cs : List Cell) (ks : List Call) → lastKind (holding fs cs ks) < 2 → length cs ≡ 0
+no-cells fs cs (k ∷ ks) h = absurd (omega arith)
+no-cells fs (c ∷ cs) [] h = absurd (omega arith)
+no-cells fs [] [] h = refl
+
+no-calls : (fs : List Routine) (cs : List Cell) (ks : List Call) → lastKind (holding fs cs ks) < 3 → length ks ≡ 0
+no-calls fs cs (k ∷ ks) h = absurd (omega arith)
+no-calls fs cs [] h = refl
+
+behind-more : {A : Type 0} (kind before : ℕ) (xs : List A) (x : A) → kind ≡ behindKind kind before (xs ++ (x ∷ []))
+behind-more kind before [] x = refl
+behind-more kind before (y ∷ xs) x = refl
+
 -- ---- one record more
 
 -- Bytes that begin with a record.
-record-split : (rest : List ℕ) → AreBytes rest → 4 ≤ length rest → (body more : List ℕ) → number 2 rest ≡ length body → drop 4 rest ≡ body ++ more
+pub record-split : (rest : List ℕ) → AreBytes rest → 4 ≤ length rest → (body more : List ℕ) → number 2 rest ≡ length body → drop 4 rest ≡ body ++ more
     → rest ≡ recordOf (readLe 2 rest 2) body ++ more
 record-split rest bytes four body more len e =
     bytes-split 2 0 rest bytes (omega arith)
@@ -78,7 +92,7 @@ module _ (file : List ℕ) (kind at : ℕ) (rest : List ℕ) (len : ℕ) (own : 
   behind-bytes : AreBytes rest → AreBytes (drop len (drop 4 rest))
   behind-bytes h = bytes-drop len (drop 4 rest) (bytes-drop 4 rest h)
 
-  with-function : (fs : List Routine) → Stands file kind at rest fs [] [] → readLe 2 rest 2 ≡ 1 → 4 ≤ len → FunctionKeeps (routineIn body len)
+  with-function : (fs : List Routine) → Standing file kind at rest fs [] [] → readLe 2 rest 2 ≡ 1 → 4 ≤ len → FunctionKeeps (routineIn body len)
       → length (placed 0 fs) < 64 → rises (map functionId (placed 0 fs)) (routineId (routineIn body len)) ≡ true
       → Held file 1 (at + 4 + len) (drop len (drop 4 rest))
       (record { functions = placed 0 fs ++ (record { contract = record { 0 = number 2 body }; number = readLe 2 body 2; start = at + 4 + 4; size = (len - 4) / 8 } ∷ []); cells = []; calls = []; opening = at + 4 + len; firstCall = at + 4 + len })
@@ -109,17 +123,16 @@ module _ (file : List ℕ) (kind at : ℕ) (rest : List ℕ) (len : ℕ) (own : 
               parts = parts-next file (sent fs [] []) (functionRecord f) (sent (fs ++ (f ∷ [])) [] []) rest (drop len (drop 4 rest)) (r .parts) bytes (sent-function fs f);
               place = place-next (sent fs [] []) (functionRecord f) (sent (fs ++ (f ∷ [])) [] []) at len (r .place) (sent-function fs f) (omega arith);
               bytes = behind-bytes (r .bytes);
-              noCells = λ h. refl;
-              noCalls = λ h. refl;
+              last = behind-more 1 0 fs f;
             };
         block = sym (block-function fs f at len ((len - 4) / 8) (r .place) (sym long) sizes);
       }
 
-  right-function : (fs : List Routine) (cs : List Cell) (ks : List Call) → Stands file kind at rest fs cs ks → readLe 2 rest 2 ≡ 1 → kind < 2
+  right-function : (fs : List Routine) (cs : List Cell) (ks : List Call) → Standing file kind at rest fs cs ks → readLe 2 rest 2 ≡ 1 → kind < 2
       → 4 ≤ len → len ≤ 516 → (len - 4) % 8 ≡ 0 → Right file (readFunction at len (drop 4 rest) (blockFor (holding fs cs ks)))
   unfolding readFunction blockFor
-  right-function fs (c ∷ cs) ks r is early low high eight = let none : length (c ∷ cs) ≡ 0 = r .noCells early in absurd (omega arith)
-  right-function fs [] (k ∷ ks) r is early low high eight = let none : length (k ∷ ks) ≡ 0 = r .noCalls (omega arith) in absurd (omega arith)
+  right-function fs (c ∷ cs) ks r is early low high eight = let none : length (c ∷ cs) ≡ 0 = no-cells fs (c ∷ cs) ks (omega (arith, r .last)) in absurd (omega arith)
+  right-function fs [] (k ∷ ks) r is early low high eight = let none : length (k ∷ ks) ≡ 0 = no-calls fs [] (k ∷ ks) (omega (arith, r .last)) in absurd (omega arith)
   right-function fs [] [] r is early low high eight =
       if-all (Right file) (leb 64 (length (placed 0 fs))) (λ e. tt) λ room.
       if-all (Right file) (ltb (number 2 body) 32768) (λ e. tt) λ contract.
@@ -129,7 +142,7 @@ module _ (file : List ℕ) (kind at : ℕ) (rest : List ℕ) (len : ℕ) (own : 
       (function-keeps body (bytes-drop 4 rest (r .bytes)) len low body-fits (ltb-false (number 2 body) 32768 contract) high eight (ltb-false _ _ good))
       (leb-false 64 (length (placed 0 fs)) room) (not-false _ up)
 
-  with-cell : (fs : List Routine) (cs : List Cell) → Stands file kind at rest fs cs [] → readLe 2 rest 2 ≡ 2 → len ≡ 20 → CellKeeps (cellOf body)
+  with-cell : (fs : List Routine) (cs : List Cell) → Standing file kind at rest fs cs [] → readLe 2 rest 2 ≡ 2 → len ≡ 20 → CellKeeps (cellOf body)
       → length cs < 1024 → rises (map (λ c. c .key) cs) (cellOf body .key) ≡ true → leZ (total (balances (cs ++ (cellOf body ∷ [])))) largest ≡ true
       → Held file 2 (at + 4 + len) (drop len (drop 4 rest))
       (record { functions = placed 0 fs; cells = cs ++ (cellOf body ∷ []); calls = []; opening = length (records functionRecord fs); firstCall = at + 4 + len })
@@ -161,18 +174,17 @@ module _ (file : List ℕ) (kind at : ℕ) (rest : List ℕ) (len : ℕ) (own : 
               parts = parts-next file (sent fs cs []) (cellRecord c) (sent fs (cs ++ (c ∷ [])) []) rest (drop len (drop 4 rest)) (r .parts) bytes (sent-cell fs cs c);
               place = place-next (sent fs cs []) (cellRecord c) (sent fs (cs ++ (c ∷ [])) []) at len (r .place) (sent-cell fs cs c) (omega arith);
               bytes = behind-bytes (r .bytes);
-              noCells = λ h. absurd (omega arith);
-              noCalls = λ h. refl;
+              last = behind-more 2 (behindKind 1 0 fs) cs c;
             };
         block =
             ap (λ (n : ℕ). record { functions = placed 0 fs; cells = cs ++ (c ∷ []); calls = []; opening = length (records functionRecord fs); firstCall = at + 4 + n }) twenty
             ∙ sym (block-cell fs cs c at (r .place));
       }
 
-  right-cell : (fs : List Routine) (cs : List Cell) (ks : List Call) → Stands file kind at rest fs cs ks → readLe 2 rest 2 ≡ 2 → kind < 3 → len ≡ 20
+  right-cell : (fs : List Routine) (cs : List Cell) (ks : List Call) → Standing file kind at rest fs cs ks → readLe 2 rest 2 ≡ 2 → kind < 3 → len ≡ 20
       → Right file (readCell at len (drop 4 rest) (blockFor (holding fs cs ks)))
   unfolding readCell blockFor
-  right-cell fs cs (k ∷ ks) r is early twenty = let none : length (k ∷ ks) ≡ 0 = r .noCalls early in absurd (omega arith)
+  right-cell fs cs (k ∷ ks) r is early twenty = let none : length (k ∷ ks) ≡ 0 = no-calls fs cs (k ∷ ks) (omega (arith, r .last)) in absurd (omega arith)
   right-cell fs cs [] r is early twenty =
       if-all (Right file) (leb 1024 (length cs)) (λ e. tt) λ room.
       if-all (Right file) (not (cellAllowed body)) (λ e. tt) λ good.
@@ -180,7 +192,7 @@ module _ (file : List ℕ) (kind at : ℕ) (rest : List ℕ) (len : ℕ) (own : 
       if-all (Right file) (not (leZ (total (balances (cs ++ (cellOf body ∷ [])))) largest)) (λ e. tt) λ sum.
       with-cell fs cs r is twenty (cell-keeps body (bytes-drop 4 rest (r .bytes)) (not-false _ good)) (leb-false 1024 (length cs) room) (not-false _ up) (not-false _ sum)
 
-  with-call : (fs : List Routine) (cs : List Cell) (ks : List Call) → Stands file kind at rest fs cs ks → readLe 2 rest 2 ≡ 3 → len ≡ callBytes
+  with-call : (fs : List Routine) (cs : List Cell) (ks : List Call) → Standing file kind at rest fs cs ks → readLe 2 rest 2 ≡ 3 → len ≡ callBytes
       → length ks < 256 → (c : Call) → callOf body ≡ InRange c → 0 < c .fuel → Held file 3 (at + 4 + len) (drop len (drop 4 rest)) (blockFor (holding fs cs (ks ++ (c ∷ []))))
   with-call fs cs ks r is sized room c e fuel =
       let fits : len ≤ length (drop 4 rest) = body-fits in
@@ -203,13 +215,12 @@ module _ (file : List ℕ) (kind at : ℕ) (rest : List ℕ) (len : ℕ) (own : 
               parts = parts-next file (sent fs cs ks) (callRecord c) (sent fs cs (ks ++ (c ∷ []))) rest (drop len (drop 4 rest)) (r .parts) bytes (sent-call fs cs ks c);
               place = place-next (sent fs cs ks) (callRecord c) (sent fs cs (ks ++ (c ∷ []))) at len (r .place) (sent-call fs cs ks c) (omega arith);
               bytes = behind-bytes (r .bytes);
-              noCells = λ h. absurd (omega arith);
-              noCalls = λ h. absurd (omega arith);
+              last = behind-more 3 (behindKind 2 (behindKind 1 0 fs) cs) ks c;
             };
         block = refl;
       }
 
-  right-call : (fs : List Routine) (cs : List Cell) (ks : List Call) → Stands file kind at rest fs cs ks → readLe 2 rest 2 ≡ 3 → len ≡ callBytes
+  right-call : (fs : List Routine) (cs : List Cell) (ks : List Call) → Standing file kind at rest fs cs ks → readLe 2 rest 2 ≡ 3 → len ≡ callBytes
       → Right file (readCall at len (drop 4 rest) (blockFor (holding fs cs ks)))
   unfolding readCall withCall blockFor
   right-call fs cs ks r is sized =
@@ -221,7 +232,7 @@ module _ (file : List ℕ) (kind at : ℕ) (rest : List ℕ) (len : ℕ) (own : 
           if-all (Right file) (eqb (c .fuel) 0) (λ f. tt)
           (λ f. with-call fs cs ks r is sized room c e (let some = eqb-false (c .fuel) 0 f in omega (arith, some)))
 
-  right-end : length file ≤ 65536 → (fs : List Routine) (cs : List Cell) (ks : List Call) → Stands file kind at rest fs cs ks → readLe 2 rest 2 ≡ 4 → len ≡ 0
+  right-end : length file ≤ 65536 → (fs : List Routine) (cs : List Cell) (ks : List Call) → Standing file kind at rest fs cs ks → readLe 2 rest 2 ≡ 4 → len ≡ 0
       → Right file (readEnd (length file) at (blockFor (holding fs cs ks)))
   unfolding readEnd
   right-end short fs cs ks r is none =
@@ -246,19 +257,19 @@ module _ (file : List ℕ) (kind at : ℕ) (rest : List ℕ) (len : ℕ) (own : 
 
 -- ---- the whole file
 
-function-lengths : (len : ℕ) → lengthAllowed 1 len ≡ true → (4 ≤ len) × (len ≤ 516) × ((len - 4) % 8 ≡ 0)
+pub function-lengths : (len : ℕ) → lengthAllowed 1 len ≡ true → (4 ≤ len) × (len ≤ 516) × ((len - 4) % 8 ≡ 0)
 unfolding lengthAllowed
 function-lengths len e =
     let o = both (leb 4 len && leb len 516) (eqb ((len - 4) % 8) 0) e in
     let p = both (leb 4 len) (leb len 516) (o .0) in
     (leb-true 4 len (p .0), leb-true len 516 (p .1), eqb-true ((len - 4) % 8) 0 (o .1))
 
-other-lengths : (len : ℕ) → (lengthAllowed 2 len ≡ true → len ≡ 20) × (lengthAllowed 3 len ≡ true → len ≡ callBytes) × (lengthAllowed 4 len ≡ true → len ≡ 0)
+pub other-lengths : (len : ℕ) → (lengthAllowed 2 len ≡ true → len ≡ 20) × (lengthAllowed 3 len ≡ true → len ≡ callBytes) × (lengthAllowed 4 len ≡ true → len ≡ 0)
 unfolding lengthAllowed
 other-lengths len = (eqb-true len 20, eqb-true len callBytes, eqb-true len 0)
 
 module _ (file : List ℕ) (short : length file ≤ 65536) where
-  right-body : (kind at : ℕ) (rest : List ℕ) (fs : List Routine) (cs : List Cell) (ks : List Call) → Stands file kind at rest fs cs ks
+  right-body : (kind at : ℕ) (rest : List ℕ) (fs : List Routine) (cs : List Cell) (ks : List Call) → Standing file kind at rest fs cs ks
       → 4 + number 2 rest ≤ length rest → (k : ℕ) → readLe 2 rest 2 ≡ k → 1 ≤ k → k ≤ 4 → kind ≤ k → lengthAllowed k (number 2 rest) ≡ true
       → Right file (readBody (length file) k at (number 2 rest) (drop 4 rest) (blockFor (holding fs cs ks)))
   unfolding readBody
@@ -282,10 +293,10 @@ module _ (file : List ℕ) (short : length file ≤ 65536) where
       len : ℕ
       len = number 2 rest
 
-  right-record : (kind at : ℕ) (rest : List ℕ) (b : Block) → Held file kind at rest b → Right file (readRecord (length file) kind at rest b)
+  pub right-record : (kind at : ℕ) (rest : List ℕ) (b : Block) → Held file kind at rest b → Right file (readRecord (length file) kind at rest b)
   unfolding readRecord
   right-record kind at rest b h =
-      let r : Stands file kind at rest (h .fs) (h .cs) (h .ks) = h .stands in
+      let r : Standing file kind at rest (h .fs) (h .cs) (h .ks) = h .stands in
       let all : length file ≡ length (sent (h .fs) (h .cs) (h .ks)) + length rest = ap length (r .parts) ∙ length-append (sent (h .fs) (h .cs) (h .ks)) rest in
       let here : at ≡ length (sent (h .fs) (h .cs) (h .ks)) = r .place in
       if-all (Right file) (ltb (length file - at) 4) (λ e. tt) λ head.
@@ -307,7 +318,7 @@ module _ (file : List ℕ) (short : length file ≤ 65536) where
   right-from (suc turns) (due kind at rest b) r = right-from turns (readRecord (length file) kind at rest b) (right-record kind at rest b r)
   right-from (suc turns) (ended g) r = r
 
-nothing-stands : (file : List ℕ) → AreBytes file → Held file 0 0 file emptyBlock
+pub nothing-stands : (file : List ℕ) → AreBytes file → Held file 0 0 file emptyBlock
 unfolding total balances Ascending blockFor placed records sent
 nothing-stands file bytes =
     record {
@@ -322,8 +333,7 @@ nothing-stands file bytes =
             parts = refl;
             place = refl;
             bytes = bytes;
-            noCells = λ h. refl;
-            noCalls = λ h. refl;
+            last = refl;
           };
       block = refl;
     }

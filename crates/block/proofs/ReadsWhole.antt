@@ -101,7 +101,7 @@ module _ {A : Type 0} (of : A → List ℕ) where
       let whole : length (records of (before ++ x ∷ xs)) ≡ length (records of all) = ap (λ (l : List A). length (records of l)) same in
       omega (arith, length-append (of x) (records of xs))
 
-  records-count : ((x : A) → 1 ≤ length (of x)) → (xs : List A) → length xs ≤ length (records of xs)
+  pub records-count : ((x : A) → 1 ≤ length (of x)) → (xs : List A) → length xs ≤ length (records of xs)
   unfolding records
   records-count some [] = omega arith
   records-count some (x ∷ xs) = omega (arith, some x, records-count some xs, length-append (of x) (records of xs))
@@ -161,7 +161,7 @@ sum-front xs ys keeps =
 -- ---- one record of contents
 
 module _ (size kind : ℕ) (more : List ℕ) where
-  function-step : (all : List Routine) → FunctionsKeep all → length (records functionRecord all) ≤ size
+  pub function-step : (all : List Routine) → FunctionsKeep all → length (records functionRecord all) ≤ size
       → (before : List Routine) (f : Routine) (fs : List Routine) → before ++ f ∷ fs ≡ all → kind ≤ 1
       → readRecord size kind (length (sent before [] [])) (functionRecord f ++ more) (blockFor (holding before [] []))
       ≡ due 1 (length (sent (before ++ (f ∷ [])) [] [])) more (blockFor (holding (before ++ (f ∷ [])) [] []))
@@ -183,7 +183,7 @@ module _ (size kind : ℕ) (more : List ℕ) where
       ∙ function-taken f own at more (blockFor (holding before [] [])) room (rw (placed-ids 0 before) rising)
       ∙ ap₂ (λ (n : ℕ) (b : Block). due 1 n more b) (sym next) (sym (block-function before f at len (sizeOf f) refl refl refl))
 
-  cell-step : (fs : List Routine) (all : List Cell) → CellsKeep all → length (records functionRecord fs) + length (records cellRecord all) ≤ size
+  pub cell-step : (fs : List Routine) (all : List Cell) → CellsKeep all → length (records functionRecord fs) + length (records cellRecord all) ≤ size
       → (before : List Cell) (c : Cell) (cs : List Cell) → before ++ c ∷ cs ≡ all → kind ≤ 2
       → readRecord size kind (length (sent fs before [])) (cellRecord c ++ more) (blockFor (holding fs before []))
       ≡ due 2 (length (sent fs (before ++ (c ∷ [])) [])) more (blockFor (holding fs (before ++ (c ∷ [])) []))
@@ -208,7 +208,7 @@ module _ (size kind : ℕ) (more : List ℕ) where
       ∙ cell-taken c own at more (blockFor (holding fs before [])) room rising sum
       ∙ ap₂ (λ (n : ℕ) (b : Block). due 2 n more b) (sym next) (sym (block-cell fs before c at refl))
 
-  call-step : (fs : List Routine) (cs : List Cell) (all : List Call) → CallsKeep all → length (sent fs cs all) ≤ size
+  pub call-step : (fs : List Routine) (cs : List Cell) (all : List Call) → CallsKeep all → length (sent fs cs all) ≤ size
       → (before : List Call) (c : Call) (ks : List Call) → before ++ c ∷ ks ≡ all → kind ≤ 3
       → readRecord size kind (length (sent fs cs before)) (callRecord c ++ more) (blockFor (holding fs cs before))
       ≡ due 3 (length (sent fs cs (before ++ (c ∷ [])))) more (blockFor (holding fs cs (before ++ (c ∷ []))))
@@ -230,7 +230,7 @@ module _ (size kind : ℕ) (more : List ℕ) where
 
 -- ---- all of them
 
-from-ended : (turns size : ℕ) (r : Read) → readFrom turns size (ended r) ≡ r
+pub from-ended : (turns size : ℕ) (r : Read) → readFrom turns size (ended r) ≡ r
 unfolding readFrom
 from-ended zero size r = refl
 from-ended (suc turns) size r = refl

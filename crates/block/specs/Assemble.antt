@@ -7,6 +7,7 @@ use Prim.Native.String.{String}
 use lib.IntN.{ℤ}
 use Rattle.arith.specs.Exact.{unsigned}
 use Rattle.wire.specs.Bytes.{bytesOf}
+use Rattle.block.specs.InstructionBytes.{instr}
 use Rattle.block.specs.Record.{recordOf}
 
 -- The bytes of a text.
@@ -18,10 +19,6 @@ text (string._∷_ c s) = code c ∷ text s
 unfoldable pub times : ℕ → List ℕ → List ℕ
 times zero p = []
 times (suc n) p = p ++ times n p
-
--- "Bytes: op, x, y, z, then w (32 bits)."
-abbrev pub instr : ℕ → ℕ → ℕ → ℕ → ℕ → List ℕ
-instr op x y z w = op ∷ x ∷ y ∷ z ∷ bytesOf 4 w
 
 -- The instructions, by their names.
 abbrev pub STOP : List ℕ

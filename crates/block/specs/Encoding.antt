@@ -13,7 +13,8 @@ use Rattle.wire.specs.Bytes.{bytesOf}
 use Rattle.wire.specs.All.{All}
 use Rattle.block.specs.Limits.{maxBytes, maxFunctions, maxCode, maxCells, maxCalls, maxFuel}
 use Rattle.block.specs.Key.{firstContract, addressOf, addressIn, fieldIn, aIn, bIn, isBalance, keyAllowed}
-use Rattle.block.specs.Instruction.{instrBytes, decode, isValid}
+use Rattle.block.specs.Instruction.{instrBytes}
+use Rattle.block.specs.InstructionBytes.{HoldsInstr}
 use Rattle.block.specs.Record.{Function, Cell, Block, headBytes, functionKind, cellKind, callKind, endKind, idOf, recordOf}
 use Rattle.block.specs.Reader.{balances, accepted, readBlock}
 use Rattle.block.specs.declared.address.Contract.{Contract}
@@ -84,10 +85,10 @@ pub record FunctionKeeps (f : Routine) : Type 0 where
   pub contract : (firstContract ≤ f .contract .0) × (f .contract .0 < 2 ^ 16)
   pub number : f .number < 2 ^ 16
   pub bytes : AreBytes (f .code)
-  -- "0 to 64 instructions of 8 bytes", each by its rule.
+  -- "0 to 64 instructions of 8 bytes", each the bytes of an instruction whose parts are in range.
   pub whole : length (f .code) ≡ instrBytes * sizeOf f
   pub few : sizeOf f ≤ maxCode
-  pub valid : (i : ℕ) → i < sizeOf f → isValid (decode (sizeOf f) (drop (instrBytes * i) (f .code))) ≡ true
+  pub valid : (i : ℕ) → i < sizeOf f → HoldsInstr (sizeOf f) (drop (instrBytes * i) (f .code))
 
 -- "Field 0 has only a = b = 0 and is the balance; an account has no other key"; the value is "not zero, a balance above zero".
 pub record CellKeeps (c : Cell) : Type 0 where

@@ -6,11 +6,12 @@ use lib.IntN.{pos}
 use lib.ListN.{length}
 use Rattle.block.specs.Key.{payeeOf}
 use Rattle.wire.specs.Bytes.{bytesOf}
+use Rattle.block.specs.InstructionBytes.{instr}
 use Rattle.block.specs.Record.{functionId, recordOf}
 use Rattle.block.specs.Reader.{Read, accepted, refused, readBlock}
 use Rattle.block.specs.Encoding.{fileOf, blockFor}
 use Rattle.block.specs.Refusal.{numberOf, offsetOf}
-use Rattle.block.specs.Assemble.{text, instr, STOP, SET, JEQ, JLT, function, callFuelled, call, end}
+use Rattle.block.specs.Assemble.{text, STOP, SET, JEQ, JLT, function, callFuelled, call, end}
 use Rattle.block.specs.Worked.{P, contentsP, account0}
 use Rattle.block.specs.declared.Payee.the-variants.{To, Nobody}
 use Rattle.block.specs.Computing.{computing}

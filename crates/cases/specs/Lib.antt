@@ -1,4 +1,5 @@
 pub mod Refusals
+pub mod Edges
 pub mod Case
 pub mod Random1
 pub mod Random2

@@ -10,7 +10,8 @@ use Rattle.machine.specs.Run.{Sizes, fixedSizes}
 use Rattle.machine.specs.Opening.{Opened, openingOf}
 use Rattle.console.specs.Computing as console
 use Rattle.block.specs.Record.{recordOf}
-use Rattle.block.specs.Assemble.{times, instr, SET, THROW, JEQ, function, cell, call, callFuelled, callWith, end}
+use Rattle.block.specs.InstructionBytes.{instr}
+use Rattle.block.specs.Assemble.{times, SET, THROW, JEQ, function, cell, call, callFuelled, callWith, end}
 use Rattle.footprint.specs.Examples.{gets, keysBlock}
 
 -- The number and offset that answer an opening.

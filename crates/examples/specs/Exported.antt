@@ -9,7 +9,7 @@ use Rattle.block.specs.Worked.{P}
 use Rattle.machine.specs.Run.{fixedSizes}
 use Rattle.machine.specs.Moves.{beginOf, stepOf, cancelOf}
 use Rattle.exports.specs.Words.{Words, words}
-use Rattle.exports.specs.Exports.{OpenedWords, openWords, MovedWords, moveWords, serialMove, sheetWords, sizeOf}
+use Rattle.exports.specs.Exports.{OpenedWords, openWords, MovedWords, moveWords, serialMove, ClosedWords, sheetWords, sizeOf}
 use Rattle.exports.specs.Computing.{computing}
 
 -- The moves on words.
@@ -46,6 +46,10 @@ damagedP = headAt 6 65536 startP
 unfoldable pub ranP : MovedWords
 ranP = moveWords (serialMove P) startP 0
 
+-- Its sheet for an output of so many bytes; the lent length was 5.
+abbrev sheetP : ℕ → ClosedWords
+sheetP n = sheetWords (ranP .words) (repeated n 7) 5
+
 pub record Exported : Type 0 where
   -- Three workers, three calls, four cells, and the first call record at byte 120.
   pub opened : openedP .number ∷ openedP .offset ∷ openedP .words .head ≡ 0 ∷ 0 ∷ 3 ∷ 3 ∷ 4 ∷ 120 ∷ repeated 9 0
@@ -66,9 +70,11 @@ pub record Exported : Type 0 where
   pub beside : begins 1 0 damagedP .number ∷ begins 1 0 damagedP .words .head ≡ 0 ∷ set (damagedP .head) 5 1
   -- The serial run, and its sheet: three cells, three receipts and the end are 100 bytes.
   pub ran : ranP .number ∷ ranP .words .head ≡ 0 ∷ startP .head
-  pub closed : sheetWords (ranP .words) (repeated 100 7) .number ∷ sheetWords (ranP .words) (repeated 100 7) .length ∷ [] ≡ 0 ∷ 100 ∷ []
-  pub unwritten : sheetWords (ranP .words) (repeated 99 7) .number ∷ sheetWords (ranP .words) (repeated 99 7) .length ∷ sheetWords (ranP .words) (repeated 99 7) .output ≡ 28 ∷ 0 ∷ repeated 99 7
-  pub unfinished : sheetWords startP (repeated 100 7) .number ≡ 27
+  pub closed : sheetP 100 .number ∷ sheetP 100 .sheetLength ∷ [] ≡ 0 ∷ 100 ∷ []
+  -- A refused sheet changes neither the output nor the lent length: 28, 27, and 20 for a head that is too short.
+  pub unwritten : sheetP 99 .number ∷ sheetP 99 .sheetLength ∷ sheetP 99 .output ≡ 28 ∷ 5 ∷ repeated 99 7
+  pub unfinished : sheetWords startP (repeated 100 7) 5 ≡ record { number = 27; sheetLength = 5; output = repeated 100 7 }
+  pub headless : sheetWords (withHead (ranP .words) (repeated 11 0)) (repeated 100 7) 5 ≡ record { number = 20; sheetLength = 5; output = repeated 100 7 }
   -- The fixed sizes.
   pub sizes : map sizeOf (below 10) ≡ 12 ∷ 8192 ∷ 2048 ∷ 1024 ∷ 1024 ∷ 128 ∷ 256 ∷ 26628 ∷ 65536 ∷ 0 ∷ []
 
@@ -91,5 +97,6 @@ exported =
       closed = refl;
       unwritten = refl;
       unfinished = refl;
+      headless = refl;
       sizes = refl;
     }

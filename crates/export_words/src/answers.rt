@@ -15,8 +15,8 @@ use sheet::Closing;
 use sheet::MAX_SHEET;
 ghost use mathlib.Core.Path.{_≡_};
 ghost use Rattle.block.specs.Refusal.{verdictNumber, verdictOffset};
-ghost use Rattle.sheet.specs.Sheet.{closingNumber, closingLength};
-ghost use Rattle.exports.specs.Exports.{sizeOf};
+ghost use Rattle.sheet.specs.Sheet.{closingNumber};
+ghost use Rattle.exports.specs.Exports.{sizeOf, lengthAfter};
 
 // The number of a verdict, 0 if the block is accepted.
 pub fn verdict_number(verdict: Verdict) -> u64
@@ -48,13 +48,13 @@ pub fn closing_number(closing: Closing) -> u64
     }
 }
 
-// The length of a written sheet, 0 if it is refused.
-pub fn closing_length(closing: Closing) -> u64
-    ensures { λ r. ⌜ r ≡ closingLength closing ⌝ }
+// The lent length behind a closing: that of a written sheet, and what it was before if the sheet is refused.
+pub fn length_after(closing: Closing, before: u64) -> u64
+    ensures { λ r. ⌜ r ≡ lengthAfter closing before ⌝ }
 {
     match closing {
-        Closing::Written(length) => length as u64,
-        Closing::Refused(_) => 0,
+        Closing::Written(n) => n as u64,
+        Closing::Refused(_) => before,
     }
 }
 

@@ -15,7 +15,9 @@ use Rattle.machine.specs.Opening.{Opened, refusedRun, openingOf}
 use Rattle.machine.specs.Moves.{Moved, stay}
 use Rattle.machine.specs.Serial.{serialRun}
 use Rattle.machine.specs.declared.Answer.the-variants.{Accepted, Damaged}
-use Rattle.sheet.specs.Sheet.{Closed, closingNumber, closingLength, maxSheet, unwritten, sheetOf}
+use Rattle.sheet.specs.Sheet.{Closed, closingNumber, maxSheet, unwritten, sheetOf}
+use Rattle.sheet.specs.declared.Closing.{Closing}
+use Rattle.sheet.specs.declared.Closing.the-variants.{Written, Refused}
 use Rattle.exports.specs.Words.{Words, words, headWords, runIn, wordsAfter}
 
 -- A head of so many words is too short.
@@ -81,17 +83,22 @@ serialMove block r =
     then record { answer = Accepted; run = serialRun block r }
     else stay r Damaged
 
--- A sheet: its number, 0 if it is written, its length, 0 if it is refused, and the output.
+-- A sheet: its number, 0 if it is written, the lent length, and the output.
 pub record ClosedWords : Type 0 where
   pub number : ℕ
-  pub length : ℕ
+  pub sheetLength : ℕ
   pub output : List ℕ
+
+-- The lent length behind a closing: that of a written sheet; a refusal leaves it as it was, "nothing changes".
+unfoldable pub lengthAfter : Closing → (before : ℕ) → ℕ
+lengthAfter (Written n) before = n
+lengthAfter (Refused a) before = before
 
 unfoldable pub sheetFor : Words → List ℕ → Closed
 sheetFor l output = if tooShort (length (l .head)) then unwritten output Damaged else sheetOf (runIn l) output
 
-abbrev pub closedWords : Closed → ClosedWords
-closedWords c = record { number = closingNumber (c .answer); length = closingLength (c .answer); output = c .output }
+abbrev pub closedWords : (before : ℕ) → Closed → ClosedWords
+closedWords before c = record { number = closingNumber (c .answer); sheetLength = lengthAfter (c .answer) before; output = c .output }
 
-abbrev pub sheetWords : Words → (output : List ℕ) → ClosedWords
-sheetWords l output = closedWords (sheetFor l output)
+abbrev pub sheetWords : Words → (output : List ℕ) → (before : ℕ) → ClosedWords
+sheetWords l output before = closedWords before (sheetFor l output)

@@ -14,7 +14,6 @@ use lib.Seq.{getD-drop}
 use Rattle.block.specs.Encoding.{AreBytes}
 use Rattle.footprint.specs.SafeSets.{InRanges}
 use Rattle.arith.proofs.ChoiceLaws.{if-all}
-use Rattle.wire.specs.Bytes.{number}
 use Rattle.wire.proofs.BytesLaws.{number-lt}
 use Rattle.block.specs.Key.{firstContract, accountBalance, contractBalance, payeeOf}
 use Rattle.block.proofs.KeyLaws.{payee-all}
@@ -178,9 +177,7 @@ take-bytes (suc n) (b ∷ s) h (suc i) = take-bytes n s (λ j. h (suc j)) i
 
 -- An instruction that bytes decode to is such.
 pub decode-sound : (size : ℕ) (s : List ℕ) → AreBytes s → Decodes (InstrLawful (2 ^ 16) size) (decode size s)
-decode-sound size s h =
-    let wide : number 4 (drop 4 s) < 2 ^ 32 = number-lt 4 (drop 4 s) (drop-bytes 4 s h) in
-    decode-lawful (2 ^ 16) size s (omega arith)
+decode-sound size s h = decode-lawful size s (number-lt 4 (drop 4 s) (drop-bytes 4 s h))
 
 pub decode-fits : (size : ℕ) (s : List ℕ) → AreBytes s → Decodes InstrSound (decode size s)
 decode-fits size s h =

@@ -6,7 +6,7 @@ use Prim.Native.Nat.{ℕ, _≤_, _<_}
 use native.Mathlib.Omega.{arith}
 use lib.IntN.{ℤ}
 use Rattle.schedule.specs.declared.Move.{Move}
-use Rattle.schedule.specs.Tally.{Phase, running, finished, Tally, isFinished, unfinishedEarlier, hasBegun}
+use Rattle.schedule.specs.Tally.{Phase, waiting, running, finished, Tally, isFinished, unfinishedEarlier, hasBegun}
 use Rattle.schedule.specs.Calls as calls
 use Rattle.schedule.specs.Calls.{Calls, done, Laws}
 use Rattle.schedule.specs.Machine.{ended, isEnded, activity, Machine}
@@ -17,7 +17,7 @@ use Rattle.schedule.proofs.Simulation.{agrees-shape}
 use Rattle.schedule.proofs.CountLaws.{count-same}
 use Rattle.schedule.specs.Confluent.{Confluent}
 use Rattle.block.specs.Encoding.{AreBytes}
-use Rattle.machine.specs.Run.{Run, Sizes, heldAt, stateOf, waitCount}
+use Rattle.machine.specs.Run.{Run, Sizes, heldAt, stateOf, statusWord, outcomeWord, countWord, waitCount}
 use Rattle.machine.specs.Waits.{namedIn, finishedIn, countedWaits}
 use Rattle.machine.specs.Step.{cellAt}
 use Rattle.machine.specs.Moves.{moveOf}
@@ -125,6 +125,11 @@ module _ (s : Sizes) (file : List ℕ) (workers : ℕ) (bytes : AreBytes file) (
   ended-is c =
       let a = agreed s file workers bytes after sized ms in
       ap isEnded (a .stands c) ∙ agrees-shape Y laws workers s₀ good T M a c .ends ∙ ap isFinished (sym (phase-is c))
+
+  -- A waiting call has not ended, so the status has no receipt of it.
+  waits-again : (c : ℕ) → c < n → tallyAfter file workers ms .phase c ≡ waiting
+      → (statusWord (r .status) c outcomeWord ≡ 0) × (statusWord (r .status) c countWord ≡ 0)
+  waits-again c l e = matching.no-receipt (r .status) c (M .call c) (stands .calls c l) (ended-is c ∙ ap isFinished e)
 
   counts : (c : ℕ) → c < n → waitCount (r .status) c ≡ unfinishedEarlier (isBefore file) (λ i. isFinished (tallyAfter file workers ms .phase i)) c c
   counts c l = stands .waits c l ∙ count-same (isBefore file) _ c (isBefore file) _ c (λ i less. refl) (λ i less. ended-is i)
@@ -261,6 +266,7 @@ module _ (s : Sizes) (file : List ℕ) (workers : ℕ) (bytes : AreBytes file) (
         answers = answers-are s file workers bytes after sized ms;
         states = λ c l. states c l;
         seats = seats;
+        waiting-calls = waits-again;
         counts = counts;
         counted = counted;
         by-row = begin-by-row file workers n (isBefore file) r₀ start M r stands;

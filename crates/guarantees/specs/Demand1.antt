@@ -4,21 +4,22 @@
 use mathlib.Core.Path.{_≡_}
 use mathlib.Core.Bool.{true}
 use mathlib.Core.List.{List, [], _∷_}
+use mathlib.Core.Logic.{_⊎_}
 use Prim.Native.Nat.{ℕ, suc, _+_, _-_, _*_, _%_, _<_, _≤_}
+use lib.Dec.{eqb}
 use lib.IntN.{ℤ, pos}
 use lib.ListN.{length, getD, take}
 use lib.Signed.{nonNeg}
+use Rattle.arith.specs.Choice.{if_then_else_}
 use Rattle.wire.specs.Bytes.{repeated}
 use Rattle.wire.specs.Rows.{inRow}
 use Rattle.schedule.specs.declared.Move.{Move}
 use Rattle.block.specs.Limits.{maxBytes, maxCalls, maxCallKeys, maxKeys, maxWorkers}
-use Rattle.block.specs.Record.{Block, callRecordBytes}
-use Rattle.block.specs.Reader.{accepted, refused, readBlock}
+use Rattle.block.specs.Record.{callRecordBytes}
+use Rattle.block.specs.Refusal.{verdictNumber, verdictOffset}
 use Rattle.wire.specs.All.{All}
 use Rattle.block.specs.Encoding.{AreBytes, Contents, HoldsContents, blockFor, ReaderExact}
-use Rattle.block.specs.declared.Refusal.{Refusal}
-use Rattle.block.specs.declared.Refusal.the-variants.{InputTooLong, Missing, Kind, Length, Field, NotRising, BeyondLimit, Behind, Balances, Code, CallKeys, AllKeys, Workers, Buffers}
-use Rattle.block.specs.declared.Verdict.the-variants as verdict
+use Rattle.block.specs.Faults.{Faulty, RefusalsExact}
 use Rattle.footprint.specs.Access.{Access}
 use Rattle.footprint.specs.Table.{insertKeys}
 use Rattle.footprint.specs.BlockSets.{allSets}
@@ -29,10 +30,9 @@ use Rattle.footprint.specs.Plan.{entryCell, entryWrites, entryFlags}
 use Rattle.machine.specs.Opening.{headOf, openingOf}
 use Rattle.machine.specs.Step.{done, cellAt}
 use Rattle.machine.specs.Moves.{callKeyCount, ownEntries, beginOf, stepped, stepOf, cancelOf, moveOf}
-use Rattle.machine.specs.declared.Answer.{Answer}
-use Rattle.machine.specs.declared.Answer.the-variants as answer
-use Rattle.sheet.specs.Sheet.{sheetRecords, sheetBytes, fieldOf, filled, sheetOf}
-use Rattle.sheet.specs.declared.Closing.the-variants.{Refused}
+use Rattle.machine.specs.Answer.{answerNumber}
+use Rattle.sheet.specs.Sheet.{closingNumber, sheetRecords, sheetBytes, fieldOf, filled, sheetOf}
+use Rattle.guarantees.specs.StepNeeds.{StepNeeds}
 
 -- Both ways.
 abbrev pub Exactly : Type 0 → Type 0 → Type 0
@@ -85,31 +85,28 @@ pub record Over1024 (sets : List (List Access)) (keys : List ℕ) (first at : �
   pub own : length (getD sets call []) ≤ maxCallKeys
   pub over : maxKeys < length (keysTogether keys (take (suc call) sets))
 
--- "Order: 20 .., 13, 1; by record ..; then by call 11, 12": when an opening is refused by each refusal. What is found right before the file is
--- read; and the refusals 2 to 10, which are the reader's.
+-- What is found right before the file is read.
 abbrev pub Before1 : Sizes → (workers : ℕ) → Type 0
 Before1 s workers = Large s × ((1 ≤ workers) × (workers ≤ maxWorkers))
 
-abbrev pub ReaderRefuses : Sizes → (file : List ℕ) (workers : ℕ) → Refusal → Type 0
-ReaderRefuses s file workers why = Before1 s workers × (readBlock file ≡ refused why)
-
-abbrev pub OpeningRefuses : Sizes → (file : List ℕ) (workers : ℕ) → Refusal → Type 0
-OpeningRefuses s file workers Buffers = Large s → ⊥
-OpeningRefuses s file workers Workers = Large s × ((1 ≤ workers) × (workers ≤ maxWorkers) → ⊥)
-OpeningRefuses s file workers InputTooLong = Before1 s workers × (maxBytes < length file)
-OpeningRefuses s file workers (Missing at) = ReaderRefuses s file workers (Missing at)
-OpeningRefuses s file workers (Kind at) = ReaderRefuses s file workers (Kind at)
-OpeningRefuses s file workers (Length at) = ReaderRefuses s file workers (Length at)
-OpeningRefuses s file workers (Field at) = ReaderRefuses s file workers (Field at)
-OpeningRefuses s file workers (NotRising at) = ReaderRefuses s file workers (NotRising at)
-OpeningRefuses s file workers (BeyondLimit at) = ReaderRefuses s file workers (BeyondLimit at)
-OpeningRefuses s file workers (Behind at) = ReaderRefuses s file workers (Behind at)
-OpeningRefuses s file workers (Balances at) = ReaderRefuses s file workers (Balances at)
-OpeningRefuses s file workers (Code at) = ReaderRefuses s file workers (Code at)
-OpeningRefuses s file workers (CallKeys at) =
-    Before1 s workers × ((b : Block) × (readBlock file ≡ accepted b) × Over24 (allSets file b) (openingKeys b) (b .firstCall) at)
-OpeningRefuses s file workers (AllKeys at) =
-    Before1 s workers × ((b : Block) × (readBlock file ≡ accepted b) × Over1024 (allSets file b) (openingKeys b) (b .firstCall) at)
+-- "Order: 20 .., 13, 1; by record ..; then by call 11, 12": when an opening is refused by each number with each offset. 2 to 10 are the faults of the file.
+abbrev pub OpeningRefuses : Sizes → (file : List ℕ) (workers n offset : ℕ) → Type 0
+OpeningRefuses s file workers n offset =
+    if eqb n 20
+    then (Large s → ⊥) × (offset ≡ 0)
+    else if eqb n 13
+    then Large s × ((1 ≤ workers) × (workers ≤ maxWorkers) → ⊥) × (offset ≡ 0)
+    else if eqb n 1
+    then Before1 s workers × (maxBytes < length file) × (offset ≡ 0)
+    else if eqb n 11
+    then
+    Before1 s workers
+    × ((t : Contents) × HoldsContents file t × Over24 (allSets file (blockFor t)) (openingKeys (blockFor t)) (blockFor t .firstCall) offset)
+    else if eqb n 12
+    then
+    Before1 s workers
+    × ((t : Contents) × HoldsContents file t × Over1024 (allSets file (blockFor t)) (openingKeys (blockFor t)) (blockFor t .firstCall) offset)
+    else (Before1 s workers × Faulty file n offset)
 
 -- "a refused opening leaves the lent buffers zero": each list is zero and as long as it was, and the head is zero.
 pub record Cleared (s : Sizes) (r : Run) : Type 0 where
@@ -175,33 +172,33 @@ pub record Before25 (r : Run) (worker call : ℕ) : Type 0 where
   pub number : waitCount (r .status) call ≤ call
 
 -- "21 no such worker; 22 no such call; 23 worker holds a call; 24 call not waiting; 25 an earlier conflicting call unfinished", and M-100: "For 25
--- BEGIN looks at this number alone": when BEGIN gives each answer, 20 apart.
-abbrev pub BeginGives : Run → (worker call : ℕ) → Answer → Type 0
-BeginGives r worker call answer.Accepted = Before25 r worker call × (waitCount (r .status) call ≡ 0) × EntriesIn r call
-BeginGives r worker call answer.Damaged = ⊥
-BeginGives r worker call answer.NoWorker = Before21 r × (r .head .workers ≤ worker)
-BeginGives r worker call answer.NoCall = Before22 r worker × (r .head .calls ≤ call)
-BeginGives r worker call answer.WorkerBusy = Before23 r worker call × (heldIn r worker ≡ 0 → ⊥)
-BeginGives r worker call answer.NotWaiting = Before24 r worker call × (stateOf (r .status) call ≡ waiting → ⊥)
-BeginGives r worker call answer.EarlierUnfinished = Before25 r worker call × (waitCount (r .status) call ≡ 0 → ⊥)
-BeginGives r worker call answer.WorkerIdle = ⊥
-BeginGives r worker call answer.CallUnfinished = ⊥
-BeginGives r worker call answer.SheetTooLong = ⊥
+-- BEGIN looks at this number alone": when BEGIN gives each number, 0 for accepted, 20 apart.
+abbrev pub BeginGives : Run → (worker call n : ℕ) → Type 0
+BeginGives r worker call n =
+    if eqb n 0
+    then Before25 r worker call × (waitCount (r .status) call ≡ 0) × EntriesIn r call
+    else if eqb n 21
+    then Before21 r × (r .head .workers ≤ worker)
+    else if eqb n 22
+    then Before22 r worker × (r .head .calls ≤ call)
+    else if eqb n 23
+    then Before23 r worker call × (heldIn r worker ≡ 0 → ⊥)
+    else if eqb n 24
+    then Before24 r worker call × (stateOf (r .status) call ≡ waiting → ⊥)
+    else if eqb n 25
+    then Before25 r worker call × (waitCount (r .status) call ≡ 0 → ⊥)
+    else ⊥
 
 -- ---- STEP and CANCEL
 
--- "21 no such worker", "26 worker holds none": when STEP and CANCEL are refused by each answer, 20 apart.
-abbrev pub HeldRefuses : Run → (worker : ℕ) → Answer → Type 0
-HeldRefuses r worker answer.Accepted = ⊥
-HeldRefuses r worker answer.Damaged = ⊥
-HeldRefuses r worker answer.NoWorker = Before21 r × (r .head .workers ≤ worker)
-HeldRefuses r worker answer.NoCall = ⊥
-HeldRefuses r worker answer.WorkerBusy = ⊥
-HeldRefuses r worker answer.NotWaiting = ⊥
-HeldRefuses r worker answer.EarlierUnfinished = ⊥
-HeldRefuses r worker answer.WorkerIdle = Before21 r × (worker < r .head .workers) × (heldIn r worker ≡ 0)
-HeldRefuses r worker answer.CallUnfinished = ⊥
-HeldRefuses r worker answer.SheetTooLong = ⊥
+-- "21 no such worker", "26 worker holds none": when STEP and CANCEL are refused by each number, 20 apart.
+abbrev pub HeldRefuses : Run → (worker n : ℕ) → Type 0
+HeldRefuses r worker n =
+    if eqb n 21
+    then Before21 r × (r .head .workers ≤ worker)
+    else if eqb n 26
+    then Before21 r × (worker < r .head .workers) × (heldIn r worker ≡ 0)
+    else ⊥
 
 -- A worker holds a call of the run.
 pub record HoldsCall (r : Run) (worker call : ℕ) : Type 0 where
@@ -223,6 +220,18 @@ pub record Lowers (r : Run) (call later : ℕ) (after : Run) : Type 0 where
   pub lowered : WaitsFor r call later → waitCount (after .status) later ≡ waitCount (r .status) later - 1
   pub kept : (WaitsFor r call later → ⊥) → waitCount (after .status) later ≡ waitCount (r .status) later
 
+-- STEP, of the call that its worker holds: every value that it uses is in its range. Where it ends the call it uses the numbers that the finish
+-- lowers, and where it restores the call's cells its entries, too.
+abbrev pub StepIn : (block : List ℕ) → Run → (worker call : ℕ) → Type 0
+StepIn block r worker call = StepNeeds block r worker call (Lowerable r call) (EntriesIn r call × Lowerable r call)
+
+-- When STEP is 20: the run's buffers or its number of workers; or its worker holds something, and that is no call of the run or a call of which the
+-- step uses a value outside its range.
+abbrev pub StepDamaged : (block : List ℕ) → Run → (worker : ℕ) → Type 0
+StepDamaged block r worker =
+    (Before21 r → ⊥)
+    ⊎ (Before21 r × (worker < r .head .workers) × (heldIn r worker ≡ 0 → ⊥) × ((call : ℕ) → HoldsCall r worker call → StepIn block r worker call → ⊥))
+
 -- ---- the sheet
 
 -- What the sheet has found right before 27, before 28 and before it is written.
@@ -237,19 +246,6 @@ pub record Before28 (r : Run) : Type 0 where
   pub cells : r .head .cells ≤ maxKeys
   pub balances : (n : ℕ) → n < r .head .cells → fieldOf (r .keys) n ≡ 0 → nonNeg (cellAt (r .cells) n) ≡ true
 
--- "27 sheet wanted with a call unfinished; 28 sheet longer than the output buffer": when the sheet is refused by each answer, 20 apart.
-abbrev pub SheetRefuses : Run → (output : List ℕ) → Answer → Type 0
-SheetRefuses r output answer.Accepted = ⊥
-SheetRefuses r output answer.Damaged = ⊥
-SheetRefuses r output answer.NoWorker = ⊥
-SheetRefuses r output answer.NoCall = ⊥
-SheetRefuses r output answer.WorkerBusy = ⊥
-SheetRefuses r output answer.NotWaiting = ⊥
-SheetRefuses r output answer.EarlierUnfinished = ⊥
-SheetRefuses r output answer.WorkerIdle = ⊥
-SheetRefuses r output answer.CallUnfinished = Before27 r × ((call : ℕ) × (call < r .head .calls) × (CallFinished r call → ⊥))
-SheetRefuses r output answer.SheetTooLong = Before28 r × (length output < length (sheetBytes r))
-
 -- It is written where it fits and each outcome and count is in its range.
 pub record Writable (r : Run) (output : List ℕ) : Type 0 where
   pub so-far : Before28 r
@@ -257,35 +253,55 @@ pub record Writable (r : Run) (output : List ℕ) : Type 0 where
   pub outcomes : (call : ℕ) → call < r .head .calls → statusWord (r .status) call outcomeWord ≤ lastOutcome
   pub counts : (call : ℕ) → call < r .head .calls → statusWord (r .status) call countWord ≤ maxCount
 
+-- "27 sheet wanted with a call unfinished; 28 sheet longer than the output buffer": when the sheet gives each number, 0 for written, 20 apart.
+abbrev pub SheetGives : Run → (output : List ℕ) (n : ℕ) → Type 0
+SheetGives r output n =
+    if eqb n 0
+    then Writable r output
+    else if eqb n 27
+    then Before27 r × ((call : ℕ) × (call < r .head .calls) × (CallFinished r call → ⊥))
+    else if eqb n 28
+    then Before28 r × (length output < length (sheetBytes r))
+    else ⊥
+
 -- ---- the demand
 
 pub record Demand1 : Type 0 where
   -- "takes every block .. refuses a faulty one": a file is a block exactly if it is the bytes of one that keeps the rules, and an opening is
   -- accepted exactly if besides the sets, the workers and the buffers keep theirs. So "refuses every block" is shut out. ".. by the numbers
-  -- of document 01": each refusal of an opening exactly under its condition.
+  -- of document 01": of a file of bytes each exactly under its condition, so none has two, and of an opening likewise.
   pub reader : ReaderExact
+  pub faults : RefusalsExact
   pub opens : (s : Sizes) (file : List ℕ) (workers : ℕ) → AreBytes file
-      → Exactly (openingOf s file workers .answer ≡ verdict.Accepted) (Openable s file workers)
-  pub opens-not : (s : Sizes) (file : List ℕ) (workers : ℕ) (why : Refusal)
-      → Exactly (openingOf s file workers .answer ≡ verdict.Refused why) (OpeningRefuses s file workers why)
+      → Exactly (verdictNumber (openingOf s file workers .answer) ≡ 0) (Openable s file workers)
+  pub opens-not : (s : Sizes) (file : List ℕ) (workers : ℕ) → AreBytes file → (n offset : ℕ) → (n ≡ 0 → ⊥)
+      → Exactly ((verdictNumber (openingOf s file workers .answer) ≡ n) × (verdictOffset (openingOf s file workers .answer) ≡ offset))
+      (OpeningRefuses s file workers n offset)
   -- Each number of a move, lowest first, exactly under its condition.
-  pub begins : (r : Run) (worker call : ℕ) (a : Answer) → (a ≡ answer.Damaged → ⊥) → Exactly (beginOf r worker call .answer ≡ a) (BeginGives r worker call a)
-  pub steps : (block : List ℕ) (r : Run) (worker : ℕ) (a : Answer) → (a ≡ answer.Accepted → ⊥) → (a ≡ answer.Damaged → ⊥)
-      → Exactly (stepOf block r worker .answer ≡ a) (HeldRefuses r worker a)
-  pub cancels : (r : Run) (worker : ℕ) (a : Answer) → (a ≡ answer.Accepted → ⊥) → (a ≡ answer.Damaged → ⊥)
-      → Exactly (cancelOf r worker .answer ≡ a) (HeldRefuses r worker a)
-  pub cancelled : (r : Run) (worker : ℕ) → Exactly (cancelOf r worker .answer ≡ answer.Accepted) ((call : ℕ) × HoldsCall r worker call × EntriesIn r call)
+  pub begins : (r : Run) (worker call n : ℕ) → (n ≡ 20 → ⊥)
+      → Exactly (answerNumber (beginOf r worker call .answer) ≡ n) (BeginGives r worker call n)
+  pub steps : (block : List ℕ) (r : Run) (worker n : ℕ) → (n ≡ 0 → ⊥) → (n ≡ 20 → ⊥)
+      → Exactly (answerNumber (stepOf block r worker .answer) ≡ n) (HeldRefuses r worker n)
+  -- "20 for a value is tested where the test or the change first uses that value": STEP is accepted exactly if each value that it uses is in its
+  -- range, and 20 exactly if one is not.
+  pub steps-accepted : (block : List ℕ) (r : Run) (worker : ℕ)
+      → Exactly (answerNumber (stepOf block r worker .answer) ≡ 0) ((call : ℕ) × HoldsCall r worker call × StepIn block r worker call)
+  pub steps-20 : (block : List ℕ) (r : Run) (worker : ℕ) → Exactly (answerNumber (stepOf block r worker .answer) ≡ 20) (StepDamaged block r worker)
+  pub cancels : (r : Run) (worker n : ℕ) → (n ≡ 0 → ⊥) → (n ≡ 20 → ⊥)
+      → Exactly (answerNumber (cancelOf r worker .answer) ≡ n) (HeldRefuses r worker n)
+  pub cancelled : (r : Run) (worker : ℕ)
+      → Exactly (answerNumber (cancelOf r worker .answer) ≡ 0) ((call : ℕ) × HoldsCall r worker call × EntriesIn r call)
   -- M-100, of a step that ends a call, with whatever outcome: when it is 20 by the numbers of the calls that wait for it, and what it leaves of them.
   pub finishes : (r : Run) (worker call outcome count : ℕ) (cells : List ℤ)
-      → Exactly (stepped r worker call (done outcome count cells) .answer ≡ answer.Accepted) (Lowerable r call)
+      → Exactly (answerNumber (stepped r worker call (done outcome count cells) .answer) ≡ 0) (Lowerable r call)
   pub lowers : (r : Run) (worker call outcome count : ℕ) (cells : List ℤ) → Large (sizesOf r) → CallsIn r → Lowerable r call
       → (later : ℕ) → later < r .head .calls → Lowers r call later (stepped r worker call (done outcome count cells) .run)
   -- The same of the sheet.
-  pub refuses : (r : Run) (output : List ℕ) (a : Answer) → (a ≡ answer.Damaged → ⊥)
-      → Exactly (sheetOf r output .answer ≡ Refused a) (SheetRefuses r output a)
+  pub closes : (r : Run) (output : List ℕ) (n : ℕ) → (n ≡ 20 → ⊥)
+      → Exactly (closingNumber (sheetOf r output .answer) ≡ n) (SheetGives r output n)
   pub writes : (r : Run) (output : List ℕ) → Exactly (sheetOf r output ≡ filled output (sheetRecords r)) (Writable r output)
   -- "a refused opening leaves the lent buffers zero, a refused move or sheet leaves them unchanged."
-  pub cleared : (s : Sizes) (file : List ℕ) (workers : ℕ) (why : Refusal) → openingOf s file workers .answer ≡ verdict.Refused why
+  pub cleared : (s : Sizes) (file : List ℕ) (workers : ℕ) → (verdictNumber (openingOf s file workers .answer) ≡ 0 → ⊥)
       → Cleared s (openingOf s file workers .run)
-  pub unmoved : (block : List ℕ) (r : Run) (m : Move) → (moveOf block r m .answer ≡ answer.Accepted → ⊥) → moveOf block r m .run ≡ r
-  pub unwritten : (r : Run) (output : List ℕ) (a : Answer) → sheetOf r output .answer ≡ Refused a → sheetOf r output .output ≡ output
+  pub unmoved : (block : List ℕ) (r : Run) (m : Move) → (answerNumber (moveOf block r m .answer) ≡ 0 → ⊥) → moveOf block r m .run ≡ r
+  pub unwritten : (r : Run) (output : List ℕ) → (closingNumber (sheetOf r output .answer) ≡ 0 → ⊥) → sheetOf r output .output ≡ output

@@ -4,7 +4,7 @@ use mathlib.Core.Bool.{true, false}
 use mathlib.Core.List.{List}
 use Prim.Native.Nat.{ℕ, _+_, _<_, _≤_}
 use lib.ListN.{getD}
-use Rattle.schedule.specs.Tally.{running, finished, holds, isFinished, unfinishedEarlier, Forward}
+use Rattle.schedule.specs.Tally.{waiting, running, finished, holds, isFinished, unfinishedEarlier, Forward}
 use Rattle.schedule.specs.declared.Move.{Move}
 use Rattle.block.specs.Encoding.{AreBytes}
 use Rattle.block.specs.declared.Verdict.the-variants as verdict
@@ -60,6 +60,10 @@ pub record Demand3 (s : Sizes) (file : List ℕ) (workers : ℕ) (ms : List Move
       → stateOf (runAfterMoves s file workers ms .status) call ≡ stateNumber (tallyAfter file workers ms .phase call)
   pub seats : (worker : ℕ) → worker < workers
       → heldAt (runAfterMoves s file workers ms .head) worker ≡ seatNumber (tallyAfter file workers ms .seat worker)
+  -- "the call waits again, count 0": a waiting call, never begun or cancelled, has no receipt.
+  pub waiting-calls : (call : ℕ) → call < callCount file → tallyAfter file workers ms .phase call ≡ waiting
+      → (statusWord (runAfterMoves s file workers ms .status) call outcomeWord ≡ 0)
+      × (statusWord (runAfterMoves s file workers ms .status) call countWord ≡ 0)
   -- M-100: "Each call shall carry the number of its earlier conflicting calls still unfinished": by the block and the tally; "It .. stays equal to
   -- the counted number after every begin, step and cancel": by the row and the states of the run itself.
   pub counts : (call : ℕ) → call < callCount file

@@ -2,7 +2,7 @@
 use mathlib.Core.Path.{_≡_, refl, sym, ap, subst, _∙_}
 use mathlib.Core.Bool.{Bool, true, false, true≢false}
 use mathlib.Core.List.{List, [], _∷_, _++_, append-assoc, append-nil}
-use Prim.Native.Nat.{ℕ, _+_, _-_, _≤_, _<_}
+use Prim.Native.Nat.{ℕ, _+_, _-_, _^_, _≤_, _<_}
 use native.Mathlib.Nat.{add-zero, zero-add}
 use native.Mathlib.Numerals.{add-one}
 use native.Mathlib.Omega.{arith}
@@ -12,7 +12,7 @@ use borrow.Rule.Slice.PartMut.{midOf, postOf, putMid}
 use Rattle.block.specs.Limits.{maxBytes}
 use Rattle.wire.specs.Bytes.{stored, repeated}
 use Rattle.wire.proofs.BytesLaws.{stored-append, stored-past, stored-inside}
-use Rattle.host.specs.Exchange.{Handed, Filled, Reads, FileIn}
+use Rattle.host.specs.Exchange.{Handed, Filled, Taken, PartIn, Reads, FileIn}
 use Rattle.host.specs.declared.Exchange.{Exchange}
 use Rattle.host.specs.declared.FileRead.{FileRead}
 use Rattle.text.specs.Written.{Written}
@@ -89,6 +89,42 @@ module _ (n : ℕ) (buffer last : List ℕ) {got : ℕ} (l : got ≤ length last
   got-filled {after} h e d =
       let same : length (last ++ drop n buffer) ≡ length buffer = omega (arith, length-append last (drop n buffer), length-drop n buffer, length-take-le n buffer h) in
       read-filled buffer (last ++ drop n buffer) after got got-fits same d
+
+  pub taken-some : {after : List ℕ} → n ≤ length buffer → length last ≡ length (take n buffer) → drop got after ≡ repeated (length (last ++ drop n buffer) - got) 0
+      → Taken buffer after n got
+  taken-some {after} h e d =
+      record {
+        filled = got-filled h e d;
+        most = omega (arith, l, e, length-take-le n buffer h);
+        short = λ s. absurd (omega (arith, s, h));
+      }
+
+pub taken-none : {before after : List ℕ} {n : ℕ} → drop 0 after ≡ repeated (length before - 0) 0 → Taken before after n 0
+taken-none d = record { filled = record { within = omega arith; behind = d }; most = omega arith; short = λ s. refl }
+
+-- A part of a stream: its length told, and a buffer that is too short, or large enough.
+pub part-refused : {told : ℕ} {before after : List ℕ} → told < 2 ^ 32 → drop 0 after ≡ repeated (length before - 0) 0
+    → PartIn before after (record { found = false; told = told; length = 0 })
+part-refused bound d =
+    record {
+      in-four = bound;
+      filled = record { within = omega arith; behind = d };
+      most = omega arith;
+      short = λ h. refl;
+      none = λ h. refl;
+    }
+
+pub part-taken : {found : Bool} {told got : ℕ} {before after : List ℕ} → told < 2 ^ 32 → (found ≡ false → told ≡ 0) → told ≤ length before
+    → Taken before after told got → PartIn before after (record { found = found; told = told; length = got })
+part-taken {found} {told} {got} bound none large t =
+    let most : got ≤ told = t .most in
+    record {
+      in-four = bound;
+      filled = t .filled;
+      most = most;
+      short = λ h. absurd (omega (arith, h, large));
+      none = λ h. let e : told ≡ 0 = none h in omega (arith, e, most);
+    }
 
 pub file-in : (before mid after : List ℕ) {r : FileRead} → Reads (length before) r → length mid ≡ length before
     → drop (r .length) after ≡ repeated (length mid - r .length) 0 → FileIn before after r

@@ -2,12 +2,13 @@
 use mathlib.Core.Path.{_≡_}
 use mathlib.Core.Bool.{Bool, true, false}
 use mathlib.Core.List.{List, [], _++_}
-use Prim.Native.Nat.{ℕ, _-_, _≤_}
+use Prim.Native.Nat.{ℕ, _-_, _^_, _≤_, _<_}
 use lib.Dec.{ltb}
 use lib.ListN.{length, drop}
 use Rattle.wire.specs.Bytes.{repeated}
 use Rattle.host.specs.declared.Exchange.{Exchange}
 use Rattle.host.specs.declared.FileRead.{FileRead}
+use Rattle.host.specs.declared.PartRead.{PartRead}
 use Rattle.text.specs.Written.{Written}
 
 -- A text is handed to standard output: whole, or, where a write failed, a first part of it. What is handed over stands in the transcript
@@ -29,6 +30,25 @@ hasArguments n = ltb 1 n
 pub record Filled (before after : List ℕ) (n : ℕ) : Type 0 where
   pub within : n ≤ length before
   pub behind : drop n after ≡ repeated (length before - n) 0
+
+-- What was not found has no byte.
+abbrev pub NoneIsEmpty : (found : Bool) → (n : ℕ) → Type 0
+NoneIsEmpty found n = found ≡ false → n ≡ 0
+
+-- At most n bytes read into a buffer; none into one of fewer.
+pub record Taken (before after : List ℕ) (n got : ℕ) : Type 0 where
+  pub filled : Filled before after got
+  pub most : got ≤ n
+  pub short : length before < n → got ≡ 0
+
+-- A part of a stream in a buffer, behind its length, which is told in four bytes: at most so many bytes. A buffer of fewer has none of it and is
+-- refused: no part is found.
+pub record PartIn (before after : List ℕ) (r : PartRead) : Type 0 where
+  pub in-four : r .told < 2 ^ 32
+  pub filled : Filled before after (r .length)
+  pub most : r .length ≤ r .told
+  pub short : length before < r .told → r .found ≡ false
+  pub none : NoneIsEmpty (r .found) (r .length)
 
 -- How much of a file is read into a buffer of a size: all of it to its end, or as much as the buffer takes; nothing of one that cannot be read.
 pub record Reads (size : ℕ) (r : FileRead) : Type 0 where

@@ -9,7 +9,7 @@ ghost use mathlib.Core.Bool.{false};
 ghost use Prim.Native.Nat.{_+_, _-_, _^_, _<_, _≤_};
 ghost use lib.ListN.{length, drop};
 ghost use Rattle.wire.specs.Bytes.{stored, repeated};
-ghost use Rattle.host.specs.Exchange.{Handed, hasArguments, Filled, Reads, FileIn};
+ghost use Rattle.host.specs.Exchange.{Handed, hasArguments, NoneIsEmpty, Taken, PartIn, Reads, FileIn};
 
 // How the exchange stands: whether no read and no write failed, how many bytes came from standard input, and how many were handed to
 // standard output.
@@ -29,6 +29,13 @@ pub struct FileRead {
 // A part of a stream: whether there was one, and its length.
 pub struct Part {
     pub found: bool,
+    pub length: usize,
+}
+
+// A part that was read: whether there was one that the buffer takes, the length that was told, and how many bytes of it came.
+pub struct PartRead {
+    pub found: bool,
+    pub told: usize,
     pub length: usize,
 }
 
@@ -211,9 +218,10 @@ pub fn read_block_file(file: &mut [u8]) -> FileRead
     r
 }
 
-// The next n bytes of standard input in the buffer's first bytes, with zeros behind them; none where the buffer has fewer. Answers how many came.
+// The next n bytes of standard input at most in the buffer's first bytes, with zeros behind them; none where the buffer has fewer. Answers how
+// many came.
 pub fn read_bytes(buffer: &mut [u8], n: usize) -> usize
-    ensures { λ r. ⌜ Filled (now (buffer .entry)) (now (buffer .exit)) r ⌝ }
+    ensures { λ r. ⌜ Taken (now (buffer .entry)) (now (buffer .exit)) n r ⌝ }
 {
     if buffer.len() < n {
         clear_from(buffer, 0);
@@ -230,6 +238,7 @@ const LENGTHS: u64 = 4294967296;
 // The next length of a stream on standard input, in four bytes, little-endian; none at the input's end.
 pub fn next_length() -> Part
     ensures { λ r. ⌜ r .length < 2 ^ 32 ⌝ }
+    ensures { λ r. ⌜ NoneIsEmpty (r .found) (r .length) ⌝ }
 {
     let mut head = [0u8; 4];
     if io::read_full(STDIN_FILENO, &mut head) < 4 {
@@ -244,14 +253,25 @@ pub fn next_length() -> Part
     }
 }
 
-// The next part of a stream on standard input, behind its length, in the buffer's first bytes, with zeros behind them.
-pub fn read_part(buffer: &mut [u8]) -> Part
-    ensures { λ r. ⌜ Filled (now (buffer .entry)) (now (buffer .exit)) (r .length) ⌝ }
+// The next part of a stream on standard input, behind its length, in the buffer's first bytes, with zeros behind them. Where the buffer has fewer
+// bytes than that length none is found.
+pub fn read_part(buffer: &mut [u8]) -> PartRead
+    ensures { λ r. ⌜ PartIn (now (buffer .entry)) (now (buffer .exit)) r ⌝ }
 {
     let head = next_length();
-    let length = read_bytes(buffer, head.length);
-    Part {
+    let told = head.length;
+    if buffer.len() < told {
+        clear_from(buffer, 0);
+        return PartRead {
+            found: false,
+            told,
+            length: 0,
+        };
+    }
+    let length = read_bytes(buffer, told);
+    PartRead {
         found: head.found,
+        told,
         length,
     }
 }

@@ -20,11 +20,11 @@ use Rattle.moves.specs.Lent.{lent, moved}
 use Rattle.opening.specs.Opened.{sizesFor, openedNone, OpenedAs}
 use Rattle.opening.specs.declared.Opened.{Opened}
 use Rattle.opening.proofs.Laws.{opened-as}
-use Rattle.sheet.specs.Sheet.{closingNumber, closingLength, sheetOf}
+use Rattle.sheet.specs.Sheet.{closingNumber, sheetOf}
 use Rattle.sheet.specs.declared.Closing.{Closing}
 use Rattle.closing.specs.Answered.{ClosedAs}
 use Rattle.exports.specs.Words.{Words, words, headWords, headIn, runIn, heldStored}
-use Rattle.exports.specs.Exports.{openingFor, openedWords, openWords, MovedWords, movedWords, moveWords, serialMove, sheetFor, closedWords, sheetWords}
+use Rattle.exports.specs.Exports.{openingFor, openedWords, openWords, MovedWords, movedWords, moveWords, serialMove, lengthAfter, sheetFor, closedWords, sheetWords}
 use Rattle.exports.proofs.LengthLaws.{open-short, move-long, move-short}
 use Rattle.exports.proofs.HeadLaws.{unmoved}
 
@@ -89,10 +89,10 @@ module _ (block : List ℕ) (r : Run) where
 
 -- ---- sheets
 
-module _ (l : Words) (output : List ℕ) where
+module _ (l : Words) (output : List ℕ) (before : ℕ) where
   pub sheet-refused : length (l .head) < headWords → {number : ℕ} → number ≡ answerNumber Damaged
-      → record { number = number; length = 0; output = output } ≡ sheetWords l output
-  unfolding sheetFor closingNumber closingLength
+      → record { number = number; sheetLength = before; output = output } ≡ sheetWords l output before
+  unfolding sheetFor closingNumber lengthAfter
   sheet-refused short a = rw (a, lt-ltb (length (l .head)) headWords short)
 
   sheet-long : headWords ≤ length (l .head) → sheetOf (runIn l) output ≡ sheetFor l output
@@ -102,8 +102,8 @@ module _ (l : Words) (output : List ℕ) where
   pub sheet-made :
       headWords ≤ length (l .head) → {h : Head} → h ≡ headIn (l .head) → {r : Closing} {written : List ℕ}
       → ClosedAs r written (sheetOf (lent h (l .plan) (l .keys) (l .cells) (l .status) (l .seats) (l .frames)) output)
-      → {number size : ℕ} → number ≡ closingNumber r → size ≡ closingLength r
-      → record { number = number; length = size; output = written } ≡ sheetWords l output
+      → {number size : ℕ} → number ≡ closingNumber r → size ≡ lengthAfter r before
+      → record { number = number; sheetLength = size; output = written } ≡ sheetWords l output before
   sheet-made long read made a b =
       rw (a, b)
-      (ap closedWords (made .same ∙ ap (λ (x : Head). sheetOf (lent x (l .plan) (l .keys) (l .cells) (l .status) (l .seats) (l .frames)) output) read ∙ sheet-long long))
+      (ap (closedWords before) (made .same ∙ ap (λ (x : Head). sheetOf (lent x (l .plan) (l .keys) (l .cells) (l .status) (l .seats) (l .frames)) output) read ∙ sheet-long long))

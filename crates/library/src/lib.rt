@@ -3,8 +3,8 @@
 mod run;
 
 use closing::sheet;
-use export_words::answers::closing_length;
 use export_words::answers::closing_number;
+use export_words::answers::length_after;
 use export_words::answers::size_of;
 use export_words::answers::verdict_number;
 use export_words::answers::verdict_offset;
@@ -236,7 +236,8 @@ pub extern "C" fn zumbiqa_serial_run(
     answer_number(answer)
 }
 
-// The closing sheet: 0, or the number of its refusal. The length is that of the written sheet, the offset behind its last record.
+// The closing sheet: 0, or the number of its refusal. The length becomes that of the written sheet, the offset behind its last record; a refusal
+// leaves it as it was.
 #[no_mangle]
 pub extern "C" fn zumbiqa_sheet(
     head: &[u64],
@@ -247,15 +248,14 @@ pub extern "C" fn zumbiqa_sheet(
     seats: &[u64],
     frames: &[i64],
     output: &mut [u8],
-    length: &mut u64,
+    sheet_length: &mut u64,
 ) -> u64
-    ensures { λ r. ⌜ record { number = r; length = now (length .exit); output = now (output .exit) }
+    ensures { λ r. ⌜ record { number = r; sheetLength = now («sheet_length» .exit); output = now (output .exit) }
         ≡ sheetWords
         (words (now (head .entry)) (now (plan .entry)) (now (keys .entry)) (now (cells .entry)) (now (status .entry)) (now (seats .entry))
-        (now (frames .entry))) (now (output .entry)) ⌝ }
+        (now (frames .entry))) (now (output .entry)) (now («sheet_length» .entry)) ⌝ }
 {
     if head.len() < HEAD_WORDS {
-        *length = 0;
         return answer_number(Answer::Damaged);
     }
     let closing = sheet(
@@ -268,6 +268,6 @@ pub extern "C" fn zumbiqa_sheet(
         frames,
         output,
     );
-    *length = closing_length(closing);
+    *sheet_length = length_after(closing, *sheet_length);
     closing_number(closing)
 }

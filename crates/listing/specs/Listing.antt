@@ -45,13 +45,13 @@ abbrev pub callRow : List ℕ → ℕ → List ℕ
 callRow plan j =
     getD plan (32 * j + 27) 0 ∷ getD plan (32 * j + 27 + 1) 0 ∷ getD plan (32 * j + 27 + 2) 0 ∷ getD plan (32 * j + 27 + 3) 0 ∷ []
 
--- What a listed file leaves in the buffers of the run and in that of the text.
+-- What a listed file leaves in the buffers of the run, all zero if the block is refused, and in that of the text, of which n bytes are written.
 pub record Listed (file : List ℕ) (s : Sizes) (plan keys : List ℕ) (cells : List ℤ) (status seats : List ℕ) (frames : List ℤ)
-    (before after : List ℕ) (length : ℕ) : Type 0 where
+    (before after : List ℕ) (n : ℕ) : Type 0 where
   pub plan-is : plan ≡ openingOf s file maxWorkers .run .plan
   pub keys-is : keys ≡ openingOf s file maxWorkers .run .keys
   pub cells-is : cells ≡ openingOf s file maxWorkers .run .cells
   pub status-is : status ≡ openingOf s file maxWorkers .run .status
   pub seats-is : seats ≡ openingOf s file maxWorkers .run .seats
   pub frames-is : frames ≡ openingOf s file maxWorkers .run .frames
-  pub text : Written before after 0 length (listingOf s file)
+  pub text : Written before after 0 n (listingOf s file)

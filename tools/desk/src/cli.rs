@@ -15,7 +15,8 @@ usage: desk COMMAND FILES
 
 /// What goes behind the list of commands.
 const NOTES: &str = "
-`desk COMMAND --help` or `desk help COMMAND` says what a command reads and writes.
+`desk COMMAND --help` or `desk help COMMAND` says what a command reads and writes,
+`desk --version` which version this is.
 `-` in place of a file is standard input or standard output.
 Exit status: 0 done; 1 failed, or the block is refused; 2 wrong usage.
 ";
@@ -54,6 +55,9 @@ fn command(arguments: &[OsString]) -> Result<(), Failure> {
     if asks_help(name) || name == "help" {
         return help(rest);
     }
+    if name == "--version" || name == "-V" {
+        return version(rest);
+    }
     let command = named(name)?;
     if rest.iter().any(|argument| asks_help(argument)) {
         return print(&command.help());
@@ -76,8 +80,20 @@ fn help(names: &[OsString]) -> Result<(), Failure> {
     match names {
         [] => print(&general_help()),
         [name] => print(&named(name)?.help()),
-        [_, more, ..] => Err(wrong(format!("{} is one word too many", shown(more)))),
+        [_, more, ..] => Err(one_too_many(more)),
     }
+}
+
+/// The name and the version of the program, in one line.
+fn version(rest: &[OsString]) -> Result<(), Failure> {
+    match rest.first() {
+        None => print(concat!("desk ", env!("CARGO_PKG_VERSION"), "\n")),
+        Some(more) => Err(one_too_many(more)),
+    }
+}
+
+fn one_too_many(word: &OsStr) -> Failure {
+    wrong(format!("{} is one word too many", shown(word)))
 }
 
 fn general_help() -> String {

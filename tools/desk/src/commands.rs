@@ -80,11 +80,11 @@ pub const COMMANDS: [Command; 8] = [
         arguments: &[input("TEXT"), output("BLOCK")],
         does: "write the block of a text",
         details: "\
-TEXT is a block's text: functions with their instructions, opening cells, calls and
-the end. tools/runner/README.md has its form. BLOCK is written with the bytes, also
-of a block that the register refuses; `desk explain BLOCK` says whether it does.
-A text that is none is told as TEXT:LINE:COLUMN: and the reason, and nothing is
-written. A column counts characters from 1.",
+TEXT is a block's text of at most 4,194,304 bytes: functions with their instructions,
+opening cells, calls and the end. tools/runner/README.md has its form. BLOCK is
+written with the bytes, also of a block that the register refuses; `desk explain
+BLOCK` says whether it does. A text that is none is told as TEXT:LINE:COLUMN: and the
+reason, and nothing is written. A column counts characters from 1.",
         example: "desk assemble pledge.txt block.bin",
         run: tasks::assemble,
     },
@@ -93,9 +93,10 @@ written. A column counts characters from 1.",
         arguments: &[input("BLOCK"), optional(output("TEXT"))],
         does: "write the text of a block",
         details: "\
-BLOCK is a block file or any other file. TEXT, or standard output, is a text with
-comments that assembles to the same bytes: jumps go to labels, an instruction that
-the register refuses stands as `word`, and bytes that are no record as `raw`.",
+BLOCK is a block file or any other file of at most 65,536 bytes. TEXT, or standard
+output, is a text with comments that assembles to the same bytes: jumps go to labels,
+an instruction that the register refuses stands as `word`, and bytes that are no
+record as `raw`.",
         example: "desk disassemble block.bin",
         run: tasks::disassemble,
     },
@@ -120,7 +121,7 @@ BLOCK is a block file, MOVES the lines that REGISTER reads (b WORKER CALL, s WOR
 c WORKER). Standard output says in words what REGISTER prints with 8 workers: of a
 refused block the record, function and instruction and the rule that is broken; of a
 run each refused line, each finished call's receipt, the closing cells or what is
-unfinished, and a summary.
+unfinished, and a summary. A closing sheet in place of a block is told as one.
 The exit status is 1 if the block is refused. Refused lines and an unfinished run
 leave it 0.",
         example: "desk explain block.bin moves.txt",

@@ -5,7 +5,7 @@ use runner::bytes::u16_at;
 use runner::emit::RECEIPT_KIND;
 use runner::execute::Outcome;
 use runner::key::Key;
-use runner::limits::{CELL_BYTES, HEAD_BYTES, MAX_CALLS, MAX_KEYS, RECEIPT_BYTES};
+use runner::limits::{CELL_BYTES, HEAD_BYTES, MAX_CALLS, MAX_KEYS, MAX_SHEET_BYTES, RECEIPT_BYTES};
 
 use crate::records::{records, Record};
 use crate::words;
@@ -29,6 +29,10 @@ pub fn read(bytes: &[u8]) -> Result<Sheet<'_>, String> {
     if PRINTED.iter().any(|line| bytes.starts_with(line)) {
         let why = "these are lines that REGISTER prints; the sheet's bytes are wanted";
         return Err(format!("offset 0: {why}"));
+    }
+    if bytes.len() > MAX_SHEET_BYTES {
+        let most = MAX_SHEET_BYTES;
+        return Err(format!("offset {most}: a sheet has at most {most} bytes"));
     }
     let mut before: Vec<Record> = Vec::new();
     for record in records(bytes) {

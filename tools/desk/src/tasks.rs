@@ -11,22 +11,22 @@ use crate::{disassemble, explain, inspect, page, schedule, waits};
 
 pub fn assemble(files: &[File]) -> Result<(), Failure> {
     let (text, block) = (&files[0], &files[1]);
-    let assembled = assemble::assemble(text.read()?);
+    let assembled = assemble::assemble(text.read_text()?);
     block.write(&assembled.map_err(|error| in_text(text, error))?)
 }
 
 pub fn disassemble(files: &[File]) -> Result<(), Failure> {
-    let text = disassemble::disassemble(&files[0].read()?);
+    let text = disassemble::disassemble(&files[0].read_any()?);
     let output = files.get(1).unwrap_or(&File::Standard);
     output.write(text.as_bytes())
 }
 
 pub fn inspect(files: &[File]) -> Result<(), Failure> {
-    report(inspect::inspect(&files[0].read()?))
+    report(inspect::inspect(&files[0].read_block()?))
 }
 
 pub fn explain(files: &[File]) -> Result<(), Failure> {
-    let block = files[0].read()?;
+    let block = files[0].read_block()?;
     report(match files.get(1) {
         None => explain::block(&block),
         Some(moves) => explain::run(&block, &moves.read_moves()?),
@@ -35,7 +35,7 @@ pub fn explain(files: &[File]) -> Result<(), Failure> {
 
 pub fn next(files: &[File]) -> Result<(), Failure> {
     let (sheet, day, block) = (&files[0], &files[1], &files[2]);
-    let made = next::block(&sheet.read()?, &day.read()?);
+    let made = next::block(&sheet.read_sheet()?, &day.read_text()?);
     let bytes = made.map_err(|fault| match fault {
         Fault::Sheet(why) => {
             let why = format!("not a closing sheet: {why}");
@@ -50,20 +50,20 @@ pub fn next(files: &[File]) -> Result<(), Failure> {
 
 pub fn waits(files: &[File]) -> Result<(), Failure> {
     let (block, svg) = (&files[0], &files[1]);
-    let drawn = waits::svg(&block.read()?);
+    let drawn = waits::svg(&block.read_block()?);
     made(block, drawn, svg)
 }
 
 pub fn schedule(files: &[File]) -> Result<(), Failure> {
     let (block, moves, svg) = (&files[0], &files[1], &files[2]);
-    let drawn = schedule::svg(&block.read()?, &moves.read_moves()?);
+    let drawn = schedule::svg(&block.read_block()?, &moves.read_moves()?);
     made(block, drawn, svg)
 }
 
 pub fn day(files: &[File]) -> Result<(), Failure> {
     let (block, moves, html) = (&files[0], &files[1], &files[2]);
     let title = block.input_name();
-    let page = page::html(&title, &block.read()?, &moves.read_moves()?);
+    let page = page::html(&title, &block.read_block()?, &moves.read_moves()?);
     html.write(page.as_bytes())
 }
 

@@ -8,6 +8,7 @@ use crate::execute::Receipt;
 use crate::limits::{MAX_DIGITS, MAX_INPUT_BYTES, MAX_WORKERS};
 use crate::machine::{open, Machine, Move};
 use crate::refusal::{BlockRefusal, SheetRefusal};
+use crate::sheet;
 
 /// The number printed for a line that is no move.
 const NO_MOVE: u16 = 0;
@@ -39,6 +40,20 @@ pub fn register(block: &[u8], input: &[u8]) -> String {
         None => refused_line(&mut text, SHEET_LINE, SheetRefusal::Unfinished.number()),
     }
     text
+}
+
+/// The bytes of the closing sheet for a block and an input; none where the block
+/// or the sheet is refused.
+pub fn sheet_bytes(block: &[u8], input: &[u8]) -> Vec<u8> {
+    let Ok(opened) = open(block, MAX_WORKERS) else {
+        return Vec::new();
+    };
+    let mut machine = Machine::new(&opened);
+    for line in lines(input) {
+        // A refused line moves nothing, and stands in no sheet.
+        let _ = answer(&mut machine, line);
+    }
+    sheet::closing(&machine).map_or_else(Vec::new, |sheet| sheet.bytes().to_vec())
 }
 
 /// The line for a refused block.

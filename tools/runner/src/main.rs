@@ -38,7 +38,11 @@ const USAGE: &str = "usage:
                                     DIR/stdout
   runner vectors examples DIR       the documents' examples as DIR/stdin, DIR/stdout
   runner vectors files DIR          edges as folders with data/block.bin, stdin, stdout
+  runner --help                     this list, also behind any command
 ";
+
+/// The one option of a command.
+const LARGE: &str = "--large";
 
 /// How many cases of moves there are for one of sheets.
 const MOVES_TO_SHEETS: usize = 10;
@@ -61,6 +65,12 @@ fn main() -> ExitCode {
 }
 
 fn run(words: &[&str]) -> Result<(), Failure> {
+    if words.iter().any(|word| matches!(*word, "--help" | "-h")) {
+        return print(USAGE);
+    }
+    if let Some(option) = words.iter().find(|word| is_unknown_option(word)) {
+        return Err(format!("there is no option {option}\n{USAGE}").into());
+    }
     match words {
         ["assemble", text, block] => write_assembled(text, block),
         ["register", block] => {
@@ -79,7 +89,7 @@ fn run(words: &[&str]) -> Result<(), Failure> {
         ["generate", seed, count, directory] => {
             write_cases(&small_cases(seed.parse()?, count.parse()?), directory)
         }
-        ["generate", seed, count, directory, "--large"] => {
+        ["generate", seed, count, directory, LARGE] => {
             write_cases(&large_cases(seed.parse()?, count.parse()?), directory)
         }
         ["sized", seed, calls, keys, lines, stem] => {
@@ -115,6 +125,12 @@ fn run(words: &[&str]) -> Result<(), Failure> {
         ["vectors", "files", directory] => write_folders(Path::new(directory)),
         _ => Err(USAGE.into()),
     }
+}
+
+/// Whether a word has the form of an option and is none, so that it is not taken
+/// for the name of a missing file.
+fn is_unknown_option(word: &str) -> bool {
+    word.starts_with("--") && word != LARGE
 }
 
 /// The bytes of a block file; a missing file is read as empty.

@@ -5,7 +5,7 @@ use runner::generate::{large_cases, small_cases, Case};
 use runner::limits::MAX_SHEET_BYTES;
 use runner::machine::{self, Machine, Move};
 use runner::{serial, sheet};
-use zumbiqa::raw::{size, size_of_number, Size};
+use zumbiqa::raw::{self, size, size_of_number, Size, StatusWord};
 use zumbiqa::{Answer, Fault, Outcome, Refusal, Run, State};
 
 /// The workers of a generated case.
@@ -49,6 +49,14 @@ fn compare(run: &Run, machine: &Machine) {
     for (call, wanted) in machine.states().iter().enumerate() {
         let found = run.state(call).expect("there is such a call");
         assert_eq!(state(found), machine_state(*wanted), "call {call}");
+        let finished = |call: usize| machine.states()[call].receipt().is_some();
+        let row = machine.opened().rows[call].iter();
+        let waits = row.filter(|earlier| !finished(**earlier)).count();
+        assert_eq!(
+            run.unfinished_before(call),
+            Some(waits as u64),
+            "call {call}"
+        );
     }
     for (worker, wanted) in machine.workers().iter().enumerate() {
         let wanted = wanted.as_ref().map(|held| held.call);
@@ -168,6 +176,7 @@ fn none_such() {
         assert_eq!(run.begin(7, call), Err(Answer::NoCall));
         assert_eq!(run.state(call), None);
         assert_eq!(run.waits_for(call), []);
+        assert_eq!(run.unfinished_before(call), None);
     }
 }
 
@@ -185,6 +194,20 @@ fn sizes_are_the_runners() {
     assert_eq!(size(Size::Block), runner::limits::MAX_BLOCK_BYTES);
     assert_eq!(size_of_number(9), 0);
     assert_eq!(size_of_number(usize::MAX), 0);
+}
+
+/// The words of a call in the status stand where the runner has them.
+#[test]
+fn status_words_are_the_runners() {
+    use runner::lent::{EXECUTED, OUTCOME, STATE, STATUS_WORDS, WAITS};
+    assert_eq!(raw::STATUS_WORDS, STATUS_WORDS);
+    for call in [0, 3, 255] {
+        let of = |word: StatusWord| word.of(call) - STATUS_WORDS * call;
+        assert_eq!(of(StatusWord::State), STATE);
+        assert_eq!(of(StatusWord::Outcome), OUTCOME);
+        assert_eq!(of(StatusWord::Count), EXECUTED);
+        assert_eq!(of(StatusWord::Waits), WAITS);
+    }
 }
 
 /// Each answer is said in document 01's words.

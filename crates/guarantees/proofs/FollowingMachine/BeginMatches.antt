@@ -24,8 +24,8 @@ use Rattle.machine.specs.Moves.{Moved, callKeyCount, ownEntries, waitsByCount, 
 use Rattle.machine.specs.Answer.{answerNumber}
 use Rattle.machine.specs.declared.Answer.the-variants.{NoWorker, NoCall, WorkerBusy, NotWaiting, EarlierUnfinished}
 use Rattle.guarantees.proofs.CallsOfRun.ViewCalls.{atEntry, runView}
-use Rattle.guarantees.proofs.FollowingMachine.RunMatches.{CallState, Base, callsIn, Matches}
-use Rattle.guarantees.proofs.FollowingMachine.BufferLaws.{state-here, state-there, state-wait, state-length, saved-length, seat-length, seat-own, regs-own, old-own, old-leaves-regs, begin-elsewhere}
+use Rattle.guarantees.proofs.FollowingMachine.RunMatches.{CallState, no-receipt, Base, callsIn, Matches}
+use Rattle.guarantees.proofs.FollowingMachine.BufferLaws.{state-here, state-beside, state-there, state-wait, state-length, saved-length, seat-length, seat-own, regs-own, old-own, old-leaves-regs, begin-elsewhere}
 use Rattle.guarantees.proofs.FollowingMachine.WaitMatches.{waits-kept}
 use Rattle.guarantees.proofs.FollowingMachine.ChangeMatches.{changed, CallChange, change-matches, call-few-keys}
 use Rattle.guarantees.proofs.FollowingMachine.Follows.{Follows, refused, passes, tests, large, sized, SeatRead, follows-seat, StateRead, call-read, can-restore}
@@ -86,7 +86,11 @@ module _ (file : List ℕ) (workers n : ℕ) (before : ℕ → ℕ → Bool) (r�
           stands =
               let room : 256 * 4 ≤ length (r .status) = large file workers n before r₀ base M r m .status in
               let few : n ≤ 256 = base .fewCalls in
-              state-here (r .status) c running (omega arith);
+              let none = no-receipt (r .status) c (M .call c) (m .calls c call) (not-ended (M .call c) waits) in (
+                state-here (r .status) c running (omega arith),
+                state-beside (r .status) c running 1 (omega arith) ∙ none .0,
+                state-beside (r .status) c running 2 (omega arith) ∙ none .1,
+              );
           others = λ d k x l. state-there (r .status) c running d k x (omega arith);
           waits =
               waits-kept file workers n before r₀ base M r m c (active atEntry own-saved) (withState (r .status) c running) (state-wait (r .status) c running)

@@ -24,6 +24,10 @@ module _ (status : List ℕ) (c : ℕ) where
   pub state-there : (s d k : ℕ) → ¬ (d ≡ c) → k < statusWords → statusWord (withState status c s) d k ≡ statusWord status d k
   state-there s d k x l = getD-set-other status (4 * c) (4 * d + k) s 0 (omega arith)
 
+  -- Beside its state a call's own words stay.
+  pub state-beside : (s k : ℕ) → 0 < k → statusWord (withState status c s) c k ≡ statusWord status c k
+  state-beside s k l = getD-set-other status (4 * c) (4 * c + k) s 0 (omega arith)
+
   -- The number of calls that a call waits for stays, its own too.
   pub state-wait : (s d : ℕ) → waitCount (withState status c s) d ≡ waitCount status d
   state-wait s d = getD-set-other status (4 * c) (4 * d + 3) s 0 (omega arith)

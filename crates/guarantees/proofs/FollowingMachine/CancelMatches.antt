@@ -17,8 +17,8 @@ use Rattle.machine.specs.Moves.{stay, callKeyCount, ownEntries, cancelHeld, can
 use Rattle.machine.specs.Answer.{answerNumber}
 use Rattle.machine.specs.declared.Answer.the-variants.{Accepted, Damaged}
 use Rattle.machine.proofs.RestoreLaws.{restored-length}
-use Rattle.guarantees.proofs.FollowingMachine.RunMatches.{Base, callsIn, HoldsRunning, Matches}
-use Rattle.guarantees.proofs.FollowingMachine.BufferLaws.{state-here, state-there, state-wait, state-length, seat-stays}
+use Rattle.guarantees.proofs.FollowingMachine.RunMatches.{no-receipt, Base, callsIn, HoldsRunning, Matches}
+use Rattle.guarantees.proofs.FollowingMachine.BufferLaws.{state-here, state-beside, state-there, state-wait, state-length, seat-stays}
 use Rattle.guarantees.proofs.FollowingMachine.WaitMatches.{waits-kept}
 use Rattle.guarantees.proofs.FollowingMachine.ChangeMatches.{changed, CallChange, change-matches}
 use Rattle.guarantees.proofs.FollowingMachine.Follows.{Follows, large, can-restore}
@@ -45,7 +45,11 @@ module _ (file : List ℕ) (workers n : ℕ) (before : ℕ → ℕ → Bool) (r�
               let room : 256 * 4 ≤ length (r .status) = large file workers n before r₀ base M r m .status in
               let few : n ≤ 256 = base .fewCalls in
               let below : c < n = k .call in
-              state-here (r .status) c waiting (omega arith);
+              let none = no-receipt (r .status) c (M .call c) (m .calls c below) (ap isEnded (k .runs)) in (
+                state-here (r .status) c waiting (omega arith),
+                state-beside (r .status) c waiting 1 (omega arith) ∙ none .0,
+                state-beside (r .status) c waiting 2 (omega arith) ∙ none .1,
+              );
           others = λ d j x l. state-there (r .status) c waiting d j x (omega arith);
           waits =
               waits-kept file workers n before r₀ base M r m c ready (withState (r .status) c waiting) (state-wait (r .status) c waiting)

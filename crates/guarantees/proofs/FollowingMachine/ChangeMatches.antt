@@ -16,7 +16,7 @@ use Rattle.machine.specs.Run.{Run, sizesOf, heldAt, withHeld, statusWord, waitW
 use Rattle.machine.specs.Moves.{callKeyCount}
 use Rattle.machine.specs.Step.{View}
 use Rattle.guarantees.proofs.CallsOfRun.ViewCalls.{Place, broken, receipt, runView}
-use Rattle.guarantees.proofs.FollowingMachine.RunMatches.{CallState, StatusSays, RunningSeat, Seated, Base, callsIn, HoldsRunning, Matches}
+use Rattle.guarantees.proofs.FollowingMachine.RunMatches.{CallState, StatusHas, StatusSays, RunningSeat, Seated, Base, callsIn, HoldsRunning, Matches}
 use Rattle.guarantees.proofs.FollowingMachine.BufferLaws.{SeatKept}
 
 -- The run with what worker w holds and four buffers changed.
@@ -26,13 +26,16 @@ changed r w held cells status seats frames =
 
 -- ---- what a state says of a call stays said by equal words
 
+has-same : (status old : List ℕ) (c : ℕ) → ((k : ℕ) → k < waitWord → statusWord status c k ≡ statusWord old c k)
+    → {state outcome count : ℕ} → StatusHas old c state outcome count → StatusHas status c state outcome count
+has-same status old c same h = (same 0 (omega arith) ∙ h .0, same 1 (omega arith) ∙ h .1, same 2 (omega arith) ∙ h .2)
+
 pub stands-same : (status old : List ℕ) (c : ℕ) (a : CallState) → ((k : ℕ) → k < waitWord → statusWord status c k ≡ statusWord old c k)
     → StatusSays old c a → StatusSays status c a
-stands-same status old c ready same h = same 0 (omega arith) ∙ h
-stands-same status old c (active l o) same h = same 0 (omega arith) ∙ h
+stands-same status old c ready same h = has-same status old c same h
+stands-same status old c (active l o) same h = has-same status old c same h
 stands-same status old c (ended broken) same h = h
-stands-same status old c (ended (receipt outcome count)) same h =
-    (same 0 (omega arith) ∙ h .0, same 1 (omega arith) ∙ h .1, same 2 (omega arith) ∙ h .2)
+stands-same status old c (ended (receipt outcome count)) same h = has-same status old c same h
 
 -- A worker that still holds a call holds the one that runs.
 pub kept-holds : (c d : ℕ) (a : CallState) → kept c a ≡ tally.holds d → c ≡ d

@@ -36,8 +36,8 @@ pub record StateRead (word : ℕ) (a : CallState) : Type 0 where
   pub ends : eqb word finished ≡ isEnded a
 
 pub state-read : (status : List ℕ) (c : ℕ) (a : CallState) → StatusSays status c a → StateRead (stateOf status c) a
-state-read status c ready h = record { known = rw h; waits = rw h; ends = rw h }
-state-read status c (active l o) h = record { known = rw h; waits = rw h; ends = rw h }
+state-read status c ready h = record { known = rw (h .0); waits = rw (h .0); ends = rw (h .0) }
+state-read status c (active l o) h = record { known = rw (h .0); waits = rw (h .0); ends = rw (h .0) }
 state-read status c (ended broken) h = absurd h
 state-read status c (ended (receipt outcome count)) h = record { known = rw (h .0); waits = rw (h .0); ends = rw (h .0) }
 

@@ -28,7 +28,7 @@ use Rattle.block.specs.Naming.{functionOf}
 use Rattle.footprint.specs.Plan.{entryWord, codeWords}
 use Rattle.block.specs.BlockOfFile.{blockOf, callCount}
 use Rattle.footprint.proofs.EntryLaws.{entriesWait, waits-conflict}
-use Rattle.machine.specs.Run.{Run, Sizes, largeEnough, heldAt, statusWords, stateWord, stateOf, finished, waitCount}
+use Rattle.machine.specs.Run.{Run, Sizes, largeEnough, heldAt, statusWords, stateWord, outcomeWord, countWord, waitWord, statusWord, stateOf, finished, waitCount}
 use Rattle.machine.specs.Waits.{namedIn, finishedIn}
 use Rattle.machine.specs.Moves.{ownEntries, viewOf}
 use Rattle.machine.specs.Step.{View}
@@ -159,6 +159,10 @@ module _ (s : Sizes) (file : List ℕ) (workers : ℕ) (after : AfterOpening s f
       ∙ count-same (namedIn (r₀ .plan)) (finishedIn zeros) c (isBefore file) (λ i. false) c (λ i less. base .row i c less l)
       (λ i less. ap (λ (word : ℕ). eqb word finished) (unstarted i))
 
+  opening-word : (c k : ℕ) → k < waitWord → statusWord (r₀ .status) c k ≡ 0
+  opening-word c k less =
+      ap (λ (status : List ℕ). statusWord status c k) (after .opened .status) ∙ each-word _ zeros n c k less ∙ repeated-at (s .status) _ 0
+
   -- "At the opening every call waits and no worker holds one."
   pub opening-matches : OpenedMatches s file workers (machineOpening (openedCalls s file workers) (r₀ .cells)) r₀
   unfolding repeated
@@ -173,7 +177,7 @@ module _ (s : Sizes) (file : List ℕ) (workers : ℕ) (after : AfterOpening s f
         sizes = refl;
         heldLength = ap (λ (h : Head). length (h .held)) (after .opened .head);
         cells = refl;
-        calls = λ c l. ap (λ (status : List ℕ). stateOf status c) (after .opened .status) ∙ each-word _ zeros n c stateWord (omega arith) ∙ unstarted c;
+        calls = λ c l. (opening-word c stateWord (omega arith), opening-word c outcomeWord (omega arith), opening-word c countWord (omega arith));
         waits = opening-waits;
         idle = λ w l e. ap (λ (h : Head). heldAt h w) (after .opened .head) ∙ repeated-at 8 w 0;
         holds = λ w c e. none-held e;

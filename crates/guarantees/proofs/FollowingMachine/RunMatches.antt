@@ -1,6 +1,6 @@
 -- When a lent run stands for a state of the worker machine over the calls of an opened block.
 use mathlib.Core.Path.{_≡_}
-use mathlib.Core.Bool.{Bool, true}
+use mathlib.Core.Bool.{Bool, true, false, true≢false}
 use mathlib.Core.List.{List}
 use Prim.Native.Nat.{ℕ, _+_, _*_, _≤_, _<_}
 use lib.IntN.{ℤ}
@@ -16,7 +16,7 @@ use Rattle.schedule.specs.Tally.{unfinishedEarlier}
 use Rattle.schedule.specs.declared.Move.{Move}
 use Rattle.schedule.specs.declared.Move.the-variants.{Begin, Step, Cancel}
 use Rattle.schedule.specs.Machine.{Activity, ready, active, ended, isEnded, Machine}
-use Rattle.machine.specs.Run.{Run, sizesOf, largeEnough, heldAt, placeIn, countIn, regsIn, savedIn, rowIn, stateOf, statusWord, waitCount, waiting, running, finished}
+use Rattle.machine.specs.Run.{Run, sizesOf, largeEnough, heldAt, placeIn, countIn, regsIn, savedIn, rowIn, stateOf, statusWord, outcomeWord, countWord, waitCount, waiting, running, finished}
 use Rattle.machine.specs.Step.{View, damaged, stepCall}
 use Rattle.machine.proofs.StepLaws.{Ranged}
 use Rattle.guarantees.proofs.CallsOfRun.ViewCalls.{Place, placeWithSaved, Receipt, broken, receipt, viewCalls, Tidy, runView}
@@ -25,13 +25,24 @@ use Rattle.guarantees.proofs.CallsOfRun.ViewCalls.{Place, placeWithSave
 abbrev pub CallState : Type 0
 CallState = Activity Place (List ℤ) Receipt
 
--- The status words of call c say it; no call is broken.
+-- The state, outcome and count of call c in the status.
+abbrev pub StatusHas : List ℕ → (c state outcome count : ℕ) → Type 0
+StatusHas status c state outcome count =
+    (stateOf status c ≡ state) × (statusWord status c outcomeWord ≡ outcome) × (statusWord status c countWord ≡ count)
+
+-- The status words of call c say it: until it ends outcome and count are 0; no call is broken.
 abbrev pub StatusSays : List ℕ → ℕ → CallState → Type 0
-StatusSays status c ready = stateOf status c ≡ waiting
-StatusSays status c (active l saved) = stateOf status c ≡ running
+StatusSays status c ready = StatusHas status c waiting 0 0
+StatusSays status c (active l saved) = StatusHas status c running 0 0
 StatusSays status c (ended broken) = ⊥
-StatusSays status c (ended (receipt outcome count)) =
-    (stateOf status c ≡ finished) × (statusWord status c 1 ≡ outcome) × (statusWord status c 2 ≡ count)
+StatusSays status c (ended (receipt outcome count)) = StatusHas status c finished outcome count
+
+-- What the status says of a call that has not ended.
+pub no-receipt : (status : List ℕ) (c : ℕ) (a : CallState) → StatusSays status c a → isEnded a ≡ false
+    → (statusWord status c outcomeWord ≡ 0) × (statusWord status c countWord ≡ 0)
+no-receipt status c ready h e = (h .1, h .2)
+no-receipt status c (active l saved) h e = (h .1, h .2)
+no-receipt status c (ended q) h e = absurd (true≢false e)
 
 -- Worker w holds call c, and its seat and frame are those of the running call, which is in its range.
 pub record RunningSeat (v : View) (held : ℕ) (seats : List ℕ) (frames : List ℤ) (w c : ℕ) (l : Place) (kept : List ℤ) : Type 0 where

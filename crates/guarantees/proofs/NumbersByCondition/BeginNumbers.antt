@@ -14,9 +14,11 @@ use Rattle.machine.specs.Run.{Run, sizesOf, largeEnough, stateOf, isState, wait
 use Rattle.footprint.specs.Plan.{entryCell, entryWrites}
 use Rattle.machine.specs.Step.{entriesAllowed, restorable}
 use Rattle.machine.specs.Moves.{Moved, stay, callKeyCount, ownEntries, beginCall, beginChecked, beginBy, beginOf}
+use Rattle.machine.specs.Answer.{answerNumber}
 use Rattle.machine.specs.declared.Answer.{Answer}
 use Rattle.machine.specs.declared.Answer.the-variants as answer
 use Rattle.guarantees.specs.Demand1.{Exactly, heldIn, EntryIn, EntriesIn, Before21, Before22, Before23, Before24, Before25, BeginGives}
+use Rattle.guarantees.proofs.NumbersByCondition.ByNumbers.{by-number, begin-known}
 use Rattle.guarantees.proofs.NumbersByCondition.ExactTests.{itself, ltb-exact, leb-exact, differ-exact, both-exact, under-exact}
 use Rattle.guarantees.proofs.AcceptedOpening.OpeningPassed.{large-sizes, sizes-large}
 
@@ -70,7 +72,7 @@ of-answer e = ap (λ (m : Moved). m .answer) e
 -- What a move gives, and that a refusal leaves the run.
 record BeginTold (r : Run) (w c : ℕ) (m : Moved) : Type 0 where
   unmoved : (m .answer ≡ answer.Accepted → ⊥) → m .run ≡ r
-  gives : (m .answer ≡ answer.Damaged → ⊥) → BeginGives r w c (m .answer)
+  gives : (m .answer ≡ answer.Damaged → ⊥) → BeginGives r w c (answerNumber (m .answer))
 
 module _ (r : Run) (w c : ℕ) where
   -- The number that the call carries.
@@ -127,7 +129,8 @@ module _ (r : Run) (w c : ℕ) where
   begin-25 : Before25 r w c → beginOf r w c ≡ from25
   begin-25 b = begin-24 (b .so-far) ∙ rw (eq-eqb (stateOf (r .status) c) waiting (b .waits), le-ltb c number (b .number))
 
-  given : (a : Answer) → BeginGives r w c a → beginOf r w c .answer ≡ a
+  given : (a : Answer) → BeginGives r w c (answerNumber a) → beginOf r w c .answer ≡ a
+  unfolding answerNumber
   given answer.Accepted (b, none, entries) = of-answer (begin-25 b) ∙ rw (eq-eqb number 0 none, entries-exact r c .1 entries)
   given answer.Damaged g = absurd g
   given answer.NoWorker (b, h) = of-answer (begin-21 b) ∙ rw (le-leb (r .head .workers) w h)
@@ -143,10 +146,11 @@ module _ (r : Run) (w c : ℕ) where
   damaged : BeginTold r w c (stay r answer.Damaged)
   damaged = record { unmoved = λ n. refl; gives = λ d. absurd (d refl) }
 
-  refused : (a : Answer) → BeginGives r w c a → BeginTold r w c (stay r a)
+  refused : (a : Answer) → BeginGives r w c (answerNumber a) → BeginTold r w c (stay r a)
   refused a g = record { unmoved = λ n. refl; gives = λ d. g }
 
   told-25 : Before25 r w c → BeginTold r w c from25
+  unfolding answerNumber
   told-25 b =
       if-all (BeginTold r w c) (not (eqb number 0)) (λ e. refused answer.EarlierUnfinished (b, eqb-false number 0 (not-true (eqb number 0) e))) λ e.
       if-all (BeginTold r w c) (not (restorable (callKeyCount (r .plan) c) (ownEntries (r .plan) c))) (λ f. damaged) λ f.
@@ -160,6 +164,7 @@ module _ (r : Run) (w c : ℕ) where
       }
 
   told-24 : Before24 r w c → BeginTold r w c from24
+  unfolding answerNumber
   told-24 b =
       if-all (BeginTold r w c) (not (eqb (stateOf (r .status) c) waiting))
       (λ e. refused answer.NotWaiting (b, eqb-false (stateOf (r .status) c) waiting (not-true (eqb (stateOf (r .status) c) waiting) e)))
@@ -172,6 +177,7 @@ module _ (r : Run) (w c : ℕ) where
       }
 
   told-23 : Before23 r w c → BeginTold r w c from23
+  unfolding answerNumber
   told-23 b =
       if-all (BeginTold r w c) (not (eqb (heldIn r w) 0))
       (λ e. refused answer.WorkerBusy (b, eqb-false (heldIn r w) 0 (not-true (eqb (heldIn r w) 0) e))) λ e.
@@ -183,12 +189,14 @@ module _ (r : Run) (w c : ℕ) where
       }
 
   told-22 : Before22 r w → BeginTold r w c from22
+  unfolding answerNumber
   told-22 b =
       if-all (BeginTold r w c) (leb (r .head .calls) c) (λ e. refused answer.NoCall (b, leb-true (r .head .calls) c e)) λ e.
       if-all (BeginTold r w c) (ltb (r .head .calls) (heldIn r w)) (λ f. damaged) λ f.
       told-23 record { so-far = b; known-call = leb-false (r .head .calls) c e; held = ltb-false (r .head .calls) (heldIn r w) f }
 
   told-21 : Before21 r → BeginTold r w c from21
+  unfolding answerNumber
   told-21 b =
       if-all (BeginTold r w c) (leb (r .head .workers) w) (λ e. refused answer.NoWorker (b, leb-true (r .head .workers) w e)) λ e.
       if-all (BeginTold r w c) (ltb maxCalls (r .head .calls)) (λ f. damaged) λ f.
@@ -200,5 +208,5 @@ module _ (r : Run) (w c : ℕ) where
   pub begin-unmoved : (beginOf r w c .answer ≡ answer.Accepted → ⊥) → beginOf r w c .run ≡ r
   begin-unmoved = told .unmoved
 
-  pub begin-numbers : (a : Answer) → (a ≡ answer.Damaged → ⊥) → Exactly (beginOf r w c .answer ≡ a) (BeginGives r w c a)
-  begin-numbers a d = (λ e. subst (BeginGives r w c) e (told .gives (λ f. d (sym e ∙ f))), given a)
+  pub begin-numbers : (n : ℕ) → (n ≡ 20 → ⊥) → Exactly (answerNumber (beginOf r w c .answer) ≡ n) (BeginGives r w c n)
+  begin-numbers = by-number (beginOf r w c .answer) (BeginGives r w c) (told .gives) given (begin-known r w c)

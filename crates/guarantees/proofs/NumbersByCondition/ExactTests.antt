@@ -37,7 +37,7 @@ under-exact true t x y = (λ e a. y .0 e, λ h. y .1 (h (x .0 refl)))
 under-exact false t x y = (λ e a. absurd (false≢true (x .1 a)), λ h. refl)
 
 -- What is not so, no test passes.
-fails-unless : {A : Type 0} (t : Bool) → (t ≡ true → A) → (A → ⊥) → t ≡ false
+pub fails-unless : {A : Type 0} (t : Bool) → (t ≡ true → A) → (A → ⊥) → t ≡ false
 fails-unless true f h = absurd (h (f refl))
 fails-unless false f h = refl
 

@@ -13,10 +13,12 @@ use Rattle.machine.specs.Run.{Run, sizesOf, waitCount, withReceipt}
 use Rattle.machine.specs.Waits.{namedIn, waitsFor, loweredIf, lowerOne, lowerableIf, waitsLowerable, waitsLowered}
 use Rattle.machine.specs.Step.{done}
 use Rattle.machine.specs.Moves.{Moved, stepped}
+use Rattle.machine.specs.Answer.{answerNumber}
 use Rattle.machine.specs.declared.Answer.the-variants as answer
 use Rattle.machine.proofs.WaitLaws.{each-new}
 use Rattle.guarantees.specs.Demand1.{Exactly, Large, CallsIn, WaitsFor, Lowerable, Lowers}
 use Rattle.guarantees.proofs.FollowingMachine.BufferLaws.{receipt-wait, status-length}
+use Rattle.guarantees.proofs.NumbersByCondition.ByNumbers.{accepted-exactly}
 use Rattle.guarantees.proofs.NumbersByCondition.ExactTests.{itself, ltb-exact, leb-exact, differ-exact, both-exact, under-exact, TestsAll, all-exact}
 use Rattle.guarantees.proofs.NumbersByCondition.HeldNumbers.{accepted-not-damaged}
 
@@ -53,13 +55,16 @@ module _ (r : Run) (call : ℕ) where
     abbrev left : Moved
     left = stepped r worker call (done outcome count cells)
 
-    pub finish-accepted : Exactly (stepped r worker call (done outcome count cells) .answer ≡ answer.Accepted) (Lowerable r call)
+    pub finish-answers : Exactly (stepped r worker call (done outcome count cells) .answer ≡ answer.Accepted) (Lowerable r call)
     unfolding stepped
-    finish-accepted = (
+    finish-answers = (
       if-all (λ (m : Moved). m .answer ≡ answer.Accepted → Lowerable r call) (not can)
           (λ e h. absurd (accepted-not-damaged (sym h))) (λ e h. can-exact .0 (not-false can e)),
       λ h. rw (can-exact .1 h),
     )
+
+    pub finish-accepted : Exactly (answerNumber (stepped r worker call (done outcome count cells) .answer) ≡ 0) (Lowerable r call)
+    finish-accepted = accepted-exactly (stepped r worker call (done outcome count cells) .answer) finish-answers
 
     abbrev received : List ℕ
     received = withReceipt (r .status) call outcome count

@@ -14,17 +14,19 @@ use Rattle.block.specs.Limits.{maxCalls}
 use Rattle.machine.specs.Run.{Run}
 use Rattle.machine.specs.Step.{restorable}
 use Rattle.machine.specs.Moves.{Moved, stay, callKeyCount, ownEntries, Held, answered, holds, heldBy, stepFor, stepOf, cancelHeld, cancelFor, cancelOf, moveOf}
+use Rattle.machine.specs.Answer.{answerNumber}
 use Rattle.machine.specs.declared.Answer.{Answer}
 use Rattle.machine.specs.declared.Answer.the-variants as answer
 use Rattle.machine.proofs.RefusedLaws.{StaysDamaged, here, moves, unmoved-held, step-stays, step-unmoved}
 use Rattle.guarantees.specs.Demand1.{Exactly, heldIn, EntriesIn, Before21, HeldRefuses, HoldsCall}
+use Rattle.guarantees.proofs.NumbersByCondition.ByNumbers.{accepted-number, accepted-exactly, by-refusal, held-known}
 use Rattle.guarantees.proofs.NumbersByCondition.BeginNumbers.{unsized, sized-exact, entries-exact, of-answer, begin-unmoved}
 
 -- ---- STEP and CANCEL
 
 -- What is found of the held call.
-abbrev HeldTold : Run → ℕ → Held → Type 0
-HeldTold r w (answered a) = (a ≡ answer.Damaged → ⊥) → HeldRefuses r w a
+abbrev pub HeldTold : Run → ℕ → Held → Type 0
+HeldTold r w (answered a) = (a ≡ answer.Damaged → ⊥) → HeldRefuses r w (answerNumber a)
 HeldTold r w (holds c) = HoldsCall r w c
 
 pub accepted-not-damaged : answer.Accepted ≡ answer.Damaged → ⊥
@@ -47,7 +49,8 @@ module _ (r : Run) (w : ℕ) where
   held-21 : Before21 r → heldBy r w ≡ held-from
   held-21 b = held-is ∙ rw (sized-exact r .1 b)
 
-  held-given : (a : Answer) → HeldRefuses r w a → heldBy r w ≡ answered a
+  held-given : (a : Answer) → HeldRefuses r w (answerNumber a) → heldBy r w ≡ answered a
+  unfolding answerNumber
   held-given answer.Accepted g = absurd g
   held-given answer.Damaged g = absurd g
   held-given answer.NoWorker (b, h) = held-21 b ∙ rw (le-leb (r .head .workers) w h)
@@ -59,7 +62,7 @@ module _ (r : Run) (w : ℕ) where
   held-given answer.CallUnfinished g = absurd g
   held-given answer.SheetTooLong g = absurd g
 
-  held-holds : (c : ℕ) → HoldsCall r w c → heldBy r w ≡ holds c
+  pub held-holds : (c : ℕ) → HoldsCall r w c → heldBy r w ≡ holds c
   held-holds c h =
       let held : heldIn r w ≡ c + 1 = h .held in
       let less : c < r .head .calls = h .known-call in
@@ -73,7 +76,8 @@ module _ (r : Run) (w : ℕ) where
         own,
       )
 
-  held-told : HeldTold r w (heldBy r w)
+  pub held-told : HeldTold r w (heldBy r w)
+  unfolding answerNumber
   held-told =
       subst⁻¹ (HeldTold r w) held-is
       (if-all (HeldTold r w) (unsized r) (λ e d. absurd (d refl)) λ e.
@@ -97,19 +101,22 @@ module _ (r : Run) (w : ℕ) where
 
   -- A move that a refusal of these tests ends, and that goes on with the held call.
   module _ (move : Held → Moved) (stops : (a : Answer) → move (answered a) ≡ stay r a) (on : (c : ℕ) → StaysDamaged r (move (holds c))) where
-    refuses : (a : Answer) → (a ≡ answer.Accepted → ⊥) → (a ≡ answer.Damaged → ⊥) → Exactly (move (heldBy r w) .answer ≡ a) (HeldRefuses r w a)
-    refuses a n d = (go (heldBy r w) held-told, λ g. of-answer (ap move (held-given a g) ∙ stops a))
+    refuses : (n : ℕ) → (n ≡ 0 → ⊥) → (n ≡ 20 → ⊥) → Exactly (answerNumber (move (heldBy r w) .answer) ≡ n) (HeldRefuses r w n)
+    refuses =
+        by-refusal (move (heldBy r w) .answer) (HeldRefuses r w) (go (heldBy r w) held-told)
+        (λ a g. of-answer (ap move (held-given a g) ∙ stops a)) (held-known r w)
       where
-        go : (h : Held) → HeldTold r w h → move h .answer ≡ a → HeldRefuses r w a
-        go (answered b) t e =
-            let same : b ≡ a = sym (of-answer (stops b)) ∙ e in
-            subst (HeldRefuses r w) same (t (λ f. d (sym same ∙ f)))
-        go (holds c) t e = absurd (d (sym e ∙ of-answer (on c .stays (λ f. n (sym e ∙ f)))))
+        go : (h : Held) → HeldTold r w h → (move h .answer ≡ answer.Accepted → ⊥) → (move h .answer ≡ answer.Damaged → ⊥)
+            → HeldRefuses r w (answerNumber (move h .answer))
+        go (answered b) t n d =
+            let same : b ≡ move (answered b) .answer = sym (of-answer (stops b)) in
+            subst (λ (a : Answer). HeldRefuses r w (answerNumber a)) same (t (λ f. d (sym same ∙ f)))
+        go (holds c) t n d = absurd (d (of-answer (on c .stays n)))
 
 -- ---- STEP
 
 module _ (block : List ℕ) (r : Run) (w : ℕ) where
-  pub steps : (a : Answer) → (a ≡ answer.Accepted → ⊥) → (a ≡ answer.Damaged → ⊥) → Exactly (stepOf block r w .answer ≡ a) (HeldRefuses r w a)
+  pub steps : (n : ℕ) → (n ≡ 0 → ⊥) → (n ≡ 20 → ⊥) → Exactly (answerNumber (stepOf block r w .answer) ≡ n) (HeldRefuses r w n)
   unfolding stepFor
   steps = refuses r w (stepFor block r w) (λ a. refl) (step-stays block r w)
 
@@ -120,7 +127,7 @@ module _ (r : Run) (w : ℕ) where
   unfolding cancelHeld
   cancel-stays c = if-all (StaysDamaged r) (restorable (callKeyCount (r .plan) c) (ownEntries (r .plan) c)) (λ e. moves refl) λ e. here r
 
-  pub cancels : (a : Answer) → (a ≡ answer.Accepted → ⊥) → (a ≡ answer.Damaged → ⊥) → Exactly (cancelOf r w .answer ≡ a) (HeldRefuses r w a)
+  pub cancels : (n : ℕ) → (n ≡ 0 → ⊥) → (n ≡ 20 → ⊥) → Exactly (answerNumber (cancelOf r w .answer) ≡ n) (HeldRefuses r w n)
   unfolding cancelFor
   cancels = refuses r w (cancelFor r w) (λ a. refl) cancel-stays
 
@@ -137,19 +144,22 @@ module _ (r : Run) (w : ℕ) where
     λ h. rw (entries-exact r c .1 h),
   )
 
-  pub cancel-accepted : Exactly (cancelOf r w .answer ≡ answer.Accepted) ((c : ℕ) × HoldsCall r w c × EntriesIn r c)
-  unfolding cancelFor
-  cancel-accepted = (go (heldBy r w) (held-told r w), λ h. of-answer (ap (cancelFor r w) (held-holds r w (h .0) (h .1))) ∙ held-cancelled (h .0) .1 (h .2))
+  cancel-answers : Exactly (cancelOf r w .answer ≡ answer.Accepted) ((c : ℕ) × HoldsCall r w c × EntriesIn r c)
+  unfolding cancelFor answerNumber
+  cancel-answers = (go (heldBy r w) (held-told r w), λ h. of-answer (ap (cancelFor r w) (held-holds r w (h .0) (h .1))) ∙ held-cancelled (h .0) .1 (h .2))
     where
       go : (h : Held) → HeldTold r w h → cancelFor r w h .answer ≡ answer.Accepted → (c : ℕ) × HoldsCall r w c × EntriesIn r c
-      go (answered a) t e = absurd (subst (HeldRefuses r w) e (t (λ d. accepted-not-damaged (sym e ∙ d))))
+      go (answered a) t e = absurd (subst (λ (b : Answer). HeldRefuses r w (answerNumber b)) e (t (λ d. accepted-not-damaged (sym e ∙ d))))
       go (holds c) t e = (c, t, held-cancelled c .0 e)
+
+  pub cancel-accepted : Exactly (answerNumber (cancelOf r w .answer) ≡ 0) ((c : ℕ) × HoldsCall r w c × EntriesIn r c)
+  cancel-accepted = accepted-exactly (cancelOf r w .answer) cancel-answers
 
 -- ---- every move
 
 -- "a refused move .. leaves them unchanged"
-pub unmoved : (block : List ℕ) (r : Run) (m : Move) → (moveOf block r m .answer ≡ answer.Accepted → ⊥) → moveOf block r m .run ≡ r
+pub unmoved : (block : List ℕ) (r : Run) (m : Move) → (answerNumber (moveOf block r m .answer) ≡ 0 → ⊥) → moveOf block r m .run ≡ r
 unfolding moveOf
-unmoved block r (Begin w c) = begin-unmoved r w c
-unmoved block r (Step w) = step-unmoved block r w
-unmoved block r (Cancel w) = cancel-unmoved r w
+unmoved block r (Begin w c) n = begin-unmoved r w c (λ e. n (accepted-number e))
+unmoved block r (Step w) n = step-unmoved block r w (λ e. n (accepted-number e))
+unmoved block r (Cancel w) n = cancel-unmoved r w (λ e. n (accepted-number e))

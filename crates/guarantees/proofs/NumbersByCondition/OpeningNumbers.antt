@@ -4,14 +4,19 @@ use mathlib.Core.Bool.{Bool, true, false, _||_, not, false≢true}
 use mathlib.Core.List.{List, [], _∷_, _++_, map}
 use Prim.Native.Nat.{ℕ, zero, suc, _+_, _*_, _≤_, _<_}
 use native.Mathlib.Omega.{arith}
-use borrow.Author.Tests.{ltb-true, ltb-false, lt-ltb, le-ltb, eqb-false, ne-eqb, not-true, not-false}
+use borrow.Author.Tests.{ltb-true, ltb-false, lt-ltb, le-ltb, eqb-true, eqb-false, ne-eqb, not-true, not-false}
 use lib.Dec.{eqb, ltb}
 use lib.ListN.{length, getD, take, length-map}
 use Rattle.arith.proofs.ChoiceLaws.{if-all, neither}
 use Rattle.block.specs.Limits.{maxCallKeys, maxKeys, maxWorkers}
 use Rattle.block.specs.Record.{Function, Block, callRecordBytes}
 use Rattle.block.specs.Reader.{Read, accepted, refused, readBlock}
+use Rattle.block.specs.Refusal.{numberOf, offsetOf, verdictNumber, verdictOffset}
+use Rattle.block.specs.Encoding.{AreBytes, Contents, HoldsContents, blockFor}
+use Rattle.block.specs.Faults.{Faulty, RefusedBy}
 use Rattle.block.proofs.ReaderLaws.{accepted-laws}
+use Rattle.block.proofs.ReaderExact.{reader-exact}
+use Rattle.block.proofs.FileFaults.{fault-range, long-refused, refusals-exact}
 use Rattle.block.specs.declared.Call.{Call}
 use Rattle.block.specs.declared.Refusal.{Refusal}
 use Rattle.block.specs.declared.Refusal.the-variants.{InputTooLong, Missing, Kind, Length, Field, NotRising, BeyondLimit, Behind, Balances, Code, CallKeys, AllKeys, Workers, Buffers}
@@ -27,10 +32,10 @@ use Rattle.block.specs.BlockOfFile.{openingKeys}
 use Rattle.footprint.proofs.AnalysedLaws.{analyse-over, analyse-full, analyse-next}
 use Rattle.machine.specs.Run.{Sizes, roomIn, largeEnough}
 use Rattle.machine.specs.Opening.{Opened, refusedRun, openPrepared, openingOf}
-use Rattle.guarantees.specs.Demand1.{Exactly, Large, keysTogether, KeysBefore, Over24, Over1024, Before1, OpeningRefuses}
-use Rattle.guarantees.proofs.AcceptedOpening.OpeningPassed.{large-sizes, sizes-large}
-use Rattle.guarantees.proofs.NumbersByCondition.OpeningExact.{together-grows}
-use Rattle.guarantees.proofs.NumbersByCondition.ReaderNumbers.{file-too-long, only-too-long, reader-refuses}
+use Rattle.guarantees.specs.Demand1.{Exactly, Large, keysTogether, KeysBefore, Over24, Over1024, Openable, Before1, OpeningRefuses, Cleared}
+use Rattle.guarantees.proofs.AcceptedOpening.OpeningPassed.{large-sizes, sizes-large, opening-cleared}
+use Rattle.guarantees.proofs.NumbersByCondition.OpeningExact.{together-grows, opening-exact}
+use Rattle.guarantees.proofs.NumbersByCondition.ByNumbers.{chosen}
 
 -- ---- the first call over a limit
 
@@ -195,6 +200,37 @@ module _ (file : List ℕ) (functions : List Function) where
       (λ es sets ks n h. h) cs first [] keys (o .call) (o .there) (o .before) (o .own, o .over)
       ∙ ap (λ (k : ℕ). table.refused (AllKeys k)) (sym (o .offset))
 
+-- ---- the numbers of verdicts
+
+accepted-number : verdictNumber verdict.Accepted ≡ 0
+unfolding verdictNumber
+accepted-number = refl
+
+refused-numbers : (why : Refusal) → (verdictNumber (verdict.Refused why) ≡ numberOf why) × (verdictOffset (verdict.Refused why) ≡ offsetOf why)
+unfolding verdictNumber verdictOffset
+refused-numbers why = (refl, refl)
+
+refusal-some : (why : Refusal) → 1 ≤ numberOf why
+unfolding numberOf
+refusal-some InputTooLong = omega arith
+refusal-some (Missing at) = omega arith
+refusal-some (Kind at) = omega arith
+refusal-some (Length at) = omega arith
+refusal-some (Field at) = omega arith
+refusal-some (NotRising at) = omega arith
+refusal-some (BeyondLimit at) = omega arith
+refusal-some (Behind at) = omega arith
+refusal-some (Balances at) = omega arith
+refusal-some (Code at) = omega arith
+refusal-some (CallKeys at) = omega arith
+refusal-some (AllKeys at) = omega arith
+refusal-some Workers = omega arith
+refusal-some Buffers = omega arith
+
+number-accepted : (v : Verdict) → verdictNumber v ≡ 0 → v ≡ verdict.Accepted
+number-accepted verdict.Accepted e = refl
+number-accepted (verdict.Refused why) e = absurd (omega (arith, refused-numbers why .0, e, refusal-some why))
+
 -- ---- the opening
 
 -- The answer of an opening whose sizes and workers are right is that of the file.
@@ -246,48 +282,109 @@ module _ (s : Sizes) (file : List ℕ) (workers : ℕ) where
 
   -- ---- what refuses it
 
-  given-reader : (why : Refusal) → Before1 s workers × (readBlock file ≡ refused why) → openingOf s file workers .answer ≡ verdict.Refused why
-  given-reader why (b, e) = file-answers b ∙ read-refused why e
+  given-reader : (why : Refusal) → Before1 s workers → readBlock file ≡ refused why → openingOf s file workers .answer ≡ verdict.Refused why
+  given-reader why b e = file-answers b ∙ read-refused why e
 
-  given : (why : Refusal) → OpeningRefuses s file workers why → openingOf s file workers .answer ≡ verdict.Refused why
+  given-buffers : (Large s → ⊥) → openingOf s file workers .answer ≡ verdict.Refused Buffers
   unfolding openingOf refusedRun
-  given Buffers h = rw (small-sizes s h)
-  given Workers (large, h) = rw (sizes-large s large, few-workers workers h)
-  given InputTooLong (b, h) = given-reader InputTooLong (b, file-too-long file h)
-  given (Missing at) h = given-reader (Missing at) h
-  given (Kind at) h = given-reader (Kind at) h
-  given (Length at) h = given-reader (Length at) h
-  given (Field at) h = given-reader (Field at) h
-  given (NotRising at) h = given-reader (NotRising at) h
-  given (BeyondLimit at) h = given-reader (BeyondLimit at) h
-  given (Behind at) h = given-reader (Behind at) h
-  given (Balances at) h = given-reader (Balances at) h
-  given (Code at) h = given-reader (Code at) h
-  given (CallKeys at) (b, (block, e, o)) =
-      file-answers b ∙ analysis-refused block (CallKeys at) e (given-24 file (block .functions) (block .calls) (block .firstCall) at (openingKeys block) o)
-  given (AllKeys at) (b, (block, e, o)) =
-      file-answers b ∙ analysis-refused block (AllKeys at) e (given-1024 file (block .functions) (block .calls) (block .firstCall) at (openingKeys block) o)
+  given-buffers h = rw (small-sizes s h)
+
+  given-workers : Large s → ((1 ≤ workers) × (workers ≤ maxWorkers) → ⊥) → openingOf s file workers .answer ≡ verdict.Refused Workers
+  unfolding openingOf refusedRun
+  given-workers large h = rw (sizes-large s large, few-workers workers h)
+
+  -- The number and offset of the answer.
+  abbrev Answers : (n offset : ℕ) → Type 0
+  Answers n offset = (verdictNumber (openingOf s file workers .answer) ≡ n) × (verdictOffset (openingOf s file workers .answer) ≡ offset)
+
+  of-refusal : (why : Refusal) → openingOf s file workers .answer ≡ verdict.Refused why
+      → (n offset : ℕ) → numberOf why ≡ n → offsetOf why ≡ offset → Answers n offset
+  unfolding verdictNumber verdictOffset
+  of-refusal why e n offset f g = (ap verdictNumber e ∙ f, ap verdictOffset e ∙ g)
+
+  read-as : (t : Contents) → HoldsContents file t → readBlock file ≡ accepted (blockFor t)
+  read-as t h = ap readBlock (h .bytes) ∙ reader-exact .whole t (h .keeps)
+
+  -- What a verdict says of the opening.
+  abbrev Told : Verdict → Type 0
+  Told verdict.Accepted = Unit {0}
+  Told (verdict.Refused why) = OpeningRefuses s file workers (numberOf why) (offsetOf why)
+
+module _ (s : Sizes) (file : List ℕ) (workers : ℕ) (bytes : AreBytes file) where
+  -- ---- what refuses it
+
+  given-faulty : Before1 s workers → (n offset : ℕ) → Faulty file n offset → Answers s file workers n offset
+  given-faulty b n offset f = go (readBlock file) refl (refusals-exact .faultyRefused file bytes n offset f)
+    where
+      go : (r : Read) → readBlock file ≡ r → RefusedBy r n offset → Answers s file workers n offset
+      go (accepted block) e h = absurd h
+      go (refused why) e h = of-refusal s file workers why (given-reader s file workers why b e) n offset (h .0) (h .1)
+
+  given : (n offset : ℕ) → OpeningRefuses s file workers n offset → Answers s file workers n offset
+  unfolding numberOf offsetOf
+  given n offset =
+      chosen Now (eqb n 20)
+      (λ e g. of-refusal s file workers Buffers (given-buffers s file workers (g .0)) n offset (sym (eqb-true n 20 e)) (sym (g .1)))
+      (λ e₁. chosen Now (eqb n 13)
+      (λ e g. of-refusal s file workers Workers (given-workers s file workers (g .0) (g .1)) n offset (sym (eqb-true n 13 e)) (sym (g .2)))
+      (λ e₂. chosen Now (eqb n 1)
+      (λ e g.
+      of-refusal s file workers InputTooLong (given-reader s file workers InputTooLong (g .0) (long-refused file (g .1))) n offset (sym (eqb-true n 1 e)) (sym (g .2)))
+      (λ e₃. chosen Now (eqb n 11)
+      (λ e g. let t : Contents = g .1 .0 in
+      let block : Block = blockFor t in
+      of-refusal s file workers (CallKeys offset)
+      (file-answers s file workers (g .0) ∙ analysis-refused s file workers block (CallKeys offset) (read-as s file workers t (g .1 .1))
+      (given-24 file (block .functions) (block .calls) (block .firstCall) offset (openingKeys block) (g .1 .2))) n offset (sym (eqb-true n 11 e)) refl)
+      (λ e₄. chosen Now (eqb n 12)
+      (λ e g. let t : Contents = g .1 .0 in
+      let block : Block = blockFor t in
+      of-refusal s file workers (AllKeys offset)
+      (file-answers s file workers (g .0) ∙ analysis-refused s file workers block (AllKeys offset) (read-as s file workers t (g .1 .1))
+      (given-1024 file (block .functions) (block .calls) (block .firstCall) offset (openingKeys block) (g .1 .2))) n offset (sym (eqb-true n 12 e)) refl)
+      (λ e₅ g. given-faulty (g .0) n offset (g .1))))))
+    where
+      Now : Type 0
+      Now = Answers s file workers n offset
 
   -- ---- what its refusal says
 
-  by-reader : Before1 s workers → (why : Refusal) → readBlock file ≡ refused why → OpeningRefuses s file workers why
-  by-reader b InputTooLong e = (b, only-too-long file e)
-  by-reader b (Missing at) e = (b, e)
-  by-reader b (Kind at) e = (b, e)
-  by-reader b (Length at) e = (b, e)
-  by-reader b (Field at) e = (b, e)
-  by-reader b (NotRising at) e = (b, e)
-  by-reader b (BeyondLimit at) e = (b, e)
-  by-reader b (Behind at) e = (b, e)
-  by-reader b (Balances at) e = (b, e)
-  by-reader b (Code at) e = (b, e)
-  by-reader b (CallKeys at) e = absurd (reader-refuses file (CallKeys at) e (λ f. let z : _≡_ {A = ℕ} 0 1 = cc in omega arith))
-  by-reader b (AllKeys at) e = absurd (reader-refuses file (AllKeys at) e (λ f. let z : _≡_ {A = ℕ} 0 1 = cc in omega arith))
-  by-reader b Workers e = absurd (reader-refuses file Workers e (λ f. let z : _≡_ {A = ℕ} 0 1 = cc in omega arith))
-  by-reader b Buffers e = absurd (reader-refuses file Buffers e (λ f. let z : _≡_ {A = ℕ} 0 1 = cc in omega arith))
+  by-record : Before1 s workers → (why : Refusal) → readBlock file ≡ refused why → 2 ≤ numberOf why
+      → Before1 s workers × Faulty file (numberOf why) (offsetOf why)
+  by-record b why e low = (
+    b,
+    refusals-exact .onlyFaulty file bytes (numberOf why) (offsetOf why) low
+        (subst⁻¹ (λ (r : Read). RefusedBy r (numberOf why) (offsetOf why)) e (refl, refl)),
+  )
+
+  -- The reader gives no number from 11 on.
+  no-record : (why : Refusal) → readBlock file ≡ refused why → 11 ≤ numberOf why → ⊥
+  no-record why e high =
+      let f : Faulty file (numberOf why) (offsetOf why) =
+      refusals-exact .onlyFaulty file bytes (numberOf why) (offsetOf why) (omega arith)
+      (subst⁻¹ (λ (r : Read). RefusedBy r (numberOf why) (offsetOf why)) e (refl, refl)) in
+      omega (arith, f .number, fault-range (f .fault))
+
+  by-reader : Before1 s workers → (why : Refusal) → readBlock file ≡ refused why → Told s file workers (verdict.Refused why)
+  unfolding numberOf offsetOf
+  by-reader b InputTooLong e = (b, refusals-exact .tooLong file bytes 0 (subst⁻¹ (λ (r : Read). RefusedBy r 1 0) e (refl, refl)) .0, refl)
+  by-reader b (Missing at) e = by-record b (Missing at) e (omega arith)
+  by-reader b (Kind at) e = by-record b (Kind at) e (omega arith)
+  by-reader b (Length at) e = by-record b (Length at) e (omega arith)
+  by-reader b (Field at) e = by-record b (Field at) e (omega arith)
+  by-reader b (NotRising at) e = by-record b (NotRising at) e (omega arith)
+  by-reader b (BeyondLimit at) e = by-record b (BeyondLimit at) e (omega arith)
+  by-reader b (Behind at) e = by-record b (Behind at) e (omega arith)
+  by-reader b (Balances at) e = by-record b (Balances at) e (omega arith)
+  by-reader b (Code at) e = by-record b (Code at) e (omega arith)
+  by-reader b (CallKeys at) e = absurd (no-record (CallKeys at) e (omega arith))
+  by-reader b (AllKeys at) e = absurd (no-record (AllKeys at) e (omega arith))
+  by-reader b Workers e = absurd (no-record Workers e (omega arith))
+  by-reader b Buffers e = absurd (no-record Buffers e (omega arith))
 
   by-analysis : Before1 s workers → (block : Block) → readBlock file ≡ accepted block → (why : Refusal)
-      → Refuses (allSets file block) (openingKeys block) (block .firstCall) why → OpeningRefuses s file workers why
+      → Refuses (allSets file block) (openingKeys block) (block .firstCall) why → Told s file workers (verdict.Refused why)
+  unfolding numberOf offsetOf
   by-analysis b block e InputTooLong h = absurd h
   by-analysis b block e (Missing at) h = absurd h
   by-analysis b block e (Kind at) h = absurd h
@@ -298,23 +395,22 @@ module _ (s : Sizes) (file : List ℕ) (workers : ℕ) where
   by-analysis b block e (Behind at) h = absurd h
   by-analysis b block e (Balances at) h = absurd h
   by-analysis b block e (Code at) h = absurd h
-  by-analysis b block e (CallKeys at) h = (b, (block, e, h))
-  by-analysis b block e (AllKeys at) h = (b, (block, e, h))
+  by-analysis b block e (CallKeys at) h =
+      let held = reader-exact .only file bytes block e in
+      (b, (held .0, held .1, subst (λ (x : Block). Over24 (allSets file x) (openingKeys x) (x .firstCall) at) (held .2) h))
+  by-analysis b block e (AllKeys at) h =
+      let held = reader-exact .only file bytes block e in
+      (b, (held .0, held .1, subst (λ (x : Block). Over1024 (allSets file x) (openingKeys x) (x .firstCall) at) (held .2) h))
   by-analysis b block e Workers h = absurd h
   by-analysis b block e Buffers h = absurd h
 
-  -- What a verdict says of the opening.
-  abbrev Told : Verdict → Type 0
-  Told verdict.Accepted = Unit {0}
-  Told (verdict.Refused why) = OpeningRefuses s file workers why
-
   analysis-told : Before1 s workers → (block : Block) → readBlock file ≡ accepted block → (a : Analysis)
-      → Tells (allSets file block) (openingKeys block) (block .firstCall) a → Told (prepareAnalysed (roomIn s) block a .verdict)
+      → Tells (allSets file block) (openingKeys block) (block .firstCall) a → Told s file workers (prepareAnalysed (roomIn s) block a .verdict)
   unfolding prepareAnalysed unprepared
   analysis-told b block e (table.analysed sets keys) h = tt
   analysis-told b block e (table.refused why) h = by-analysis b block e why h
 
-  read-told : Before1 s workers → (r : Read) → readBlock file ≡ r → Told (prepareRead (roomIn s) file r .verdict)
+  read-told : Before1 s workers → (r : Read) → readBlock file ≡ r → Told s file workers (prepareRead (roomIn s) file r .verdict)
   unfolding prepareRead unprepared
   read-told b (refused why) e = by-reader b why e
   read-told b (accepted block) e =
@@ -322,22 +418,42 @@ module _ (s : Sizes) (file : List ℕ) (workers : ℕ) where
       analysis-told b block e (analysisOf file block) (tells file (block .functions) (block .calls) (block .firstCall) [] (openingKeys block) few)
 
   record OpeningTold (o : Opened) : Type 0 where
-    told : Told (o .answer)
+    told : Told s file workers (o .answer)
 
   opening-told : OpeningTold (openingOf s file workers)
-  unfolding openingOf refusedRun
+  unfolding openingOf refusedRun numberOf offsetOf
   opening-told =
       if-all OpeningTold (not (largeEnough s))
-      (λ e. record { told = λ large. false≢true (sym (not-true (largeEnough s) e) ∙ sizes-large s large) })
+      (λ e. record { told = (λ large. false≢true (sym (not-true (largeEnough s) e) ∙ sizes-large s large), refl) })
       λ e.
       let large : Large s = large-sizes s (not-false (largeEnough s) e) in
       if-all OpeningTold (eqb workers 0 || ltb maxWorkers workers)
-      (λ f. record { told = (large, λ some. false≢true (sym (some-workers workers some) ∙ f)) })
+      (λ f. record { told = (large, λ some. false≢true (sym (some-workers workers some) ∙ f), refl) })
       λ f.
       let n : (eqb workers 0 ≡ false) × (ltb maxWorkers workers ≡ false) = neither (eqb workers 0) (ltb maxWorkers workers) f in
       let nonzero : workers ≡ 0 → ⊥ = eqb-false workers 0 (n .0) in
       let b : Before1 s workers = (large, (omega arith, ltb-false maxWorkers workers (n .1))) in
-      record { told = subst⁻¹ Told (prepared-answer s workers prepared (prepared .verdict)) (read-told b (readBlock file) refl) }
+      let p : Prepared = prepared s file workers in
+      record { told = subst⁻¹ (Told s file workers) (prepared-answer s workers p (p .verdict)) (read-told b (readBlock file) refl) }
 
-  pub opens-not : (why : Refusal) → Exactly (openingOf s file workers .answer ≡ verdict.Refused why) (OpeningRefuses s file workers why)
-  opens-not why = (λ e. subst Told e (opening-told .told), given why)
+  pub opens-not : (n offset : ℕ) → (n ≡ 0 → ⊥) → Exactly (Answers s file workers n offset) (OpeningRefuses s file workers n offset)
+  opens-not n offset some = (said (openingOf s file workers .answer) (opening-told .told), given n offset)
+    where
+      said : (v : Verdict) → Told s file workers v → (verdictNumber v ≡ n) × (verdictOffset v ≡ offset) → OpeningRefuses s file workers n offset
+      said verdict.Accepted t e = absurd (some (sym (e .0) ∙ accepted-number))
+      said (verdict.Refused why) t e =
+          subst (λ (k : ℕ). OpeningRefuses s file workers n k) (sym (refused-numbers why .1) ∙ e .1)
+          (subst (λ (m : ℕ). OpeningRefuses s file workers m (offsetOf why)) (sym (refused-numbers why .0) ∙ e .0) t)
+
+  pub opens : Exactly (verdictNumber (openingOf s file workers .answer) ≡ 0) (Openable s file workers)
+  opens = (
+    λ e. opening-exact reader-exact s file workers bytes .0 (number-accepted (openingOf s file workers .answer) e),
+    λ o. ap verdictNumber (opening-exact reader-exact s file workers bytes .1 o) ∙ accepted-number,
+  )
+
+pub cleared : (s : Sizes) (file : List ℕ) (workers : ℕ) → (verdictNumber (openingOf s file workers .answer) ≡ 0 → ⊥) → Cleared s (openingOf s file workers .run)
+cleared s file workers n = go (openingOf s file workers .answer) refl n
+  where
+    go : (v : Verdict) → openingOf s file workers .answer ≡ v → (verdictNumber v ≡ 0 → ⊥) → Cleared s (openingOf s file workers .run)
+    go verdict.Accepted e n = absurd (n accepted-number)
+    go (verdict.Refused why) e n = opening-cleared s file workers why e

@@ -1,9 +1,9 @@
 -- The number of the sheet: when it is written and which answer refuses it, exactly, and that a refusal leaves the output as it was.
-use mathlib.Core.Path.{_≡_, refl, ap, subst, _∙_}
+use mathlib.Core.Path.{_≡_, refl, sym, ap, subst, _∙_}
 use mathlib.Core.Bool.{true, _&&_, _||_, not}
 use mathlib.Core.List.{List}
 use Prim.Native.Nat.{ℕ, _≤_, _<_}
-use borrow.Author.Tests.{lt-ltb, le-ltb}
+use borrow.Author.Tests.{lt-ltb, le-ltb, eqb-true}
 use lib.Dec.{eqb, leb, ltb}
 use lib.IntN.{ℤ}
 use lib.ListN.{length}
@@ -13,13 +13,14 @@ use Rattle.block.specs.Limits.{maxCalls, maxKeys}
 use Rattle.block.specs.Outcomes.{lastOutcome, maxCount}
 use Rattle.machine.specs.Run.{Run, sizesOf, largeEnough, statusWord, stateOf, isState, finished}
 use Rattle.machine.specs.Step.{cellAt}
-use Rattle.machine.specs.declared.Answer.{Answer}
+use Rattle.machine.specs.Answer.{answerNumber}
 use Rattle.machine.specs.declared.Answer.the-variants as answer
-use Rattle.sheet.specs.Sheet.{Closed, fieldOf, sheetRecords, sheetBytes, offsetBehind, statesAllowed, allFinished, receiptsAllowed, balancesAllowed, unwritten, filled, writtenIf, written, sheetOf}
+use Rattle.sheet.specs.Sheet.{closingNumber, Closed, fieldOf, sheetRecords, sheetBytes, offsetBehind, statesAllowed, allFinished, receiptsAllowed, balancesAllowed, unwritten, filled, writtenIf, written, sheetOf}
 use Rattle.sheet.specs.declared.Closing.{Closing}
 use Rattle.sheet.specs.declared.Closing.the-variants.{Written, Refused}
 use Rattle.sheet.proofs.SheetTests.{FoundBefore27, FoundBefore28, sheet-each}
-use Rattle.guarantees.specs.Demand1.{Exactly, CallFinished, Before27, Before28, SheetRefuses, Writable}
+use Rattle.guarantees.specs.Demand1.{Exactly, CallFinished, Before27, Before28, Writable, SheetGives}
+use Rattle.guarantees.proofs.NumbersByCondition.ByNumbers.{chosen}
 use Rattle.guarantees.proofs.NumbersByCondition.ExactTests.{itself, leb-exact, eqb-exact, both-exact, under-exact, TestsAll, all-exact}
 use Rattle.guarantees.proofs.AcceptedOpening.OpeningPassed.{large-sizes, sizes-large}
 
@@ -63,10 +64,14 @@ balances-exact keys cells =
 -- What a closing says, and that a refusal leaves the output.
 abbrev ClosingTold : Run → (output left : List ℕ) → Closing → Type 0
 ClosingTold r output left (Written n) = Writable r output
-ClosingTold r output left (Refused a) = (left ≡ output) × ((a ≡ answer.Damaged → ⊥) → SheetRefuses r output a)
+ClosingTold r output left (Refused a) = (left ≡ output) × ((a ≡ answer.Damaged → ⊥) → SheetGives r output (answerNumber a))
 
 record SheetTold (r : Run) (output : List ℕ) (m : Closed) : Type 0 where
   told : ClosingTold r output (m .output) (m .answer)
+
+written-number : (m : ℕ) → closingNumber (Written m) ≡ 0
+unfolding closingNumber
+written-number m = refl
 
 module _ (r : Run) (output : List ℕ) where
   -- The sheet from each number on.
@@ -118,18 +123,9 @@ module _ (r : Run) (output : List ℕ) where
       → sheetOf r output ≡ written output (sheetRecords r)
   sheet-written b receipts = sheet-28 b ∙ rw (receipts-exact (r .status) (r .head .calls) .every .1 receipts)
 
-  given : (a : Answer) → SheetRefuses r output a → sheetOf r output .answer ≡ Refused a
+  sheet-too-long : Before28 r → length output < length (sheetBytes r) → sheetOf r output .answer ≡ Refused answer.SheetTooLong
   unfolding writtenIf
-  given answer.Accepted g = absurd g
-  given answer.Damaged g = absurd g
-  given answer.NoWorker g = absurd g
-  given answer.NoCall g = absurd g
-  given answer.WorkerBusy g = absurd g
-  given answer.NotWaiting g = absurd g
-  given answer.EarlierUnfinished g = absurd g
-  given answer.WorkerIdle g = absurd g
-  given answer.CallUnfinished (b, u) = of-answer (sheet-unfinished b u)
-  given answer.SheetTooLong (b, h) = of-answer (sheet-28 b) ∙ rw (lt-ltb (length output) (length (sheetBytes r)) h)
+  sheet-too-long b h = of-answer (sheet-28 b) ∙ rw (lt-ltb (length output) (length (sheetBytes r)) h)
 
   given-whole : Writable r output → sheetOf r output ≡ filled output (sheetRecords r)
   unfolding writtenIf
@@ -155,6 +151,7 @@ module _ (r : Run) (output : List ℕ) where
       }
 
   sheet-told : SheetTold r output (sheetOf r output)
+  unfolding answerNumber
   sheet-told =
       sheet-each (SheetTold r output) r output
       record { told = (refl, λ d. absurd (d refl)) }
@@ -167,12 +164,30 @@ module _ (r : Run) (output : List ℕ) where
   found : (k : Closing) → sheetOf r output .answer ≡ k → ClosingTold r output (sheetOf r output .output) k
   found k e = subst (ClosingTold r output (sheetOf r output .output)) e (sheet-told .told)
 
-  pub refuses : (a : Answer) → (a ≡ answer.Damaged → ⊥) → Exactly (sheetOf r output .answer ≡ Refused a) (SheetRefuses r output a)
-  refuses a d = (λ e. found (Refused a) e .1 d, given a)
+  -- What a closing other than 20 says, by its number.
+  closing-gives : (k : Closing) → sheetOf r output .answer ≡ k → (closingNumber k ≡ 20 → ⊥) → SheetGives r output (closingNumber k)
+  unfolding closingNumber answerNumber
+  closing-gives (Written n) e d = found (Written n) e
+  closing-gives (Refused a) e d = found (Refused a) e .1 (λ f. d (ap answerNumber f))
+
+  pub closes : (n : ℕ) → (n ≡ 20 → ⊥) → Exactly (closingNumber (sheetOf r output .answer) ≡ n) (SheetGives r output n)
+  unfolding closingNumber answerNumber
+  closes n d = (
+    λ e. subst (SheetGives r output) e (closing-gives (sheetOf r output .answer) refl (λ f. d (sym e ∙ f))),
+    chosen (closingNumber (sheetOf r output .answer) ≡ n) (eqb n 0) (λ e w. ap closingNumber (of-answer (given-whole w)) ∙ sym (eqb-true n 0 e))
+        (λ e₁. chosen (closingNumber (sheetOf r output .answer) ≡ n) (eqb n 27)
+        (λ e g. ap closingNumber (of-answer (sheet-unfinished (g .0) (g .1))) ∙ sym (eqb-true n 27 e))
+        (λ e₂. chosen (closingNumber (sheetOf r output .answer) ≡ n) (eqb n 28)
+        (λ e g. ap closingNumber (sheet-too-long (g .0) (g .1)) ∙ sym (eqb-true n 28 e)) (λ e₃ g. absurd g))),
+  )
 
   pub sheet-writes : Exactly (sheetOf r output ≡ filled output (sheetRecords r)) (Writable r output)
   sheet-writes = (λ e. found (Written (offsetBehind (sheetRecords r))) (of-answer e), given-whole)
 
   -- "a refused .. sheet leaves them unchanged"
-  pub unwritten-left : (a : Answer) → sheetOf r output .answer ≡ Refused a → sheetOf r output .output ≡ output
-  unwritten-left a e = found (Refused a) e .0
+  pub unwritten-left : (closingNumber (sheetOf r output .answer) ≡ 0 → ⊥) → sheetOf r output .output ≡ output
+  unwritten-left n = go (sheetOf r output .answer) refl n
+    where
+      go : (k : Closing) → sheetOf r output .answer ≡ k → (closingNumber k ≡ 0 → ⊥) → sheetOf r output .output ≡ output
+      go (Written m) e n = absurd (n (written-number m))
+      go (Refused a) e n = found (Refused a) e .0

@@ -38,11 +38,11 @@ accepted-number SheetTooLong e = absurd (omega arith)
 
 -- A call's state is that of its phase.
 pub state-of-phase : (status : List ℕ) (c : ℕ) (a : CallState) (p : Phase) → StatusSays status c a → SamePhase p a → stateOf status c ≡ stateNumber p
-state-of-phase status c ready waiting h e = h
+state-of-phase status c ready waiting h e = h .0
 state-of-phase status c ready (running k) h e = absurd e
 state-of-phase status c ready finished h e = absurd e
 state-of-phase status c (active l o) waiting h e = absurd e
-state-of-phase status c (active l o) (running k) h e = h
+state-of-phase status c (active l o) (running k) h e = h .0
 state-of-phase status c (active l o) finished h e = absurd e
 state-of-phase status c (ended broken) p h e = absurd h
 state-of-phase status c (ended (receipt outcome count)) waiting h e = absurd e

@@ -26,7 +26,7 @@ use Rattle.machine.specs.Opening.{openingOf}
 use Rattle.machine.specs.Run.{Run, Sizes}
 use Rattle.sheet.specs.Sheet.{cellRecords, nextFile}
 use Rattle.guarantees.specs.Demand1.{Openable, keysTogether}
-use Rattle.guarantees.proofs.Demand1Proof.{demand-1}
+use Rattle.guarantees.proofs.NumbersByCondition.OpeningExact.{opening-exact}
 use Rattle.guarantees.specs.ClosedOpens.{Sendable, NextKeeps, OpensWith, OpensNext}
 
 -- The kind 2 records of a run are those of these cells, which keep the rules and say a state at every key.
@@ -132,11 +132,11 @@ module _ (r : Run) (σ : State) (cells : List Cell) (carries : Carries r σ cell
         reader-exact .one t contents (keeps-fits t (h .keeps)) fits (h .keeps .size) same
 
     keeps-of : Accepts → KeepsRules contents
-    keeps-of e = let o = demand-1 .opens s file workers file-bytes .0 e in subst KeepsRules (holds-these (o .contents) (o .holds)) (o .holds .keeps)
+    keeps-of e = let o = opening-exact reader-exact s file workers file-bytes .0 e in subst KeepsRules (holds-these (o .contents) (o .holds)) (o .holds .keeps)
 
     tests-of : Accepts → NextKeeps s workers file functions calls
     tests-of e =
-        let o : Openable s file workers = demand-1 .opens s file workers file-bytes .0 e in
+        let o : Openable s file workers = opening-exact reader-exact s file workers file-bytes .0 e in
         let keeps : KeepsRules contents = keeps-of e in
         let block : blockOf file ≡ blockFor (o .contents) = read-of (o .contents) (o .holds .keeps) (o .holds .bytes) in
         let size : length (fileOf contents) ≤ maxBytes = keeps .size in
@@ -155,7 +155,7 @@ module _ (r : Run) (σ : State) (cells : List Cell) (carries : Carries r σ cell
         let keeps : KeepsRules contents =
         record { functions = n .coded; cells = carries .keeps; calls = n .called; size = subst (λ (f : List ℕ). length f ≤ maxBytes) is-file (n .size) } in
         let block : blockOf file ≡ blockFor contents = read-of contents keeps is-file in
-        demand-1 .opens s file workers file-bytes .1
+        opening-exact reader-exact s file workers file-bytes .1
         (record {
           large = n .large;
           some = n .some;

@@ -2,7 +2,7 @@
 use mathlib.Core.Path.{sym}
 use native.Mathlib.Omega.{arith}
 use lib.Seq.{length-take-le}
-use Rattle.host.proofs.Laws.{got-fits, got-filled}
+use Rattle.host.proofs.Laws.{got-fits, taken-none, taken-some}
 use borrow.Author.Needs.{needs}
 use Rattle.host.proofs.read_bytes.Statement.{statement}
 use Rattle.host.proofs.read_bytes.Tie as tie
@@ -14,7 +14,7 @@ same-length : tie.Need-same-length
 same-length c = search needs
 
 returns : tie.Need-returns
-returns c = search needs
+returns c = taken-none (search needs)
 
 slice-relend-prefix-read-full : tie.Need-slice-relend-prefix-read-full
 slice-relend-prefix-read-full c = search needs
@@ -37,7 +37,7 @@ returns-2 : tie.Need-returns-2
 returns-2 c =
     let c6 = c .before .before .before .before .before .before in
     let c10 = c6 .before .before .before .before in
-    got-filled (c10 .args .n) (c10 .args .buffer .now) (c6 .read-full .last .1 .0) (c6 .read-full .ensures .0) (omega arith) (c6 .read-full .kept .1 .0) (c .before .before .clear-from2 .ensures)
+    taken-some (c10 .args .n) (c10 .args .buffer .now) (c6 .read-full .last .1 .0) (c6 .read-full .ensures .0) (omega arith) (c6 .read-full .kept .1 .0) (c .before .before .clear-from2 .ensures)
 
 pub read-bytes-spec : {M : Type 1} → statement M
 read-bytes-spec =

@@ -24,7 +24,7 @@ slice-reshare-prefix-print c = search needs
 slice-aggregate-print-3 : tie.Need-slice-aggregate-print-3
 slice-aggregate-print-3 c =
     let c9 = c .before .before .before .before .before .before .before .before .before in
-    sym (length-take-le _ _ (omega (arith, c9 .read-part .ensures .within, c9 .read-part .kept .0)))
+    sym (length-take-le _ _ (omega (arith, c9 .read-part .ensures .filled .within, c9 .read-part .kept .0)))
 
 slice-aggregate-print-4 : tie.Need-slice-aggregate-print-4
 slice-aggregate-print-4 c = search needs

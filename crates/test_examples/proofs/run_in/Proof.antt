@@ -16,7 +16,7 @@ slice-reshare-prefix-print-listing : tie.Need-slice-reshare-prefix-print-listing
 slice-reshare-prefix-print-listing c = search needs
 
 slice-aggregate-print-listing : tie.Need-slice-aggregate-print-listing
-slice-aggregate-print-listing c = sym (length-take-le _ _ (omega (arith, c .before .before .before .before .read-part .ensures .within, c .before .before .before .before .read-part .kept .0)))
+slice-aggregate-print-listing c = sym (length-take-le _ _ (omega (arith, c .before .before .before .before .read-part .ensures .filled .within, c .before .before .before .before .read-part .kept .0)))
 
 slice-aggregate-print-listing-2 : tie.Need-slice-aggregate-print-listing-2
 slice-aggregate-print-listing-2 c = search needs
@@ -30,7 +30,7 @@ slice-reshare-prefix-run c = search needs
 slice-aggregate-run : tie.Need-slice-aggregate-run
 slice-aggregate-run c =
     let c8 = c .before .before .before .before .before .before .before .before in
-    sym (length-take-le _ _ (omega (arith, c8 .read-part .ensures .within, c8 .read-part .kept .0)))
+    sym (length-take-le _ _ (omega (arith, c8 .read-part .ensures .filled .within, c8 .read-part .kept .0)))
 
 cast-run : tie.Need-cast-run
 cast-run c = search needs

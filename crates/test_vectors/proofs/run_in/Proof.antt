@@ -18,7 +18,7 @@ slice-reshare-prefix-run c = search needs
 slice-aggregate-run : tie.Need-slice-aggregate-run
 slice-aggregate-run c =
     let c7 = c .before .before .before .before .before .before .before in
-    sym (length-take-le _ _ (omega (arith, c7 .read-part .ensures .within, c7 .read-part .kept .0)))
+    sym (length-take-le _ _ (omega (arith, c7 .read-part .ensures .filled .within, c7 .read-part .kept .0)))
 
 cast-run : tie.Need-cast-run
 cast-run c = search needs

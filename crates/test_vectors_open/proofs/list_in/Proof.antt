@@ -13,7 +13,7 @@ slice-reshare-prefix-print-listing : tie.Need-slice-reshare-prefix-print-listing
 slice-reshare-prefix-print-listing c = search needs
 
 slice-aggregate-print-listing : tie.Need-slice-aggregate-print-listing
-slice-aggregate-print-listing c = sym (length-take-le _ _ (omega (arith, c .before .before .before .before .before .read-part .ensures .within, c .before .before .before .before .before .read-part .kept .0)))
+slice-aggregate-print-listing c = sym (length-take-le _ _ (omega (arith, c .before .before .before .before .before .read-part .ensures .filled .within, c .before .before .before .before .before .read-part .kept .0)))
 
 slice-aggregate-print-listing-2 : tie.Need-slice-aggregate-print-listing-2
 slice-aggregate-print-listing-2 c = search needs

@@ -12,8 +12,11 @@ pub const LEFT: i64 = 152;
 const COLUMN: i64 = 24;
 /// Width of a band where there are many lines.
 pub const MOST_WIDTH: i64 = 1_000;
-/// Least room between two numbers of lines.
+/// Least room from the middle of a line's number to that of the next.
 const LABEL_ROOM: i64 = 40;
+/// Width of a digit of such a number, and the gap between two numbers.
+const DIGIT: i64 = 7;
+const LABEL_GAP: i64 = 8;
 
 /// A stretch of lines that stand side by side.
 #[derive(Clone, Copy, Debug)]
@@ -76,7 +79,7 @@ impl Band {
     /// Draws the numbers of the lines above the rows, and the grid.
     pub fn axis(&self, out: &mut Markup, bottom: i64) {
         let label = Tenths::pixels(self.top - 8);
-        let x = Tenths::pixels(LEFT - LABEL_ROOM / 2 - 10);
+        let x = Tenths::pixels(LEFT - self.label_room() / 2 - 10);
         svg::text(out, "quiet right", x, label, "line");
         let mut grid = String::new();
         for line in self.marked() {
@@ -91,7 +94,7 @@ impl Band {
     /// that stand far enough from it.
     fn marked(&self) -> Vec<usize> {
         let step = self.step();
-        let room = if step == 1 { 1 } else { 10 * LABEL_ROOM };
+        let room = if step == 1 { 1 } else { 10 * self.label_room() };
         let far = |line: &usize| self.middle(*line).0 - self.middle(self.first).0 >= room;
         let next = self.first / step * step + step;
         let rest = (next..=self.last).step_by(step).filter(far);
@@ -99,11 +102,17 @@ impl Band {
         first.into_iter().chain(rest).collect()
     }
 
+    /// The room that the longest number of a line needs.
+    fn label_room(&self) -> i64 {
+        let digits = self.last.to_string().len() as i64;
+        LABEL_ROOM.max(digits * DIGIT + LABEL_GAP)
+    }
+
     /// The least of 1, 2, 5, 10, 20, .. lines that leaves room for a number.
     fn step(&self) -> usize {
         let wide = |step: usize| {
             let width = step as i128 * i128::from(self.width) / self.full as i128;
-            width >= i128::from(10 * LABEL_ROOM)
+            width >= i128::from(10 * self.label_room())
         };
         let tens = (0..).map(|power| 10_usize.saturating_pow(power));
         tens.flat_map(|ten| [1, 2, 5].map(|digit| ten.saturating_mul(digit)))

@@ -6,8 +6,8 @@ use runner::code::Parts;
 use runner::emit::RECEIPT_KIND;
 use runner::key::Key;
 use runner::limits::{
-    FUNCTION_NAME_BYTES, HEAD_BYTES, INSTRUCTION_BYTES, KEY_BYTES, MAX_BALANCE_SUM, MAX_CALLS,
-    MAX_CELLS, MAX_FUNCTIONS, MAX_WORKERS,
+    FUNCTION_NAME_BYTES, HEAD_BYTES, INSTRUCTION_BYTES, KEY_BYTES, MAX_BALANCE_SUM,
+    MAX_BLOCK_BYTES, MAX_CALLS, MAX_CELLS, MAX_FUNCTIONS, MAX_WORKERS,
 };
 use runner::machine::open;
 use runner::refusal::{BlockFault, BlockRefusal};
@@ -19,6 +19,10 @@ use super::{
 };
 use crate::assembly;
 use crate::records::{is_text, records, Record};
+use crate::sheet;
+
+/// What a closing sheet is for.
+const NEXT_DAY: &str = "`desk next` makes the next day's block of it";
 
 /// Why 8 workers' block is refused, in one or more lines: the number and its
 /// meaning, then the record and what is wrong in it. `None` if it is accepted.
@@ -27,14 +31,27 @@ pub fn refused_block(bytes: &[u8]) -> Option<String> {
     let BlockRefusal { fault, offset } = refusal;
     let (number, meaning) = (fault.number(), meaning(fault));
     let place = place(bytes, refusal);
-    let hint = if is_text(bytes) && !bytes.is_empty() {
-        "\nno byte is zero: this is a text or another file, and no block"
-    } else {
-        ""
-    };
+    let hint = hint(bytes, refusal).map_or_else(String::new, |hint| format!("\n{hint}"));
     Some(format!(
         "{number} at offset {offset}: {meaning}\n{place}{hint}"
     ))
+}
+
+/// What else a file that is no block may be.
+fn hint(bytes: &[u8], refusal: BlockRefusal) -> Option<String> {
+    let BlockRefusal { fault, offset } = refusal;
+    if is_text(bytes) && !bytes.is_empty() {
+        let hint = "no byte is zero: this is a text or another file, and no block";
+        return Some(hint.to_string());
+    }
+    let is_sheet = fault == BlockFault::Kind && Site::at(bytes, offset).is_in_sheet();
+    is_sheet.then(|| match sheet::read(bytes) {
+        Ok(read) => {
+            let receipts = count(read.receipts, "receipt");
+            format!("this is a closing sheet with {receipts}, and no block: {NEXT_DAY}")
+        }
+        Err(why) => format!("this is a damaged closing sheet, and no block: {why}"),
+    })
 }
 
 /// What a number means.
@@ -62,7 +79,7 @@ fn place(bytes: &[u8], refusal: BlockRefusal) -> String {
     let BlockRefusal { fault, offset } = refusal;
     let left = bytes.len().saturating_sub(offset);
     match fault {
-        BlockFault::TooLong => format!("the file has {} bytes", bytes.len()),
+        BlockFault::TooLong => format!("the file has {}", too_many_bytes(bytes.len())),
         BlockFault::BytesAfterEnd => format!("{} behind the end record", count(left, "byte")),
         BlockFault::Cut if left < HEAD_BYTES => missing_head(bytes, left),
         BlockFault::CallKeys | BlockFault::AllKeys => match read(bytes) {
@@ -73,6 +90,16 @@ fn place(bytes: &[u8], refusal: BlockRefusal) -> String {
             unreachable!("8 workers open a block, and nothing is lent")
         }
         _ => Site::at(bytes, offset).words(fault, offset),
+    }
+}
+
+/// How many bytes a file above the limit has. Of a longer one, one byte beyond
+/// the limit is read.
+fn too_many_bytes(bytes: usize) -> String {
+    if bytes == MAX_BLOCK_BYTES + 1 {
+        format!("{bytes} bytes or more; no more were read")
+    } else {
+        count(bytes, "byte")
     }
 }
 
@@ -154,13 +181,23 @@ impl<'a> Site<'a> {
                 let before = before_words(before);
                 format!("it stands behind the {before}, and kinds never fall")
             }
-            _ if number == RECEIPT_KIND => {
+            _ if self.is_receipt() => {
                 "kind 5: a receipt stands in a closing sheet alone".to_string()
             }
             _ => format!(
                 "kind {number}: there are 1, function, 2, opening cell, 3, call, and 4, end"
             ),
         }
+    }
+
+    fn is_receipt(&self) -> bool {
+        self.record.kind == RECEIPT_KIND
+    }
+
+    /// Whether it is the first receipt of a closing sheet, behind cells alone.
+    fn is_in_sheet(&self) -> bool {
+        let mut before = self.before.iter();
+        self.is_receipt() && before.all(|record| record.kind == Kind::Cell.number())
     }
 
     fn too_many(&self) -> String {

@@ -1,5 +1,8 @@
 //! The program with files and streams.
 
+use std::fs::{metadata, set_permissions, Permissions};
+use std::os::unix::fs::PermissionsExt;
+
 use runner::assemble::assemble;
 use runner::examples::{example, EXAMPLES};
 
@@ -103,6 +106,48 @@ fn a_full_disk_is_told() {
 }
 
 #[test]
+fn a_file_is_written_whole_or_stays() {
+    let room = Room::new()
+        .with("p.bin", block_p())
+        .with("moves", "s 0\n")
+        .with("old", "an old picture");
+    let commands: [&[&str]; 3] = [
+        &["waits", "p.bin"],
+        &["schedule", "p.bin", "moves"],
+        &["day", "p.bin", "moves"],
+    ];
+    for command in commands {
+        for output in ["old", "new"] {
+            let arguments = [command, &[output]].concat();
+            let told = room.desk_without_room(&arguments).told(1);
+            assert_eq!(told, format!("{output}: File too large (os error 27)\n"));
+            assert_eq!(room.names(), ["moves", "old", "p.bin"]);
+            assert_eq!(room.file("old").as_deref(), Some(&b"an old picture"[..]));
+        }
+    }
+}
+
+#[test]
+fn what_takes_a_name_keeps_rights_and_links() {
+    let room = Room::new()
+        .with("a.txt", "end")
+        .with("b.bin", "old")
+        .pointed("b.bin", "link")
+        .pointed("c.bin", "nowhere");
+    let rights = |mode| Permissions::from_mode(mode);
+    set_permissions(room.path("b.bin"), rights(0o640)).expect("a file has rights");
+    for (name, target) in [("link", "b.bin"), ("nowhere", "c.bin"), ("d.bin", "d.bin")] {
+        assert_eq!(room.desk(&["assemble", "a.txt", name]).printed(), "");
+        assert_eq!(room.file(target), Some(vec![0, 0, 4, 0]));
+    }
+    assert!(room.path("link").is_symlink() && room.path("nowhere").is_symlink());
+    let found = metadata(room.path("b.bin")).expect("the file is there");
+    assert_eq!(found.permissions().mode() & 0o777, 0o640);
+    let names = ["a.txt", "b.bin", "c.bin", "d.bin", "link", "nowhere"];
+    assert_eq!(room.names(), names);
+}
+
+#[test]
 fn nothing_is_drawn_of_a_refused_block() {
     let room = Room::new()
         .with("cut.bin", [0, 0, 4])
@@ -189,6 +234,18 @@ fn the_next_block_is_written() {
 }
 
 #[test]
+fn a_sheet_is_told_from_a_block() {
+    let sheet = "cell 7 0 0 0 1\nraw 04000500 00000200\nend";
+    let room = Room::new().with("sheet.bin", assemble(sheet).expect("it is a text"));
+    let answer = room.desk(&["explain", "sheet.bin"]);
+    assert_eq!((answer.status, answer.error.as_str()), (1, ""));
+    let words = "this is a closing sheet with 1 receipt, and no block: `desk next` makes the next \
+                 day's block of it\n";
+    assert!(answer.output.starts_with("e 3 24\n"), "{}", answer.output);
+    assert!(answer.output.ends_with(words), "{}", answer.output);
+}
+
+#[test]
 fn what_is_wrong_with_the_next_block_is_named() {
     let sheet = assemble("cell 7 0 0 0 9223372036854775807\nend").expect("it is a text");
     let room = Room::new()
@@ -219,4 +276,88 @@ fn keys_25() -> String {
         .map(|field| format!("put r0 {field} zero zero\n"))
         .collect();
     format!("function 32768 0\n{puts}call 5 32768 0 0\n")
+}
+
+/// What is told of a file that is longer than the longest of its kind.
+fn above(most: usize, of: &str) -> String {
+    format!("above {most} bytes, the most of {of}; no more were read\n")
+}
+
+#[test]
+fn a_file_without_end_is_read_to_one_byte_beyond_the_limit() {
+    let room = Room::new()
+        .with("p.bin", block_p())
+        .with("moves", "s 0\n")
+        .with("sheet", assemble("end").expect("an end is a text"));
+    let refused = "1 at offset 0: the file is above 65536 bytes\n\
+                   the file has 65537 bytes or more; no more were read\n";
+    for command in ["explain", "inspect"] {
+        let answer = room.desk(&[command, "/dev/zero"]);
+        assert_eq!((answer.status, answer.error.as_str()), (1, ""));
+        assert_eq!(answer.output, format!("e 1 0\n{refused}"));
+    }
+    let drawn: [&[&str]; 2] = [
+        &["waits", "/dev/zero", "out"],
+        &["schedule", "/dev/zero", "moves", "out"],
+    ];
+    for arguments in drawn {
+        assert_eq!(
+            room.desk(arguments).told(1),
+            format!("/dev/zero: {refused}")
+        );
+    }
+    let texts: [&[&str]; 2] = [
+        &["assemble", "/dev/zero", "out"],
+        &["next", "sheet", "/dev/zero", "out"],
+    ];
+    for arguments in texts {
+        let told = format!("/dev/zero: {}", above(4_194_304, "a text"));
+        assert_eq!(room.desk(arguments).told(1), told);
+    }
+    let told = room.desk(&["disassemble", "/dev/zero", "out"]).told(1);
+    assert_eq!(told, format!("/dev/zero: {}", above(65_536, "a block")));
+    let told = room.desk(&["next", "/dev/zero", "p.bin", "out"]).told(1);
+    let why = "not a closing sheet: offset 26628: a sheet has at most 26628 bytes";
+    assert_eq!(told, format!("/dev/zero: {why}\n"));
+    assert_eq!(room.file("out"), None);
+}
+
+#[test]
+fn files_at_their_limits_are_read_whole() {
+    let text = format!("end #{}", "x".repeat(4_194_304 - 5));
+    let room = Room::new()
+        .with("a.txt", &text)
+        .with("b.txt", text + "x")
+        .with("a.bin", [9; 65_536])
+        .with("b.bin", [9; 65_537]);
+    assert_eq!(room.desk(&["assemble", "a.txt", "out"]).printed(), "");
+    assert_eq!(room.file("out"), Some(vec![0, 0, 4, 0]));
+    let told = room.desk(&["assemble", "b.txt", "out"]).told(1);
+    assert_eq!(told, format!("b.txt: {}", above(4_194_304, "a text")));
+    let text = room.desk(&["disassemble", "a.bin"]).printed();
+    assert_eq!(assemble(text), Ok(vec![9; 65_536]));
+    let told = room.desk(&["disassemble", "b.bin"]).told(1);
+    assert_eq!(told, format!("b.bin: {}", above(65_536, "a block")));
+}
+
+#[test]
+fn the_text_of_every_file_is_short_enough_to_be_read() {
+    let length = |record: &[u8]| {
+        let bytes: Vec<u8> = record.iter().copied().cycle().take(65_536).collect();
+        desk::disassemble::disassemble(&bytes).len()
+    };
+    let code = |instruction: [u8; 8]| {
+        let head = [0xf4, 0xff, 1, 0, 0xff, 0x7f, 0xff, 0xff];
+        let code = instruction.repeat(8_190);
+        desk::disassemble::disassemble(&[&head[..], &code].concat()).len()
+    };
+    let codes = (0..=16).flat_map(|op| [[op; 8], [op, 255, 255, 255, 255, 255, 255, 255]]);
+    let records: [&[u8]; 4] = [
+        &[0, 0, 255, 255],
+        &[4, 0, 1, 0, 0xff, 0x7f, 0xff, 0xff],
+        &[1, 0, 4, 0, 0, 0, 0, 255, 255],
+        &[4, 0, 1, 0, 0xff, 0x7f, 0xff, 0xff, 0, 0, 9, 0],
+    ];
+    let longest = codes.map(code).chain(records.map(length)).max();
+    assert!(longest < Some(4_194_304), "{longest:?}");
 }

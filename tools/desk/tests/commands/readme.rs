@@ -37,6 +37,13 @@ fn a_refused_block() {
 }
 
 #[test]
+fn a_sheet_in_place_of_a_block() {
+    let sheet = crate::block("cell 7 0 0 0 1\nraw 04000500 00000200\nend");
+    let refused = explain::block(&sheet).expect_err("a sheet is no block");
+    shows(&refused.0);
+}
+
+#[test]
 fn a_call_and_a_function_of_p() {
     let paragraph = |text: &str, index: usize| {
         let found = text.split("\n\n").nth(index);

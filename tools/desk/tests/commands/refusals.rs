@@ -35,8 +35,27 @@ fn a_text_in_place_of_a_block_is_told() {
 }
 
 #[test]
+fn a_sheet_in_place_of_a_block_is_told() {
+    let sheet = block("cell 5 0 0 0 2\nraw 04000500 00000200\nraw 04000500 03000000\nend");
+    let place = "record 1 at offset 24: kind 5: a receipt stands in a closing sheet alone\n";
+    let next = "`desk next` makes the next day's block of it";
+    refused(
+        &sheet,
+        "3 at offset 24",
+        &format!("{place}this is a closing sheet with 2 receipts, and no block: {next}"),
+    );
+    let damaged = "this is a damaged closing sheet, and no block: offset 32: ";
+    let cut = "2 of the 4 bytes of its body are there";
+    refused(
+        &sheet[..38],
+        "3 at offset 24",
+        &format!("{place}{damaged}{cut}"),
+    );
+}
+
+#[test]
 fn number_1() {
-    let place = "the file has 65537 bytes";
+    let place = "the file has 65537 bytes or more; no more were read";
     refused(&[0; 65_537], "1 at offset 0", place);
 }
 
@@ -63,6 +82,11 @@ fn number_2() {
 #[test]
 fn number_3() {
     text_refused(
+        "function 32768 0\nraw 0400 0500 0000 0000\nend",
+        "3 at offset 8",
+        "record 1 at offset 8: kind 5: a receipt stands in a closing sheet alone",
+    );
+    text_refused(
         "function 32768 0\nraw 00000700",
         "3 at offset 8",
         "record 1 at offset 8: kind 7: there are 1, function, 2, opening cell, 3, call, and 4, end",
@@ -70,7 +94,9 @@ fn number_3() {
     text_refused(
         "raw 0400 0500 0000 0000",
         "3 at offset 0",
-        "record 0 at offset 0: kind 5: a receipt stands in a closing sheet alone",
+        "record 0 at offset 0: kind 5: a receipt stands in a closing sheet alone\n\
+         this is a damaged closing sheet, and no block: offset 8: the end is missing: 0 of the 4 \
+         bytes of a head are there",
     );
     text_refused(
         "function 32768 0\ncall 5 32768 0 0\nfunction 32768 1\nend",
@@ -159,7 +185,7 @@ fn numbers_7_and_12_and_the_long_file() {
         .filter_map(|case| refused_block(&case.block))
         .collect();
     let has = |part: &str| assert!(words.iter().any(|words| words.contains(part)), "{part}");
-    has("1 at offset 0: the file is above 65536 bytes\nthe file has 65537 bytes");
+    has("1 at offset 0: the file is above 65536 bytes\nthe file has 65537 bytes or more");
     has("function record 64 at offset");
     has(": a block has at most 64 functions, numbered from 0");
     has("opening cell record 1024 at offset");

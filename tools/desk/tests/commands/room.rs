@@ -1,11 +1,15 @@
 //! A directory of its own for each test, and the program run in it.
 
 use std::ffi::OsStr;
-use std::fs;
+use std::fs::{self, DirEntry};
 use std::io::Write;
+use std::os::unix::fs::symlink;
 use std::path::PathBuf;
 use std::process::{Command, Stdio};
 use std::sync::atomic::{AtomicUsize, Ordering};
+
+/// The program.
+const DESK: &str = env!("CARGO_BIN_EXE_desk");
 
 static ROOMS: AtomicUsize = AtomicUsize::new(0);
 
@@ -41,6 +45,27 @@ impl Room {
         self
     }
 
+    /// The room with a link to a file.
+    pub fn pointed(self, name: &str, link: &str) -> Room {
+        symlink(name, self.0.join(link)).expect("a link can be made");
+        self
+    }
+
+    /// The path of a file.
+    pub fn path(&self, name: &str) -> PathBuf {
+        self.0.join(name)
+    }
+
+    /// The names of all files, in order.
+    pub fn names(&self) -> Vec<String> {
+        let entries = fs::read_dir(&self.0).expect("the directory can be listed");
+        let name = |entry: DirEntry| entry.file_name().to_string_lossy().into_owned();
+        let names = entries.map(|entry| name(entry.expect("an entry can be read")));
+        let mut names: Vec<String> = names.collect();
+        names.sort();
+        names
+    }
+
     /// The bytes of a file, if it is there.
     pub fn file(&self, name: &str) -> Option<Vec<u8>> {
         fs::read(self.0.join(name)).ok()
@@ -51,10 +76,20 @@ impl Room {
         self.desk_reading(arguments, b"")
     }
 
+    /// Runs `desk` in the room where no file can grow beyond a kilobyte.
+    pub fn desk_without_room<A: AsRef<OsStr>>(&self, arguments: &[A]) -> Answer {
+        let mut shell = Command::new("bash");
+        shell.args(["-c", "trap '' XFSZ; ulimit -f 1; exec \"$0\" \"$@\""]);
+        self.run(shell.arg(DESK).args(arguments), b"")
+    }
+
     /// Runs `desk` in the room with bytes on standard input.
     pub fn desk_reading<A: AsRef<OsStr>>(&self, arguments: &[A], input: &[u8]) -> Answer {
-        let mut child = Command::new(env!("CARGO_BIN_EXE_desk"))
-            .args(arguments)
+        self.run(Command::new(DESK).args(arguments), input)
+    }
+
+    fn run(&self, command: &mut Command, input: &[u8]) -> Answer {
+        let mut child = command
             .current_dir(&self.0)
             .stdin(Stdio::piped())
             .stdout(Stdio::piped())

@@ -36,6 +36,14 @@ fn the_program_lists_its_commands() {
 }
 
 #[test]
+fn the_program_tells_its_version() {
+    let room = Room::new();
+    let version = room.desk(&["--version"]).printed();
+    assert_eq!(version, format!("desk {}\n", env!("CARGO_PKG_VERSION")));
+    assert_eq!(room.desk(&["-V"]).printed(), version);
+}
+
+#[test]
 fn each_command_has_its_help() {
     let room = Room::new();
     for (name, files) in COMMANDS {
@@ -60,8 +68,12 @@ fn wrong_commands() {
     wrong(&[], "desk: a command is missing; see desk --help");
     wrong(&["list"], "desk: there is no command list; see desk --help");
     wrong(
-        &["--version"],
-        "desk: there is no command --version; see desk --help",
+        &["--verbose"],
+        "desk: there is no command --verbose; see desk --help",
+    );
+    wrong(
+        &["--version", "next"],
+        "desk: next is one word too many; see desk --help",
     );
     wrong(
         &["help", "list"],

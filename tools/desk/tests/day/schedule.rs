@@ -112,6 +112,36 @@ fn very_many_refused_lines_stay_small() {
     assert!(picture.len() < 100_000);
 }
 
+/// The texts of the axis, from left to right, each with its middle in pixels.
+fn axis(picture: &str) -> Vec<(f64, &str)> {
+    let lines = picture.lines();
+    let numbers = lines.filter_map(|line| line.trim().strip_prefix("<text class=\"quiet middle\""));
+    let numbers = numbers.map(|rest| {
+        let (_, rest) = rest.split_once("x=\"").expect("a text has a place");
+        let (x, rest) = rest.split_once('"').expect("its end");
+        let (_, rest) = rest.split_once('>').expect("the element's end");
+        let (number, _) = rest.split_once('<').expect("the text's end");
+        (x.parse().expect("a number of pixels"), number)
+    });
+    numbers.collect()
+}
+
+#[test]
+fn numbers_of_lines_stand_apart() {
+    for lines in [1, 90, 9_999, 99_999, 999_999, 2_400_000] {
+        let picture = svg(&of_example("p"), &b"\n".repeat(lines)).expect("P is good");
+        let axis = axis(&picture);
+        assert!(axis.len() > 7 || axis.len() == lines, "{lines}: {axis:?}");
+        // A digit is seven pixels wide.
+        let half = |number: &str| 3.5 * number.len() as f64;
+        let apart =
+            |one: &(f64, &str), next: &(f64, &str)| next.0 - one.0 - half(one.1) - half(next.1);
+        for pair in axis.windows(2) {
+            assert!(apart(&pair[0], &pair[1]) >= 4.0, "{lines}: {pair:?}");
+        }
+    }
+}
+
 #[test]
 fn every_generated_run_has_a_picture_or_a_reason() {
     let cases = small_cases(4, 200).into_iter().chain(large_cases(9, 9));

@@ -25,6 +25,14 @@ const CUT_LINE: &str = "b 1 1\n";
 /// digit, a space and a carriage return stand behind it.
 const CUT_MALFORMED: [(&str, usize); 3] = [("b 1 000001\n", 7), ("s 0 \n", 3), ("s 0\r\n", 3)];
 
+/// The places of a digit in a line, each marked.
+const DIGIT_PLACES: [&[u8]; 5] = [b"s ?\n", b"c ?\n", b"s 0?\n", b"b ? 9\n", b"b 9 ?\n"];
+/// Keys of a call that opening cells fill up to 1,024, or past it.
+const FURTHER_KEYS: usize = 20;
+/// Opening cells with which they are 1,024, and with which they pass it by a key
+/// behind the 1,024th.
+const FILLING_CELLS: [usize; 2] = [1_004, 1_010];
+
 /// All edges.
 pub fn cases() -> Vec<Titled> {
     [
@@ -36,6 +44,7 @@ pub fn cases() -> Vec<Titled> {
         ends_at_cuts(),
         long_lines(),
         many_lines(),
+        keys(),
         blocks(),
     ]
     .concat()
@@ -144,6 +153,15 @@ fn other_bytes() -> Vec<Titled> {
         .filter(|byte| *byte != b'\n')
         .flat_map(|byte| [b's', byte, b'0', b'\n'])
         .collect();
+    let digits: Vec<u8> = (0..=u8::MAX)
+        .filter(|byte| *byte != b'\n')
+        .flat_map(|byte| {
+            DIGIT_PLACES
+                .concat()
+                .into_iter()
+                .map(move |at| if at == b'?' { byte } else { at })
+        })
+        .collect();
     vec![
         on_p("returns: a carriage return before each line feed", returns),
         on_p(
@@ -152,6 +170,7 @@ fn other_bytes() -> Vec<Titled> {
         ),
         on_p("malformed: lines in no form, then P's moves", malformed),
         on_p("bytes: each byte in place of the space", all_bytes),
+        on_p("bytes_digit: each byte in place of a digit", digits),
     ]
 }
 
@@ -260,6 +279,28 @@ fn blocks() -> Vec<Titled> {
             moves: Vec::new(),
         },
     ]
+}
+
+/// The limit of 1,024 keys, met and passed inside one call.
+fn keys() -> Vec<Titled> {
+    let code: String = (0..FURTHER_KEYS)
+        .map(|field| format!("put r0 {} zero zero\n", field + 2))
+        .collect();
+    let case = |cells: usize| {
+        let lines: String = (0..cells)
+            .map(|a| format!("cell 32768 1 {a} 0 1\n"))
+            .collect();
+        let text = format!("function 32768 0\n{code}{lines}call 5 32768 0 0\nend\n");
+        Titled {
+            title: format!(
+                "keys_{}: {cells} cells and a call of {FURTHER_KEYS} further keys",
+                cells + FURTHER_KEYS
+            ),
+            block: assemble(&text).expect("the text is a block's"),
+            moves: Vec::new(),
+        }
+    };
+    FILLING_CELLS.map(case).to_vec()
 }
 
 /// Moves of exactly so many bytes, all accepted on block P at its opening, that

@@ -6,7 +6,7 @@ use std::path::{Path, PathBuf};
 use std::process::Command;
 use std::sync::OnceLock;
 
-use runner::console::lines;
+use runner::console::{lines, register};
 use runner::limits::MAX_WORKERS;
 use runner::machine::open;
 use runner::vectors::edges::cases;
@@ -143,7 +143,8 @@ fn edges_print_their_answers() {
         assert_eq!(edge(name).registered(), expected, "{name}");
     }
     let printed = String::from_utf8(examples().output).unwrap();
-    let first = "\n# no_input: no input on block P\nn 3 1 3 4\nw 0\nw 1 0\nw 2 1\nr 0 27\n# one_line_feed";
+    let first =
+        "\n# no_input: no input on block P\nn 3 1 3 4\nw 0\nw 1 0\nw 2 1\nr 0 27\n# one_line_feed";
     assert!(printed.contains(first));
     assert!(printed.ends_with("nothing is printed\nn 0 0 0 0\n"));
 }
@@ -216,7 +217,7 @@ fn the_full_folder_ends_with_its_last_line() {
     assert!(open(block, MAX_WORKERS).is_ok());
     assert!(lines(&full.input).any(|line| line.len() == 100_000));
     assert_ne!(full.input.last(), Some(&b'\n'));
-    let printed = full.output();
+    let printed = String::from_utf8(full.output()).expect("REGISTER prints text");
     for number in [0, 21, 22, 23, 24, 25, 26] {
         let end = format!(" {number}");
         let refused = |line: &str| line.starts_with('r') && line.ends_with(&end);
@@ -228,7 +229,7 @@ fn the_full_folder_ends_with_its_last_line() {
     );
     let feed = full.input.iter().rposition(|byte| *byte == b'\n').unwrap();
     let input = full.input[..=feed].to_vec();
-    assert!(Folder { input, ..full }.output().ends_with("\nr 0 27\n"));
+    assert!(Folder { input, ..full }.output().ends_with(b"\nr 0 27\n"));
 }
 
 #[test]
@@ -237,10 +238,46 @@ fn the_other_folders_print_one_line() {
     let block = long.block.as_deref().unwrap();
     assert_eq!(block.len(), 65_537);
     assert!(open(&block[..65_536], MAX_WORKERS).is_ok());
-    assert_eq!(long.output(), "e 1 0\n");
-    assert_eq!(folder("test_edge_none").output(), "e 2 0\n");
-    assert_eq!(folder("test_edge_silent").output(), "r 0 27\n");
+    assert_eq!(long.output(), b"e 1 0\n");
+    assert_eq!(folder("test_edge_none").output(), b"e 2 0\n");
+    assert_eq!(folder("test_edge_silent").output(), b"r 0 27\n");
     assert!(folder("test_edge_silent").input.is_empty());
+}
+
+#[test]
+fn the_folders_of_sheets_have_refused_lines() {
+    let (sheet, unfinished) = (folder("write_sheet"), folder("test_edge_unfinished"));
+    let block = sheet.block.as_deref().unwrap();
+    let refused = "r 1 25\nr 2 26\nr 3 0\nr 5 23\nr 6 24\nr 9 0\nr 13 21\nr 18 22\n";
+    assert_eq!(
+        register(block, &sheet.input),
+        format!("{refused}r 24 26\nr 25 0\n{P}")
+    );
+    assert_eq!(sheet.output().len(), 100);
+    assert_eq!(
+        register(block, &unfinished.input),
+        format!("{refused}r 23 26\nr 24 0\nr 0 27\n")
+    );
+    assert!(unfinished.output().is_empty());
+}
+
+#[test]
+fn a_byte_beside_the_digits_is_no_digit() {
+    let printed = edge("bytes_digit").registered();
+    let numbers: Vec<&str> = printed
+        .lines()
+        .map(|line| line.rsplit(' ').next().unwrap())
+        .collect();
+    // Five lines for each byte, and none for the line feed.
+    let of = |byte: u8| numbers[5 * (usize::from(byte) - 1)];
+    assert_eq!([b'/', b':'].map(of), ["0", "0"]);
+    assert_eq!([b'0', b'7', b'8', b'9'].map(of), ["26", "26", "21", "21"]);
+}
+
+#[test]
+fn the_keys_of_a_call_may_fill_the_table_and_not_pass_it() {
+    assert_eq!(edge("keys_1024").registered(), "r 0 27\n");
+    assert_eq!(edge("keys_1030").registered(), "e 12 24408\n");
 }
 
 #[test]
@@ -251,7 +288,7 @@ fn folders_are_written_with_their_files() {
         let home = directory.join(folder.name);
         assert_eq!(fs::read(home.join("data/block.bin")).ok(), folder.block);
         assert_eq!(fs::read(home.join("stdin")).unwrap(), folder.input);
-        let printed = fs::read_to_string(home.join("stdout")).unwrap();
+        let printed = fs::read(home.join("stdout")).unwrap();
         assert_eq!(printed, folder.output());
     }
     assert!(!directory.join("test_edge_none/data").exists());
