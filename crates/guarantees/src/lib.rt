@@ -1,1 +1,1 @@
-// The demands as statements with their proofs, and the worked examples: no code.
+// The demands, and what follows from them, as statements with their proofs: no code.
