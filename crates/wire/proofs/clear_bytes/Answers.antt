@@ -1,0 +1,27 @@
+-- `wire::clear_bytes` meets its contract: each turn clears one element more, and the loop ends behind the last.
+use Prim.Native.Nat.{◌-◌}
+use native.Mathlib.Omega.{arith}
+use lib.ListN.{length, length-set}
+use Rattle.wire.proofs.Laws.{ClearedBelow, cleared_none, cleared_length, cleared_more, cleared_all}
+use Rattle.wire.proofs.clear_bytes.Goals as goal
+
+pub loop-i-init : goal.loop-i-init
+loop-i-init c = cleared_none 0 c.args.bytes.now
+
+pub bounds-bytes-i : goal.bounds-bytes-i
+bounds-bytes-i c = omega arith
+
+pub overflow_add-i : goal.overflow_add-i
+overflow_add-i c = omega (arith, cleared_length _ _ _ _ c.loop-i.invariant)
+
+pub loop-i-smaller : goal.loop-i-smaller
+loop-i-smaller c = simp length-set (omega arith)
+
+pub loop-i-preserved : goal.loop-i-preserved
+loop-i-preserved c = cleared_more _ _ _ _ c.loop-i.invariant (omega arith)
+
+pub shape_of-bytes : goal.shape_of-bytes
+shape_of-bytes c = cleared_length _ _ _ _ c.loop-i.invariant
+
+pub returns : goal.returns
+returns c = cleared_all _ _ _ _ c.loop-i.invariant (omega arith)
