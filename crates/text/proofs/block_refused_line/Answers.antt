@@ -1,0 +1,15 @@
+-- `text::block_refused_line` meets its contract: the two numbers, and the end of the line behind them.
+use borrow.Author.Rules.{rules}
+use Rattle.text.proofs.WrittenLaws.{written_end}
+use Rattle.text.proofs.Laws.{spaced_length}
+use mathlib.Core.List.{[], ◌∷◌}
+use native.Mathlib.Omega.{arith}
+use Rattle.text.proofs.block_refused_line.Goals as goal
+
+pub put_end-requires : goal.put_end-requires
+put_end-requires c =
+    omega (arith, c.ranges.from.fits, c.put_two-at.ensures.end, spaced_length (c.args.number ∷ c.args.offset ∷ []))
+
+pub returns : goal.returns
+returns c =
+    written_end _ _ _ _ _ _ _ _ c.put_two-at.ensures (c.put_end.ensures.text, c.put_end.ensures.end)

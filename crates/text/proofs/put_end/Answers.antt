@@ -1,0 +1,7 @@
+-- `text::put_end` meets its contract: the line feed is stored, and the line ends behind it.
+use borrow.Author.Rules.{rules}
+use Rattle.text.proofs.Laws.{put_last}
+use Rattle.text.proofs.put_end.Goals as goal
+
+pub returns : goal.returns
+returns c = record { text = (put_last _ _ _ _ c.put_byte.ensures).0; end = (put_last _ _ _ _ c.put_byte.ensures).1 }
