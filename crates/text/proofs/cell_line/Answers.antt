@@ -18,4 +18,4 @@ put_end-requires c =
 
 pub returns : goal.returns
 returns c =
-    written_end _ _ _ _ _ _ _ (_ ∷ _ ∷ _ ∷ _ ∷ _ ∷ []) (written_part _ _ _ _ _ _ _ (_ ∷ _ ∷ _ ∷ _ ∷ []) c.put_four-four.ensures _ (rw (read_back c.ranges.value) at (c.put_value_part-at.ensures.text, c.put_value_part-at.ensures.end))) (c.put_end.ensures.text, c.put_end.ensures.end)
+    written_end _ _ _ _ _ _ _ (_ ∷ _ ∷ _ ∷ _ ∷ _ ∷ []) (written_part _ _ _ _ _ _ _ (_ ∷ _ ∷ _ ∷ _ ∷ []) c.put_four-four.ensures _ (rw (read_back c.ranges.value) at c.put_value_part-at.ensures.text, rw (read_back c.ranges.value) at c.put_value_part-at.ensures.end)) (c.put_end.ensures.text, c.put_end.ensures.end)

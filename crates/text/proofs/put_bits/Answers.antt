@@ -1,10 +1,10 @@
 -- `text::put_bits` meets its contract: what is written and what is left make up the whole text at every turn.
-use mathlib.Core.Logic.{⊎_elim}
 use mathlib.Core.Path.{sym, ◌∙◌}
 use native.Mathlib.Omega.{arith}
 use Prim.Native.Nat.{◌-◌}
 use borrow.Author.Rules.{rules}
 use Rattle.text.proofs.Bits.{WritingBits, bits_start, going_set, going_clear, bits_end}
+use Rattle.text.proofs.put_bits.Goals.{then-row_test, else-row_test}
 use Rattle.text.proofs.put_bits.Goals as goal
 
 pub loop-call-init : goal.loop-call-init
@@ -20,10 +20,10 @@ pub loop-call-preserved : goal.loop-call-preserved
 loop-call-preserved c =
     let inv = c.loop-call.invariant in
     let asked = c.row_test.ensures in
-    ⊎_elim
-    (λ w. rw (w.5, w.6) (going_set c.args.row _ _ _ _ _ inv _ _ c.loop-call-test.true (sym asked ∙ w.0.taken) w.2.ensures))
-    (λ w. rw (w.1, w.2) (going_clear c.args.row _ _ _ _ _ inv c.loop-call-test.true (sym asked ∙ w.0.left)))
-    c.if-row_test.branch
+    elim c.if-row_test.branch [
+      then-row_test w ↦ ? w
+    | else-row_test w ↦ ? w
+    ]
 
 pub returns : goal.returns
 returns c = record { text = (bits_end _ _ _ _ _ _ c.loop-call.invariant c.loop-call-test.false).0; end = (bits_end _ _ _ _ _ _ c.loop-call.invariant c.loop-call-test.false).1 }
