@@ -18,7 +18,7 @@ use machine::{Action, Next};
 const FIRST_PLACE: usize = 1;
 
 // What eight bytes of code hold, and what the call does there.
-#[derive(Drop)]
+#[derive(Clone, Copy)]
 pub struct Acted {
     pub decoded: Decoded,
     pub action: Action,

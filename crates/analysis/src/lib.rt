@@ -20,7 +20,7 @@ use reader::Layout;
 
 // The distinct keys of a call, of which the first `count` stand, each with its flags: 1 if it is read, plus 2 if it is written. Where
 // there are more than the limit, `over` stands and all else is zero.
-#[derive(Drop)]
+#[derive(Clone, Copy)]
 pub struct Sets {
     pub over: bool,
     pub count: usize,
@@ -30,7 +30,7 @@ pub struct Sets {
 }
 
 // What stands beside the columns of a set while it grows: whether there were more keys than the limit, and how many stand.
-#[derive(Drop)]
+#[derive(Clone, Copy)]
 pub struct Standing {
     pub over: bool,
     pub count: usize,
@@ -38,14 +38,14 @@ pub struct Standing {
 
 // The code of the function that a call names: where it starts in the block, and how many instructions it has plus 1; both 0 for an
 // unknown function.
-#[derive(Drop)]
+#[derive(Clone, Copy)]
 pub struct Code {
     pub start: u64,
     pub length: u64,
 }
 
 // What the analysis answers of a block: its verdict, and the number of keys in the table, 0 if it is refused.
-#[derive(Drop)]
+#[derive(Clone, Copy)]
 pub struct Collected {
     pub verdict: Verdict,
     pub cells: usize,
@@ -53,7 +53,7 @@ pub struct Collected {
 
 // What a block is prepared to: its verdict, the numbers of its calls and of its cells, and the offset of its first call record, all 0 if
 // it is refused.
-#[derive(Drop)]
+#[derive(Clone, Copy)]
 pub struct Prepared {
     pub verdict: Verdict,
     pub calls: usize,

@@ -24,7 +24,7 @@ const MAX32: u64 = 4294967295;
 const SMALL: u64 = 2147483648;
 
 // What an exact operation gives: the result, or why 64 signed bits hold none.
-#[derive(Drop)]
+#[derive(Clone, Copy)]
 pub enum Checked {
     Value(i64),
     Overflow,

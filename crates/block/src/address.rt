@@ -6,15 +6,15 @@ ghost use Rattle.block.specs.Key.{address_of, address_number};
 pub const FIRST_CONTRACT: u16 = 32768;
 
 // An account address, 0 to 32767.
-#[derive(Drop)]
+#[derive(Clone, Copy)]
 pub struct Account(u16);
 
 // A contract address, 32768 to 65535.
-#[derive(Drop)]
+#[derive(Clone, Copy)]
 pub struct Contract(u16);
 
 // What 16 bits name: the one or the other, never both.
-#[derive(Drop)]
+#[derive(Clone, Copy)]
 pub enum Address {
     OfAccount(Account),
     OfContract(Contract),

@@ -7,14 +7,14 @@ pub mod outcomes;
 pub use address::{Account, Address, Contract};
 
 // Whom PAY pays.
-#[derive(Drop)]
+#[derive(Clone, Copy)]
 pub enum Payee {
     To(Account),
     Nobody,
 }
 
 // Where an instruction takes a part of a key, or a target, from.
-#[derive(Drop)]
+#[derive(Clone, Copy)]
 pub enum Source {
     Zero,
     Argument(u8),
@@ -23,7 +23,7 @@ pub enum Source {
 }
 
 // An instruction; x, y and z are registers.
-#[derive(Drop)]
+#[derive(Clone, Copy)]
 pub enum Instr {
     Stop,
     Throw,
@@ -93,14 +93,14 @@ pub enum Instr {
 }
 
 // What eight bytes of code hold.
-#[derive(Drop)]
+#[derive(Clone, Copy)]
 pub enum Decoded {
     Valid(Instr),
     Invalid,
 }
 
 // A call record.
-#[derive(Drop)]
+#[derive(Clone, Copy)]
 pub struct Call {
     pub sender: Account,
     pub contract: Contract,
@@ -114,14 +114,14 @@ pub struct Call {
 }
 
 // What the body of a call record holds.
-#[derive(Drop)]
+#[derive(Clone, Copy)]
 pub enum CallBody {
     InRange(Call),
     OutOfRange,
 }
 
 // Why an input is refused, with the offset of the place in the file. specs/Refusal.antt has document 01's numbers.
-#[derive(Drop)]
+#[derive(Clone, Copy)]
 pub enum Refusal {
     InputTooLong,
     Missing(usize),
@@ -140,7 +140,7 @@ pub enum Refusal {
 }
 
 // What an input is answered.
-#[derive(Drop)]
+#[derive(Clone, Copy)]
 pub enum Verdict {
     Accepted,
     Refused(Refusal),

@@ -14,7 +14,7 @@ use tests::{all_finished_lem, cells_found, states_allowed};
 use write::write_sheet;
 
 // What a look at the cells finds: a balance below zero, or how many of them have a record.
-#[derive(Drop)]
+#[derive(Clone, Copy)]
 enum Found {
     BelowZero,
     Records(usize),

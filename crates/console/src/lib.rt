@@ -1,7 +1,7 @@
 // Move lines in, text lines out: REGISTER as functions on bytes.
 
 // Which move a line's letter names.
-#[derive(Drop)]
+#[derive(Clone, Copy)]
 pub enum Letter {
     B,
     S,
@@ -10,7 +10,7 @@ pub enum Letter {
 
 // How far a line has been read: nothing yet; its letter; the space behind it; a number, with its digits so far; of `b` also
 // the space behind the first number and the second; or a line in no such form.
-#[derive(Drop)]
+#[derive(Clone, Copy)]
 pub enum Line {
     Empty,
     Named(Letter),

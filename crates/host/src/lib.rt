@@ -9,7 +9,7 @@ use libc::{STDERR_FILENO, STDIN_FILENO, STDOUT_FILENO};
 
 // How the exchange stands: whether no read and no write failed, how many bytes came from standard input, and how many were handed to
 // standard output.
-#[derive(Drop)]
+#[derive(Clone, Copy)]
 pub struct Exchange {
     pub ok: bool,
     pub received: u64,
@@ -17,7 +17,7 @@ pub struct Exchange {
 }
 
 // How a file was read: whether it could be, how many bytes, and whether its end was met.
-#[derive(Drop)]
+#[derive(Clone, Copy)]
 pub struct FileRead {
     pub ok: bool,
     pub length: usize,
@@ -25,14 +25,14 @@ pub struct FileRead {
 }
 
 // A part of a stream: whether there was one, and its length.
-#[derive(Drop)]
+#[derive(Clone, Copy)]
 pub struct Part {
     pub found: bool,
     pub length: usize,
 }
 
 // A part that was read: whether there was one that the buffer takes, the length that was told, and how many bytes of it came.
-#[derive(Drop)]
+#[derive(Clone, Copy)]
 pub struct PartRead {
     pub found: bool,
     pub told: usize,
@@ -131,7 +131,7 @@ fn clear_from(file: &mut [u8], from: usize)
 }
 
 // What one read gave.
-#[derive(Drop)]
+#[derive(Clone, Copy)]
 struct Got {
     ok: bool,
     count: usize,

@@ -10,7 +10,7 @@ use listing::MAX_LISTING;
 use machine::layout::{CELLS_SIZE, FRAMES_SIZE, KEYS_SIZE, PLAN_SIZE, SEATS_SIZE, STATUS_SIZE};
 
 // block.bin, listed: whether it could be read and its end was met, and how the exchange stands.
-#[derive(Drop)]
+#[derive(Clone, Copy)]
 pub struct Inspected {
     pub file_ok: bool,
     pub file_ended: bool,

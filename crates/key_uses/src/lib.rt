@@ -9,7 +9,7 @@ use block::{Address, Call, Instr, Payee, Source};
 use decoder::record::{argument, high_of, payee_of};
 
 // A key in two words, and how it is used.
-#[derive(Drop)]
+#[derive(Clone, Copy)]
 pub struct KeyUse {
     pub high: u64,
     pub low: u64,
@@ -18,7 +18,7 @@ pub struct KeyUse {
 }
 
 // At most two uses, of which the first `count` stand.
-#[derive(Drop)]
+#[derive(Clone, Copy)]
 pub struct Uses {
     pub count: usize,
     pub first: KeyUse,

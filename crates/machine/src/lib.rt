@@ -7,7 +7,7 @@ use layout::REGISTERS;
 
 // The part of a run that every move asks: the numbers of workers, calls and cells, the offset of the first call record, and the call that
 // each worker holds, as its number plus 1, or 0 for none.
-#[derive(Drop)]
+#[derive(Clone, Copy)]
 pub struct Head {
     pub workers: usize,
     pub calls: usize,
@@ -17,7 +17,7 @@ pub struct Head {
 }
 
 // What a move, or the closing sheet, answers. specs/Answer.antt has document 01's numbers.
-#[derive(Drop)]
+#[derive(Clone, Copy)]
 pub enum Answer {
     Accepted,
     Damaged,
@@ -34,7 +34,7 @@ pub enum Answer {
 // What a place of a call does next, before any cell is looked at: it goes on at a place, ends with an outcome, loads its
 // cell into a register, stores a value in its cell, or moves an amount from its first cell to its second, ending with the
 // outcome `short` where the first holds less.
-#[derive(Drop)]
+#[derive(Clone, Copy)]
 pub enum Next {
     Go(usize),
     End(u64),
@@ -44,14 +44,14 @@ pub enum Next {
 }
 
 // That, with the registers it leaves.
-#[derive(Drop)]
+#[derive(Clone, Copy)]
 pub struct Action {
     pub next: Next,
     pub regs: [i64; REGISTERS],
 }
 
 // Where a call keeps a cell: its number, or nowhere with the flags that are wanted.
-#[derive(Drop)]
+#[derive(Clone, Copy)]
 pub enum Lookup {
     Cell(usize),
     NoCell,

@@ -15,35 +15,35 @@ use machine::layout::REGISTERS;
 use machine::{Action, Answer, Head};
 
 // What a move answers, and the head behind it.
-#[derive(Drop)]
+#[derive(Clone, Copy)]
 pub struct Reply {
     pub head: Head,
     pub answer: Answer,
 }
 
 // What a move behind its tests leaves of the head, the call that its worker holds, and what it answers.
-#[derive(Drop)]
+#[derive(Clone, Copy)]
 pub struct Seated {
     pub held: u16,
     pub answer: Answer,
 }
 
 // What tests of a move find: it goes on, or is refused.
-#[derive(Drop)]
+#[derive(Clone, Copy)]
 pub enum Tested {
     Passed,
     Refused(Answer),
 }
 
 // What STEP and CANCEL test first: an answer at once, or the number of the call that the worker holds.
-#[derive(Drop)]
+#[derive(Clone, Copy)]
 pub enum Holding {
     Answered(Answer),
     Holds(usize),
 }
 
 // Where a step works: the call that runs, its place, and its count.
-#[derive(Drop)]
+#[derive(Clone, Copy)]
 pub struct Site {
     pub call: usize,
     pub place: usize,
@@ -51,7 +51,7 @@ pub struct Site {
 }
 
 // How a place of a call ends: the lent run is damaged, the call goes on at a place, or it ends with an outcome.
-#[derive(Drop)]
+#[derive(Clone, Copy)]
 pub enum Fate {
     Broken,
     Going(usize),
@@ -59,7 +59,7 @@ pub enum Fate {
 }
 
 // That, with the count of executed instructions and the registers; they are zero where the fate needs none.
-#[derive(Drop)]
+#[derive(Clone, Copy)]
 pub struct Turn {
     pub fate: Fate,
     pub count: u64,
@@ -68,7 +68,7 @@ pub struct Turn {
 
 // What is due at a place of a call: an action with the keys that it uses, and the count with this place's own instruction. Where it is not
 // sound, the lent block or run is damaged there, and nothing is due.
-#[derive(Drop)]
+#[derive(Clone, Copy)]
 pub struct Due {
     pub sound: bool,
     pub count: u64,

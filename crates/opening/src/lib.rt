@@ -16,7 +16,7 @@ use machine::layout::{STATUS_WORDS, WAIT_WORD, large_enough};
 use wire::ROW_WORDS;
 
 // What a block is opened to: its verdict, and the head of its run, all zero if it is refused.
-#[derive(Drop)]
+#[derive(Clone, Copy)]
 pub struct Opened {
     pub verdict: Verdict,
     pub head: Head,

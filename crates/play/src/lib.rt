@@ -9,14 +9,14 @@ use machine::Head;
 use schedule::Move;
 
 // What a whole line names: a move, or, in no such form, none.
-#[derive(Drop)]
+#[derive(Clone, Copy)]
 pub enum LineMove {
     Move(Move),
     NoMove,
 }
 
 // Where the reading of the input stands: the number of the line from 1, what is read of it, and the head of the run.
-#[derive(Drop)]
+#[derive(Clone, Copy)]
 pub struct Session {
     pub number: u64,
     pub line: Line,
@@ -24,14 +24,14 @@ pub struct Session {
 }
 
 // What a piece of the input leaves: the session behind it, and the length of the answers' text.
-#[derive(Drop)]
+#[derive(Clone, Copy)]
 pub struct Played {
     pub session: Session,
     pub length: usize,
 }
 
 // What a whole line leaves: the number of the next, the head of the run, and the position behind the answer's text.
-#[derive(Drop)]
+#[derive(Clone, Copy)]
 pub struct Told {
     pub number: u64,
     pub head: Head,
@@ -39,7 +39,7 @@ pub struct Told {
 }
 
 // The records of a sheet, read up to a position: the number of the next receipt, how many turns are left, and where the text ends.
-#[derive(Drop)]
+#[derive(Clone, Copy)]
 pub struct Reading {
     pub at: usize,
     pub call: u64,

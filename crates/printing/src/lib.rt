@@ -22,7 +22,7 @@ use play::records::{MAX_CLOSE_TEXT, sheet_text};
 use sheet::{Closing, MAX_SHEET};
 
 // What a run prints: text lines, or the bytes of its sheet.
-#[derive(Drop)]
+#[derive(Clone, Copy)]
 pub enum Output {
     Text,
     Sheet,

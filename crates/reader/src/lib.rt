@@ -15,7 +15,7 @@ use block::{Refusal, Verdict};
 
 // What the reader leaves of a file: the counts, the offsets at which its opening cells and its calls begin, and of each function its
 // id, contract * 65536 + number, and where its code starts and how many instructions it has. All zero if the file is refused.
-#[derive(Drop)]
+#[derive(Clone, Copy)]
 pub struct Layout {
     pub verdict: Verdict,
     pub functions: usize,
@@ -30,7 +30,7 @@ pub struct Layout {
 
 // How far the reader has come: behind a record of a kind, at a position, with the counts and offsets of the block so far; `least` is
 // the least function id that may come next, `high` * 2^32 + `low` the least key, and `sum` the sum of the balances.
-#[derive(Drop)]
+#[derive(Clone, Copy)]
 pub struct Progress {
     pub kind: usize,
     pub at: usize,
@@ -46,7 +46,7 @@ pub struct Progress {
 }
 
 // What a record leads to: the next record, behind a function with what the tables keep of it or behind another record, or the answer.
-#[derive(Drop)]
+#[derive(Clone, Copy)]
 pub enum Turn {
     More(Progress),
     Function {

@@ -31,14 +31,14 @@ const ANSWERS: usize = MAX_ANSWER * CHUNK;
 const MAX_INPUT: u32 = 4294967295;
 
 // A read of standard input: how the exchange stands behind it, and how many bytes came, 0 at the input's end.
-#[derive(Drop)]
+#[derive(Clone, Copy)]
 struct Got {
     exchange: Exchange,
     count: u16,
 }
 
 // A piece of the input, played, with its length.
-#[derive(Drop)]
+#[derive(Clone, Copy)]
 pub struct Piece {
     pub session: Session,
     pub exchange: Exchange,
@@ -46,7 +46,7 @@ pub struct Piece {
 }
 
 // The input, played: the session behind it, how the exchange stands, and whether the input's end was met.
-#[derive(Drop)]
+#[derive(Clone, Copy)]
 pub struct Input {
     pub session: Session,
     pub exchange: Exchange,
@@ -54,7 +54,7 @@ pub struct Input {
 }
 
 // A block, run: whether it was opened, whether the input's end was met, and how the exchange stands.
-#[derive(Drop)]
+#[derive(Clone, Copy)]
 pub struct Ran {
     pub opened: bool,
     pub ended: bool,
@@ -63,7 +63,7 @@ pub struct Ran {
 
 // REGISTER, done: whether block.bin could be read and its end was met, whether it was opened, whether the input's end was met, and how the
 // exchange stands.
-#[derive(Drop)]
+#[derive(Clone, Copy)]
 pub struct Registered {
     pub file_ok: bool,
     pub file_ended: bool,

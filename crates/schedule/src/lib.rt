@@ -1,5 +1,5 @@
 // One line of the list that a member plays: a worker begins a call, makes one step of its call, or cancels it.
-#[derive(Drop)]
+#[derive(Clone, Copy)]
 pub enum Move {
     Begin(usize, usize), // worker, call
     Step(usize),

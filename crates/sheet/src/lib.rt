@@ -9,7 +9,7 @@ pub const MAX_SHEET: usize = MAX_KEYS * (HEAD_BYTES + CELL_BYTES)
     + HEAD_BYTES;
 
 // What the closing sheet answers: the offset behind its last record, which is its length, or why it is refused.
-#[derive(Drop)]
+#[derive(Clone, Copy)]
 pub enum Closing {
     Written(usize),
     Refused(Answer),

@@ -14,7 +14,7 @@ const BLOCK: u64 = 1;
 const LENGTHS: u64 = 2;
 
 // The head, and the lengths up to which the block and the buffers are lent.
-#[derive(Drop)]
+#[derive(Clone, Copy)]
 pub struct Lent {
     pub head: Head,
     pub block: usize,
