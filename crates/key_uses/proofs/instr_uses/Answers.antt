@@ -25,4 +25,4 @@ returns-in-Pay c = simp c.in-Pay.is c.pay_uses.ensures
 pub returns-in_default : goal.returns-in_default
 returns-in_default c =
     let a = c.args in
-    c.no_uses.ensures ∙ sym (ap uses_of (others_none a.c a.i c.in-Get.keys5))
+    c.no_uses.ensures ∙ sym (ap uses_of (others_none a.c a.i c.in_default.in_default-own.keys5))
