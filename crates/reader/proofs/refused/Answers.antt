@@ -2,12 +2,8 @@
 use mathlib.Core.Path.{refl}
 use Rattle.wire.specs.Bytes.{repeated}
 use Rattle.reader.specs.Layout.{layout_of}
-use Rattle.reader.proofs.refused.Statement.{statement}
-use Rattle.reader.proofs.refused.Tie as tie
+use Rattle.reader.proofs.refused.Goals as goal
 
-returns : tie.Need-returns
+pub returns : goal.returns
 unfolding layout_of repeated
 returns c = refl
-
-pub refused-spec : {M : Type 1} → statement M
-refused-spec = tie.close (tie.spec returns)
