@@ -9,13 +9,11 @@ use lib.Signed.{lt_z, mag}
 use mir.Syntax.{w64}
 use mir.Val.{to_z, of_z}
 use mir.Facts.{to_z-of_z}
-use denote.Enum.Declared.{tag_of}
-use types.Run.{OneOf, miss}
 use Rattle.block.specs.Key.{key_of}
 use Rattle.block.specs.declared.Call.{Call}
+use Rattle.block.specs.declared.Source.{Source}
 use Rattle.block.specs.declared.Instr.{Instr}
 use Rattle.block.specs.declared.Instr.TheVariants.{Stop, Throw, Set, Arg, Sender, Value, Add, Sub, Mul, Div, Get, Put, Bal, Pay, Jeq, Jlt}
-use Rattle.block.specs.contracts.Instr
 use Rattle.footprint.specs.Access.{accesses}
 use Rattle.key_uses.specs.Uses.{use_of}
 use Rattle.key_uses.specs.declared.KeyUse.{KeyUse}
@@ -35,26 +33,23 @@ key_words_lem address field a b reads writes h =
 pub value_test : (z : ℤ) {b : Bool} → mag z < 2 ^ 63 → lt_z (pos 0) (to_z w64 (of_z w64 z)) ≡ b → lt_z (pos 0) z ≡ b
 value_test z h e = sym (ap (lt_z (pos 0)) (to_z-of_z {w = w64} {z = z} (record { sfits = h }))) ∙ e
 
--- The instructions other than GET, PUT, BAL and PAY, by their numbers.
-abbrev pub others : List ℕ
-others = 0 ∷ 1 ∷ 2 ∷ 3 ∷ 4 ∷ 5 ∷ 6 ∷ 7 ∷ 8 ∷ 9 ∷ 14 ∷ 15 ∷ []
-
--- They use no key.
-pub others_none : (c : Call) (i : Instr) → OneOf others (tag_of Instr.the_type i) → accesses c i ≡ []
+-- The instructions other than GET, PUT, BAL and PAY use no key.
+pub others_none : (c : Call) (i : Instr) → ((x field : ℕ) (a b : Source) → i ≡ Get x field a b → ⊥) → ((x field : ℕ) (a b : Source) → i ≡ Put x field a b → ⊥)
+    → ((x : ℕ) → i ≡ Bal x → ⊥) → ((x : ℕ) (target : Source) → i ≡ Pay x target → ⊥) → accesses c i ≡ []
 unfolding accesses
-others_none c Stop h = refl
-others_none c Throw h = refl
-others_none c (Set x value) h = refl
-others_none c (Arg x k) h = refl
-others_none c (Sender x) h = refl
-others_none c (Value x) h = refl
-others_none c (Add x y z) h = refl
-others_none c (Sub x y z) h = refl
-others_none c (Mul x y z) h = refl
-others_none c (Div x y z) h = refl
-others_none c (Get x field a b) h = absurd (miss others 10 tt h)
-others_none c (Put x field a b) h = absurd (miss others 11 tt h)
-others_none c (Bal x) h = absurd (miss others 12 tt h)
-others_none c (Pay x target) h = absurd (miss others 13 tt h)
-others_none c (Jeq x y to) h = refl
-others_none c (Jlt x y to) h = refl
+others_none c Stop gets puts bals pays = refl
+others_none c Throw gets puts bals pays = refl
+others_none c (Set x value) gets puts bals pays = refl
+others_none c (Arg x k) gets puts bals pays = refl
+others_none c (Sender x) gets puts bals pays = refl
+others_none c (Value x) gets puts bals pays = refl
+others_none c (Add x y z) gets puts bals pays = refl
+others_none c (Sub x y z) gets puts bals pays = refl
+others_none c (Mul x y z) gets puts bals pays = refl
+others_none c (Div x y z) gets puts bals pays = refl
+others_none c (Get x field a b) gets puts bals pays = absurd (gets x field a b refl)
+others_none c (Put x field a b) gets puts bals pays = absurd (puts x field a b refl)
+others_none c (Bal x) gets puts bals pays = absurd (bals x refl)
+others_none c (Pay x target) gets puts bals pays = absurd (pays x target refl)
+others_none c (Jeq x y to) gets puts bals pays = refl
+others_none c (Jlt x y to) gets puts bals pays = refl

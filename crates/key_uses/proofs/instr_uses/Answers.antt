@@ -25,4 +25,5 @@ returns-in-Pay c = simp c.in-Pay.is c.pay_uses.ensures
 pub returns-in_default : goal.returns-in_default
 returns-in_default c =
     let a = c.args in
-    c.no_uses.ensures ∙ sym (ap uses_of (others_none a.c a.i c.in_default.in_default-own.keys5))
+    let d = c.in_default in
+    c.no_uses.ensures ∙ sym (ap uses_of (others_none a.c a.i d.not-Get d.not-Put d.not-Bal d.not-Pay))

@@ -21,8 +21,8 @@ loop-call-preserved c =
     let inv = c.loop-call.invariant in
     let asked = c.row_test.ensures in
     elim c.if-row_test.branch [
-      then-row_test w ↦ ? w
-    | else-row_test w ↦ ? w
+      then-row_test w ↦ rw (w.out-is, w.end-is) (going_set c.args.row _ _ _ _ _ inv _ _ c.loop-call-test.true (sym asked ∙ w.if-row_test.true) (w.put_part-next.ensures.text, w.put_part-next.ensures.end))
+    | else-row_test w ↦ rw (w.out-is, w.end-is) (going_clear c.args.row _ _ _ _ _ inv c.loop-call-test.true (sym asked ∙ w.if-row_test.false))
     ]
 
 pub returns : goal.returns
