@@ -3,7 +3,7 @@
 -- ends" are the contracts, which have no `requires`.
 use Rattle.std.specs.Prelude.{◌≡◌, true, List, [], ◌∷◌, ◌⊎◌, ℕ, suc, ◌+◌, ◌-◌, ◌*◌, ◌%◌, ◌<◌, ◌≤◌, eqb, ℤ, pos, length, get_or, take}
 use Rattle.std.specs.Int.Signed.{non_neg}
-use Rattle.arith.specs.Choice.{if◌then◌else◌}
+use Rattle.std.specs.Prelude.{if◌then◌else◌}
 use Rattle.wire.specs.Bytes.{repeated}
 use Rattle.wire.specs.Rows.{in_row}
 use Rattle.schedule.specs.declared.Move.{Move}
