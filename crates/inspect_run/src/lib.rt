@@ -19,7 +19,12 @@ pub struct Inspected {
 }
 
 // The listing of a block, handed to standard output.
-pub fn print_listing(rt: &(impl Print + Eprint), x: Exchange, block: &[u8], transcript: &mut [u8]) -> Exchange
+pub fn print_listing(
+    rt: &(impl Print + Eprint),
+    x: Exchange,
+    block: &[u8],
+    transcript: &mut [u8],
+) -> Exchange
     ensures text { Handed transcript.old x (listing_of fixed_sizes block.now) transcript.new result }
     ensures received { result.received ≡ x.received }
 {

@@ -29,7 +29,13 @@ pub enum Output {
 }
 
 // A text of lines, printed, or, beside the sheet's bytes, told on standard error.
-pub fn say(rt: &(impl Print + Eprint), output: Output, x: Exchange, text: &[u8], transcript: &mut [u8]) -> Exchange
+pub fn say(
+    rt: &(impl Print + Eprint),
+    output: Output,
+    x: Exchange,
+    text: &[u8],
+    transcript: &mut [u8],
+) -> Exchange
     ensures text { Handed transcript.old x (printed_lines output text.now) transcript.new result }
     ensures received { result.received ≡ x.received }
 {
@@ -40,7 +46,12 @@ pub fn say(rt: &(impl Print + Eprint), output: Output, x: Exchange, text: &[u8],
 }
 
 // Prints the lines of a sheet.
-fn print_lines(rt: &(impl Print + Eprint), x: Exchange, bytes: &[u8], transcript: &mut [u8]) -> Exchange
+fn print_lines(
+    rt: &(impl Print + Eprint),
+    x: Exchange,
+    bytes: &[u8],
+    transcript: &mut [u8],
+) -> Exchange
     requires bytes_len_bound { length bytes.now < 65536 }
     requires bytes_len_bound_2 { length (sheet_text bytes.now) ≤ max_close_text }
     ensures text { Handed transcript.old x (sheet_text bytes.now) transcript.new result }
@@ -52,7 +63,13 @@ fn print_lines(rt: &(impl Print + Eprint), x: Exchange, bytes: &[u8], transcript
 }
 
 // Prints a sheet: its lines, or its bytes.
-fn print_sheet(rt: &(impl Print + Eprint), output: Output, x: Exchange, bytes: &[u8], transcript: &mut [u8]) -> Exchange
+fn print_sheet(
+    rt: &(impl Print + Eprint),
+    output: Output,
+    x: Exchange,
+    bytes: &[u8],
+    transcript: &mut [u8],
+) -> Exchange
     requires bytes_len_bound { length bytes.now < 65536 }
     requires bytes_len_bound_2 { length (sheet_text bytes.now) ≤ max_close_text }
     ensures text { Handed transcript.old x (printed_sheet output bytes.now) transcript.new result }
@@ -65,7 +82,13 @@ fn print_sheet(rt: &(impl Print + Eprint), output: Output, x: Exchange, bytes: &
 }
 
 // Says the line of a refused sheet.
-fn refuse_sheet(rt: &(impl Print + Eprint), output: Output, answer: Answer, x: Exchange, transcript: &mut [u8]) -> Exchange
+fn refuse_sheet(
+    rt: &(impl Print + Eprint),
+    output: Output,
+    answer: Answer,
+    x: Exchange,
+    transcript: &mut [u8],
+) -> Exchange
     ensures text { Handed transcript.old x (printed_lines output (refused_text 0 (answer_number answer))) transcript.new result }
     ensures received { result.received ≡ x.received }
 {
@@ -103,7 +126,13 @@ pub fn close(
 }
 
 // Says the line of a refused block.
-pub fn refuse_block(rt: &(impl Print + Eprint), output: Output, why: Refusal, x: Exchange, transcript: &mut [u8]) -> Exchange
+pub fn refuse_block(
+    rt: &(impl Print + Eprint),
+    output: Output,
+    why: Refusal,
+    x: Exchange,
+    transcript: &mut [u8],
+) -> Exchange
     ensures text { Handed transcript.old x (printed_lines output (block_refused_text (number_of why) (offset_of why))) transcript.new result }
     ensures received { result.received ≡ x.received }
 {

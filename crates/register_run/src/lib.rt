@@ -80,7 +80,7 @@ fn fail_input(rt: &impl Eprint, why: io::Error) {
 }
 
 // One read of standard input into the buffer's first bytes, `limit` at most.
-fn read_some(rt: &(impl Input + Eprint), x: Exchange, chunk: &mut [u8], limit: usize) -> Got
+fn read_some(rt: &(impl io::Input + Eprint), x: Exchange, chunk: &mut [u8], limit: usize) -> Got
     requires limit_in_bounds { limit ≤ length chunk.old }
     requires limit_bound { limit < 65536 }
     requires received_bound { x.received < 4294967296 }
@@ -116,7 +116,7 @@ fn read_some(rt: &(impl Input + Eprint), x: Exchange, chunk: &mut [u8], limit: u
 
 // Plays the next piece of the input, of at most `limit` bytes, and says the answers.
 fn play_some(
-    rt: &(impl Input + Print + Eprint),
+    rt: &(impl io::Input + Print + Eprint),
     output: Output,
     s: Session,
     block: &[u8],
@@ -174,7 +174,7 @@ fn piece_limit(left: u32) -> usize
 
 // Plays the input to its end, `limit` bytes at most, or until something fails.
 fn play_input(
-    rt: &(impl Input + Print + Eprint),
+    rt: &(impl io::Input + Print + Eprint),
     output: Output,
     head: Head,
     block: &[u8],
@@ -285,7 +285,7 @@ fn finish(
 
 // A block that is opened, run with at most `limit` bytes of input and closed.
 fn run_opened(
-    rt: &(impl Input + Print + Eprint),
+    rt: &(impl io::Input + Print + Eprint),
     output: Output,
     head: Head,
     block: &[u8],
@@ -337,7 +337,14 @@ fn run_opened(
 }
 
 // A block: its refusal, or its run with at most `limit` bytes of standard input.
-pub fn run(rt: &(impl Input + Print + Eprint), output: Output, block: &[u8], x: Exchange, limit: u32, transcript: &mut [u8]) -> Ran
+pub fn run(
+    rt: &(impl io::Input + Print + Eprint),
+    output: Output,
+    block: &[u8],
+    x: Exchange,
+    limit: u32,
+    transcript: &mut [u8],
+) -> Ran
     ensures { Runs output block.now x limit transcript.old result transcript.new }
 {
     let mut plan = [0u64; PLAN_SIZE];
@@ -392,7 +399,11 @@ pub fn run(rt: &(impl Input + Print + Eprint), output: Output, block: &[u8], x: 
 
 // Opens block.bin of the current folder for 8 workers, plays the move lines of standard input, and prints the closing sheet. A missing file is
 // read as empty; where a file cannot be read nothing is printed.
-fn run_file(rt: &(impl Files + Input + Print + Eprint), output: Output, transcript: &mut [u8]) -> Registered
+fn run_file(
+    rt: &(impl Files + io::Input + Print + Eprint),
+    output: Output,
+    transcript: &mut [u8],
+) -> Registered
     ensures { Registers output transcript.old result transcript.new }
 {
     let mut file = [0u8; FILE_BYTES];
@@ -415,14 +426,14 @@ fn run_file(rt: &(impl Files + Input + Print + Eprint), output: Output, transcri
 }
 
 // REGISTER: block.bin and standard input, and as text the answers of refused lines and the closing sheet.
-pub fn register(rt: &(impl Files + Input + Print + Eprint), transcript: &mut [u8]) -> Registered
+pub fn register(rt: &(impl Files + io::Input + Print + Eprint), transcript: &mut [u8]) -> Registered
     ensures { Registers Text transcript.old result transcript.new }
 {
     run_file(rt, Output::Text, transcript)
 }
 
 // The same file and input, and of them the bytes of the closing sheet; a refusal is told on standard error, and no byte is printed.
-pub fn write_sheet(rt: &(impl Files + Input + Print + Eprint), transcript: &mut [u8]) -> Registered
+pub fn write_sheet(rt: &(impl Files + io::Input + Print + Eprint), transcript: &mut [u8]) -> Registered
     ensures { Registers Sheet transcript.old result transcript.new }
 {
     run_file(rt, Output::Sheet, transcript)
