@@ -1,4 +1,6 @@
 // What a place of a call does, as a function of the call and the registers alone.
+#![tactic(auto)]
+
 mod instruction;
 
 ghost use Rattle.std.specs.Prelude.{◌≡◌, ◌+◌, ◌<◌, drop, set};

@@ -1,7 +1,7 @@
 -- What `prepare` and its parts answer, over plain values: the buffers that stay zero, the layout of a file that is read, and the block behind
 -- its analysis.
 use mathlib.Core.Path.{◌≡◌, refl, sym, ap, ap₂, ◌∙◌}
-use mathlib.Core.Bool.{Bool, true, false, ◌&&◌, not}
+use mathlib.Core.Bool.{Bool, true, false, ◌&&◌}
 use mathlib.Core.List.{List, [], map}
 use Prim.Native.Nat.{ℕ, ◌*◌, ◌≤◌}
 use native.Mathlib.Omega.{arith}
@@ -46,23 +46,14 @@ both : (a b : Bool) → (a && b) ≡ true → (a ≡ true) × (b ≡ true)
 both true b e = (refl, e)
 both false b e = let z : ◌≡◌ {A = ℕ} 0 1 = cc in absurd (omega arith)
 
--- A test that is written `!enough`.
-test_failed : (enough : Bool) → not enough ≡ true → enough ≡ false
-test_failed true e = sym e
-test_failed false e = refl
-
-test_passed : (enough : Bool) → not enough ≡ false → enough ≡ true
-test_passed true e = refl
-test_passed false e = sym e
-
 -- Buffers that have room and were cleared.
 pub room_blank : (n m k : ℕ) (plan keys : List ℕ) (values : List ℤ) (enough : Bool)
     → length plan ≡ n → length keys ≡ m → length values ≡ k
     → plan ≡ repeated n 0 → keys ≡ repeated m 0 → values ≡ repeated k (pos 0)
-    → enough ≡ room_enough (room_of (length plan) (length keys) (length values)) → not enough ≡ false → Blank plan keys values
+    → enough ≡ room_enough (room_of (length plan) (length keys) (length values)) → enough ≡ true → Blank plan keys values
 unfolding room_enough
 room_blank n m k plan keys values enough p q r e f g w t =
-    let all = both (leb (max_calls * plan_words) (length plan) && leb (max_keys * 2) (length keys)) (leb max_keys (length values)) (sym w ∙ test_passed enough t) in
+    let all = both (leb (max_calls * plan_words) (length plan) && leb (max_keys * 2) (length keys)) (leb max_keys (length values)) (sym w ∙ t) in
     let front = both (leb (max_calls * plan_words) (length plan)) (leb (max_keys * 2) (length keys)) all.0 in
     let keys_room : max_keys * 2 ≤ length keys = leb-true (max_keys * 2) (length keys) front.1 in
     record {
@@ -82,22 +73,22 @@ room_same n m k plan keys values p q r = rw (p, q, r)
 pub prepared_short : (file : List ℕ) (n m k : ℕ) (plan keys : List ℕ) (values : List ℤ) (p : Prepared) (enough : Bool)
     → length plan ≡ n → length keys ≡ m → length values ≡ k
     → plan ≡ repeated n 0 → keys ≡ repeated m 0 → values ≡ repeated k (pos 0)
-    → enough ≡ room_enough (room_of (length plan) (length keys) (length values)) → not enough ≡ true → p ≡ prepared_none Buffers
+    → enough ≡ room_enough (room_of (length plan) (length keys) (length values)) → enough ≡ false → p ≡ prepared_none Buffers
     → preparing p plan keys values ≡ prepared_of (room_of n m k) file
 unfolding prepared_of
 prepared_short file n m k plan keys values p enough a b c e f g w t made =
-    let tested : room_enough (room_of n m k) ≡ false = ap room_enough (sym (room_same n m k plan keys values a b c)) ∙ sym w ∙ test_failed enough t in
+    let tested : room_enough (room_of n m k) ≡ false = ap room_enough (sym (room_same n m k plan keys values a b c)) ∙ sym w ∙ t in
     rw tested (refused_left p Buffers n m k plan keys values made e f g)
 
 pub prepared_read : (file : List ℕ) (n m k : ℕ) (plan keys : List ℕ) (values : List ℤ) (enough : Bool) (x : footprint.Prepared)
     → length plan ≡ n → length keys ≡ m → length values ≡ k
-    → enough ≡ room_enough (room_of (length plan) (length keys) (length values)) → not enough ≡ false
+    → enough ≡ room_enough (room_of (length plan) (length keys) (length values)) → enough ≡ true
     → x ≡ prepare_read (room_of (length plan) (length keys) (length values)) file (read_block file)
     → x ≡ prepared_of (room_of n m k) file
 unfolding prepared_of
 prepared_read file n m k plan keys values enough x a b c w t made =
     let same : room_of (length plan) (length keys) (length values) ≡ room_of n m k = room_same n m k plan keys values a b c in
-    let tested : room_enough (room_of n m k) ≡ true = ap room_enough (sym same) ∙ sym w ∙ test_passed enough t in
+    let tested : room_enough (room_of n m k) ≡ true = ap room_enough (sym same) ∙ sym w ∙ t in
     rw tested (made ∙ ap (λ (r : Room). prepare_read r file (read_block file)) same)
 
 -- ---- the reader's answer

@@ -1,4 +1,6 @@
 // The set analysis of a block: the keys of each call, the table of all keys, and the rows of earlier conflicting calls.
+#![tactic(auto)]
+
 mod collect;
 mod gather;
 mod plan;

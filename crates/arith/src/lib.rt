@@ -1,4 +1,6 @@
 // Exact arithmetic on i64: each operation answers the exact result, or says why there is none.
+#![tactic(auto)]
+
 ghost use Rattle.std.specs.Prelude.{◌≡◌, pos, negsuc, neg_ℤ, nat_abs, ◌*◌, ◌+◌, ◌^◌, ◌-◌, ◌<◌, ◌≤◌, min, ltb};
 ghost use Rattle.std.specs.Int.Signed.{mag, lt_z};
 ghost use Rattle.arith.specs.Choice.{if◌then◌else◌};

@@ -2,7 +2,7 @@
 use mathlib.Core.Path.{◌≡◌, refl, sym, ap, subst, subst⁻¹, ◌∙◌}
 use mathlib.Core.Bool.{Bool, true, false}
 use mathlib.Core.List.{List, [], ◌∷◌, ◌++◌}
-use Prim.Native.Nat.{ℕ, zero, suc, ◌+◌, ◌-◌, ◌*◌, ◌/◌, ◌≤◌, ◌<◌}
+use Prim.Native.Nat.{ℕ, zero, suc, ◌+◌, ◌-◌, ◌*◌, ◌≤◌, ◌<◌}
 use native.Mathlib.Omega.{arith}
 use native.Mathlib.Decide.{dec_lt}
 use lib.ListN.{length, get_or, take, drop, length-append}
@@ -10,8 +10,8 @@ use lib.Seq.{drop-drop, take-append_seam}
 use Rattle.wire.specs.Bytes.{number, read_le, bytes_of}
 use Rattle.block.specs.Instruction.{decode, is_valid, first_invalid}
 use Rattle.block.specs.Record.{Cell, function_kind, cell_kind, call_kind, end_kind, recordOf, cell_of}
-use Rattle.block.specs.Encoding.{Routine, Contents, function_record, cell_record, call_record, size_of, FunctionFits, CellFits, CallFits}
-use Rattle.block.specs.Faults.{length_in, kind_in, Element, a_function, a_cell, a_call, the_end, element_bytes, ElementFits, Holds, InstructionRight, FirstWrong, CodeWrong, Fault, head_cut, kind_wrong, length_wrong, body_cut, limit_passed, field_wrong, code_wrong, not_rising, sum_passed, bytes_behind, fault_place, HasFault, NoneBefore}
+use Rattle.block.specs.Encoding.{Routine, Contents, FunctionFits}
+use Rattle.block.specs.Faults.{length_in, kind_in, Element, a_function, a_cell, a_call, the_end, Holds, FirstWrong, CodeWrong, Fault, head_cut, kind_wrong, length_wrong, body_cut, limit_passed, field_wrong, code_wrong, not_rising, sum_passed, bytes_behind, fault_place, HasFault, NoneBefore}
 use Rattle.block.proofs.EncodingLaws.{function_body, cell_body, call_body, function_contract, function_number, function_code, function_size, routine_in}
 use Rattle.block.proofs.BodyLaws.{cell_back, call_in_body, call_same}
 use Rattle.block.proofs.ContentsLaws.{record_length, head_length, head_kind, head_behind}

@@ -1,7 +1,6 @@
 -- The reader refuses a file by its fault, and by nothing else: contents that keep the rules are read through, and what stands behind them is refused
 -- by its first fault.
 use mathlib.Core.Path.{◌≡◌, refl, sym, ap, ap₂, subst, subst⁻¹, ◌∙◌}
-use mathlib.Core.Bool.{Bool, true, false}
 use mathlib.Core.List.{List, [], ◌∷◌, ◌++◌, append_assoc, append-nil}
 use Prim.Native.Nat.{ℕ, zero, suc, ◌+◌, ◌-◌, ◌≤◌, ◌<◌}
 use native.Mathlib.Omega.{arith}
@@ -16,7 +15,7 @@ use Rattle.block.specs.Record.{Cell, Block, function_kind, cell_kind, call_kind}
 use Rattle.block.specs.Reader.{Read, Reading, accepted, refused, due, ended, empty_block, read_record, read_from, read_block}
 use Rattle.block.specs.Refusal.{number_of, offset_of}
 use Rattle.block.specs.Encoding.{Routine, Contents, function_record, cell_record, call_record, records, AreBytes, placed, block_for}
-use Rattle.block.specs.Faults.{records_of, Stands, behind_kind, last_kind, Fault, head_cut, kind_wrong, length_wrong, body_cut, limit_passed, field_wrong, code_wrong, not_rising, sum_passed, bytes_behind, fault_number, fault_place, HasFault, NoneBefore, Faulty, RefusedBy, RefusalsExact}
+use Rattle.block.specs.Faults.{records_of, Stands, behind_kind, last_kind, Fault, head_cut, kind_wrong, length_wrong, body_cut, limit_passed, field_wrong, code_wrong, not_rising, sum_passed, bytes_behind, fault_number, fault_place, HasFault, Faulty, RefusedBy, RefusalsExact}
 use Rattle.block.proofs.EncodingLaws.{function_body, cell_body, call_body, bytes_drop}
 use Rattle.block.proofs.ContentsLaws.{record_length, holding, sent, sent_none, sent_length}
 use Rattle.block.proofs.ReadsWhole.{records_count, function_step, cell_step, call_step, from_ended}

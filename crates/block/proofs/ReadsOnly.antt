@@ -17,7 +17,6 @@ use Rattle.block.specs.Record.{Cell, Block, function_id, function_kind, cell_kin
 use Rattle.block.specs.Reader.{Read, Reading, accepted, refused, due, ended, empty_block, rises, balances, read_function, read_cell, withCall, read_call, read_end, read_body, read_record, read_from, read_block}
 use Rattle.block.specs.Encoding.{Routine, Contents, function_record, cell_record, call_record, records, file_of, AreBytes, Ascending, size_of, FunctionKeeps, CellKeeps, CallKeeps, routine_id, FunctionsKeep, CellsKeep, CallsKeep, HoldsContents, placed, block_for}
 use Rattle.block.specs.Faults.{behind_kind, last_kind}
-use Rattle.wire.specs.All.{All}
 use Rattle.block.proofs.EncodingLaws.{function_body, cell_body, call_body, bytes_drop, bytes_split, routine_in, function_size, function_split, function_length_in, function_keeps}
 use Rattle.block.proofs.BodyLaws.{cell_split, cell_keeps, call_split, call_keeps}
 use Rattle.block.proofs.ContentsLaws.{all_snoc, ascending_snoc, record_length, cell_length_lem, call_length, placed_length, placed_ids, holding, sent, sent_file, sent_function, sent_cell, sent_call, block_function, block_cell}

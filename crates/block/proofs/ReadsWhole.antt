@@ -15,7 +15,6 @@ use Rattle.arith.proofs.ChoiceLaws.{if_all}
 use Rattle.arith.specs.Balance.{total, largest, none_below_zero, within_limit}
 use Rattle.arith.proofs.BalanceLaws.{BalancesWithin, limit_within, total_front}
 use Rattle.arith.proofs.IntegerLaws.{pos_part, le_le_z}
-use Rattle.wire.specs.Bytes.{number}
 use Rattle.block.specs.Key.{first_contract, is_balance}
 use Rattle.block.specs.Record.{Cell, Block, function_id, function_kind, cell_kind, call_kind, end_kind, call_bytes, recordOf, length_allowed, cell_of, cell_allowed}
 use Rattle.block.specs.Reader.{Read, accepted, due, ended, empty_block, rises, balances, read_function, read_cell, withCall, read_call, read_end, read_body, read_record, read_from, read_block}

@@ -1,8 +1,8 @@
 -- What the reader makes of one record, by its faults: it refuses by the first of them, and takes a record that has none.
 use mathlib.Core.Path.{◌≡◌, refl, sym, ap, subst, subst⁻¹, ◌∙◌}
 use mathlib.Core.Bool.{Bool, true, false, not, ◌&&◌, ◌||◌, false≢true}
-use mathlib.Core.List.{List, [], ◌∷◌, ◌++◌, map, map-append, append-nil}
-use Prim.Native.Nat.{ℕ, zero, suc, ◌+◌, ◌-◌, ◌*◌, ◌/◌, ◌%◌, ◌≤◌, ◌<◌}
+use mathlib.Core.List.{List, [], ◌∷◌, ◌++◌, map, map-append}
+use Prim.Native.Nat.{ℕ, ◌+◌, ◌-◌, ◌*◌, ◌/◌, ◌%◌, ◌≤◌, ◌<◌}
 use native.Mathlib.Omega.{arith}
 use borrow.Author.Tests.{ltb-true, ltb-false, leb-true, leb-false, eqb-true, eqb-false, not-true, not-false, le-ltb, le-leb, eq-eqb}
 use lib.Dec.{eqb, leb, ltb}
@@ -12,11 +12,11 @@ use Rattle.arith.proofs.ChoiceLaws.{if_all, neither}
 use Rattle.arith.specs.Balance.{total, largest}
 use Rattle.wire.specs.Bytes.{number, read_le}
 use Rattle.block.specs.Instruction.{decode, is_valid, first_invalid}
-use Rattle.block.specs.Record.{Cell, Block, function_id, function_kind, cell_kind, call_kind, end_kind, call_bytes, recordOf, length_allowed, cell_of, cell_allowed, call_of}
-use Rattle.block.specs.Reader.{Read, Reading, accepted, refused, due, ended, rises, balances, read_function, read_cell, withCall, read_call, read_end, read_body, read_record}
+use Rattle.block.specs.Record.{Cell, function_id, end_kind, call_bytes, recordOf, length_allowed, cell_of, cell_allowed, call_of}
+use Rattle.block.specs.Reader.{Reading, accepted, refused, due, ended, rises, balances, read_function, read_cell, withCall, read_call, read_end, read_body, read_record}
 use Rattle.block.specs.Refusal.{number_of, offset_of}
-use Rattle.block.specs.Encoding.{Routine, Contents, AreBytes, Ascending, size_of, FunctionKeeps, CellKeeps, CallKeeps, CallFits, routine_id, FunctionsKeep, CellsKeep, placed, block_for}
-use Rattle.block.specs.Faults.{last_kind, length_in, kind_in, Element, a_function, a_cell, a_call, the_end, Holds, KindRight, LengthRight, Room, FieldsRight, InstructionRight, FirstWrong, CodeWrong, RisesWith, SumWithin, Fault, head_cut, kind_wrong, length_wrong, body_cut, limit_passed, field_wrong, code_wrong, not_rising, sum_passed, bytes_behind, fault_number, fault_place, HasFault, NoneBefore}
+use Rattle.block.specs.Encoding.{Routine, Contents, AreBytes, Ascending, size_of, FunctionKeeps, CellKeeps, CallKeeps, routine_id, FunctionsKeep, CellsKeep, placed, block_for}
+use Rattle.block.specs.Faults.{last_kind, length_in, kind_in, Element, a_function, a_cell, a_call, the_end, Holds, KindRight, LengthRight, FieldsRight, FirstWrong, CodeWrong, RisesWith, SumWithin, Fault, head_cut, kind_wrong, length_wrong, body_cut, limit_passed, field_wrong, code_wrong, not_rising, sum_passed, bytes_behind, fault_number, fault_place, HasFault, NoneBefore}
 use Rattle.block.proofs.DecoderExact.{holds_valid, valid_holds}
 use Rattle.block.proofs.EncodingLaws.{function_body, cell_body, call_body, bytes_drop, bytes_take, decode_code, routine_in, code_split, function_size, function_split, function_length_in, function_keeps}
 use Rattle.block.proofs.BodyLaws.{cell_split, cell_keeps, cell_allowed_lem, call_in_body, call_back, call_in_lem, call_keeps, in_split, below_16, below_32, value_fits}
@@ -27,7 +27,7 @@ use Rattle.block.specs.declared.Call.{Call}
 use Rattle.block.specs.declared.CallBody.{CallBody}
 use Rattle.block.specs.declared.CallBody.TheVariants.{InRange, OutOfRange}
 use Rattle.block.specs.declared.Refusal.{Refusal}
-use Rattle.block.specs.declared.Refusal.TheVariants.{Missing, Kind, Length, Field, NotRising, BeyondLimit, Behind, Balances, Code}
+use Rattle.block.specs.declared.Refusal.TheVariants.{Field}
 
 -- A refusal of what stands behind contents, at an offset: by its first fault.
 pub record Fails (t : Contents) (rest : List ℕ) (at : ℕ) (why : Refusal) : Type 0 where

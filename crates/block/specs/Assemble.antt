@@ -1,6 +1,6 @@
 -- Blocks and texts from their parts, for the worked examples of this crate and those above it.
 use mathlib.Core.List.{List, [], ◌∷◌, ◌++◌, flatten}
-use Rattle.std.specs.Prelude.{ℕ, zero, suc, ◌+◌, ◌*◌, ℤ}
+use Rattle.std.specs.Prelude.{ℕ, zero, suc, ◌*◌, ℤ}
 use Prim.Native.Char.{code}
 use Prim.Native.String as string
 use Prim.Native.String.{String}

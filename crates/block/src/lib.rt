@@ -1,4 +1,6 @@
 // The block file: addresses, instructions, call records, and the refusals of an input.
+#![tactic(auto)]
+
 pub mod address;
 pub mod format;
 pub mod limits;

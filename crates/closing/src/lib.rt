@@ -1,4 +1,6 @@
 // The closing sheet of a run, written into a lent output.
+#![tactic(auto)]
+
 mod records;
 mod tests;
 mod write;
@@ -10,7 +12,7 @@ use block::limits::{MAX_CALLS, MAX_KEYS};
 use machine::layout::large_enough;
 use machine::{Answer, Head};
 use sheet::Closing;
-use tests::{all_finished_lem, cells_found, states_allowed};
+use tests::{all_finished, cells_found, states_allowed};
 use write::write_sheet;
 
 // What a look at the cells finds: a balance below zero, or how many of them have a record.

@@ -38,7 +38,7 @@ pub(crate) fn states_allowed(status: &[u64], calls: usize) -> bool
 }
 
 // Whether all calls are finished.
-pub(crate) fn all_finished_lem(status: &[u64], calls: usize) -> bool
+pub(crate) fn all_finished(status: &[u64], calls: usize) -> bool
     requires { calls ≤ max_calls }
     ensures { result ≡ all_finished status.now calls }
 {

@@ -1,4 +1,5 @@
 // Move lines in, text lines out: REGISTER as functions on bytes.
+#![tactic(auto)]
 
 // Which move a line's letter names.
 #[derive(Clone, Copy)]

@@ -1,5 +1,5 @@
 -- "Read and write sets" of a call: its distinct keys, each with its two flags, in the order of their first use.
-use Rattle.std.specs.Prelude.{◌||◌, List, [], ◌∷◌, ◌++◌, map, ℕ, zero, suc, ◌+◌, eqb, drop}
+use Rattle.std.specs.Prelude.{◌||◌, List, [], ◌∷◌, ◌++◌, map, ℕ, zero, suc, eqb, drop}
 use Rattle.std.proofs.Math.Option.{Option, none, some}
 use Rattle.block.specs.Naming.{function_of}
 use Rattle.arith.specs.Choice.{if◌then◌else◌}

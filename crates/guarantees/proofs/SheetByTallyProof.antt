@@ -1,5 +1,5 @@
 -- What is written of a sheet is what the tally and the serial run say; the next day opens from it, since all calls are finished where it is not empty.
-use mathlib.Core.Path.{◌≡◌, refl, sym, ap, ◌∙◌}
+use mathlib.Core.Path.{◌≡◌, refl, ap, ◌∙◌}
 use mathlib.Core.Bool.{Bool, true, false}
 use mathlib.Core.List.{List, []}
 use Prim.Native.Nat.{ℕ}
@@ -7,7 +7,7 @@ use Rattle.arith.specs.Choice.{if◌then◌else◌}
 use Rattle.block.specs.Limits.{max_workers}
 use Rattle.block.specs.Encoding.{AreBytes}
 use Rattle.block.specs.declared.Verdict.TheVariants as verdict
-use Rattle.machine.specs.Run.{Run, fixed_sizes}
+use Rattle.machine.specs.Run.{fixed_sizes}
 use Rattle.machine.specs.Opening.{opening_of}
 use Rattle.sheet.specs.Sheet.{sheet_bytes}
 use Rattle.block.specs.BlockOfFile.{call_count}

@@ -1,4 +1,6 @@
 // BEGIN, STEP and CANCEL on a run whose head is lent too: each takes the head out, makes the move by value, stores the head back and answers.
+#![tactic(auto)]
+
 pub mod lender;
 
 ghost use Rattle.std.specs.Prelude.{◌≡◌};

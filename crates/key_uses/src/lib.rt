@@ -1,4 +1,6 @@
 // The uses of keys by a call's entry and by each instruction: the set analysis and a step ask the same functions.
+#![tactic(auto)]
+
 ghost use Rattle.std.specs.Prelude.{◌≡◌, [], ◌∷◌};
 ghost use Rattle.block.specs.Key.{address_number, contract_balance, key_of};
 ghost use Rattle.footprint.specs.Access.{reading, writing, accesses, entry_accesses, pay_accesses};

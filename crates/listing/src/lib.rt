@@ -1,4 +1,6 @@
 // The listing of a block as text: its refusal; or its numbers, and for each call those that it waits for.
+#![tactic(auto)]
+
 ghost use Rattle.std.specs.Prelude.{◌≡◌, ◌+◌, ◌<◌, ◌≤◌, length};
 ghost use Rattle.block.specs.Limits.{max_calls};
 ghost use Rattle.opening.specs.Opened.{sizes_for};

@@ -1,5 +1,5 @@
 -- BEGIN, STEP and CANCEL, and the numbers that calls carry, computed in short on block P; `examples` has all of it, and damaged runs.
-use Rattle.std.specs.Prelude.{◌≡◌, refl, List, [], ◌∷◌, ◌++◌, map, ℕ, ◌+◌, take, set}
+use Rattle.std.specs.Prelude.{◌≡◌, refl, List, [], ◌∷◌, ◌++◌, map, ℕ, take, set}
 use Rattle.schedule.specs.declared.Move.TheVariants.{Begin, Step, Cancel}
 use Rattle.block.specs.Assemble.{text}
 use Rattle.block.specs.Worked.{P}

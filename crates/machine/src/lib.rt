@@ -1,4 +1,6 @@
 // The run of a block: its opening, the moves of its workers, and the serial run.
+#![tactic(auto)]
+
 pub mod layout;
 pub mod numbers;
 

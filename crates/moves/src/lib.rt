@@ -1,4 +1,6 @@
 // BEGIN, STEP and CANCEL on a run that the caller lends: the head goes in and comes back by value, the buffers are lent.
+#![tactic(auto)]
+
 pub mod begin;
 pub mod cancel;
 mod entries;

@@ -1,4 +1,6 @@
 // The opening of a block: the head of its run, with its plan, its keys and its cells in the lent buffers, or its refusal.
+#![tactic(auto)]
+
 ghost use Rattle.std.specs.Prelude.{◌≡◌, ◌≤◌, ◌<◌, pos, length};
 ghost use Rattle.wire.specs.Bytes.{repeated};
 ghost use Rattle.block.specs.Limits.{max_calls};

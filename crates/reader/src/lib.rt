@@ -1,5 +1,7 @@
 // The block reader: one record after another, with the refusals 1 to 10 in their order. Each function is the one of
 // block/specs/Reader.antt of that name, on numbers that stand for the block read so far.
+#![tactic(auto)]
+
 mod cell;
 mod function;
 mod record;

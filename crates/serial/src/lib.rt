@@ -1,4 +1,6 @@
 // The serial run on a run that the caller lends: calls 0, 1, .. each begun on worker 0 and stepped to its end.
+#![tactic(auto)]
+
 ghost use Rattle.std.specs.Prelude.{◌≡◌, min, eqb};
 ghost use Rattle.block.specs.Limits.{max_calls};
 ghost use Rattle.machine.specs.Run.{held_at};

@@ -1,4 +1,6 @@
 // The closing sheet of a run.
+#![tactic(auto)]
+
 use block::format::{CELL_BYTES, HEAD_BYTES, RECEIPT_BYTES};
 use block::limits::{MAX_CALLS, MAX_KEYS};
 use machine::Answer;

@@ -1,5 +1,7 @@
 // Lines of text as bytes in a lent buffer: each function stores one line from a position on and answers the position behind it; what
 // does not fit is dropped, and all other bytes are unchanged.
+#![tactic(auto)]
+
 ghost use Rattle.std.specs.Prelude.{◌≡◌, ◌∷◌, [], map, ◌+◌, ◌^◌, ◌<◌, ◌≤◌, length};
 ghost use Rattle.wire.specs.Rows.{in_row};
 ghost use Rattle.wire.specs.Bytes.{stored};

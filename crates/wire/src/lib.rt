@@ -1,5 +1,7 @@
 // Little-endian numbers in byte slices, total reads and writes of slices, and rows of 256 bits as four words.
 // Past the end of a slice a read gives 0 and a write changes nothing.
+#![tactic(auto)]
+
 pub mod decimal;
 
 ghost use Rattle.std.specs.Prelude.{◌≡◌, ◌+◌, ◌%◌, ◌^◌, ◌≤◌, pos, length, get_or, set};

@@ -1,5 +1,4 @@
 -- `arith::above` meets its contract: p is a value exactly below 2^63, and the cast keeps it there.
-use borrow.Author.Rules.{rules}
 use Rattle.arith.proofs.Laws.{checked_above, overflow_above}
 use Rattle.arith.proofs.above.Goals as goal
 

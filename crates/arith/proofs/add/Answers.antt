@@ -1,7 +1,6 @@
 -- `arith::add` meets its contract: of unlike signs the sum fits, and of like signs the magnitudes add up and one test tells whether it does.
 use mathlib.Core.Path.{◌∙◌, ap, ap₂}
 use mathlib.Core.Bool.{true, false}
-use borrow.Author.Rules.{rules}
 use lib.IntN.{◌+ℤ◌}
 use Rattle.arith.specs.Exact.{checked}
 use Rattle.arith.proofs.Laws.{read_back, read_fits, value, sum_fits, sum_above, sum_beneath}

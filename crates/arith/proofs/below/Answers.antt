@@ -1,6 +1,5 @@
 -- `arith::below` meets its contract: above 0, -p is -(n + 1) for n = p - 1.
 use mathlib.Core.Path.{◌∙◌, ap}
-use borrow.Author.Rules.{rules}
 use Rattle.arith.specs.Exact.{checked}
 use Rattle.arith.proofs.Laws.{value_zero, negated}
 use Rattle.arith.proofs.below.Goals as goal

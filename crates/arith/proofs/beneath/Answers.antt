@@ -1,5 +1,4 @@
 -- `arith::beneath` meets its contract: -(n + 1) is a value exactly where n is below 2^63, and `under` makes it.
-use borrow.Author.Rules.{rules}
 use Rattle.arith.proofs.Laws.{value, overflow_beneath}
 use Rattle.arith.proofs.beneath.Goals as goal
 

@@ -1,7 +1,6 @@
 -- `arith::magnitude` meets its contract: of a number below 0 the magnitude is one more than `mag`, of any other it is `mag`.
 use mathlib.Core.Path.{ap}
 use native.Mathlib.Omega.{arith}
-use borrow.Author.Rules.{rules}
 use lib.IntN.{nat_abs}
 use Rattle.arith.proofs.Laws.{read, read_back, nat_abs_below, nat_abs_above}
 use Rattle.arith.proofs.magnitude.Goals as goal

@@ -3,7 +3,6 @@ use mathlib.Core.Path.{◌≡◌, ◌∙◌, ap₂}
 use mathlib.Core.Bool.{Bool, true, false, not}
 use lib.IntN.{pos, neg_ℤ}
 use lib.Signed.{lt_z}
-use borrow.Author.Rules.{rules}
 use Rattle.arith.specs.Exact.{checked, mul_of}
 use Rattle.arith.proofs.Laws.{read, read_back, product_like, product_unlike}
 use Rattle.arith.proofs.mul.Goals.{After-product-p}

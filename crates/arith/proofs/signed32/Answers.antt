@@ -1,6 +1,5 @@
 -- `arith::signed32` meets its contract: `signed_by` at 32 bits is the definition.
 use mathlib.Core.Path.{◌∙◌}
-use borrow.Author.Rules.{rules}
 use Rattle.arith.specs.Exact.{signed}
 use Rattle.arith.proofs.Laws.{read_back}
 use Rattle.arith.proofs.signed32.Goals as goal

@@ -1,6 +1,5 @@
 -- `arith::signed64` meets its contract: `signed_by` at 64 bits is the definition.
 use mathlib.Core.Path.{◌∙◌}
-use borrow.Author.Rules.{rules}
 use Rattle.arith.specs.Exact.{signed}
 use Rattle.arith.proofs.Laws.{read_back}
 use Rattle.arith.proofs.signed64.Goals as goal

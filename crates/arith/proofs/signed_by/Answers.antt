@@ -1,7 +1,6 @@
 -- `arith::signed_by` meets its contract: each branch is the definition's, and both results are in the range.
 use mathlib.Core.Path.{◌∙◌}
 use native.Mathlib.Omega.{arith}
-use borrow.Author.Rules.{rules}
 use borrow.Author.Tests.{lt-ltb, le-ltb}
 use mir.Syntax.{w64}
 use mir.ValLaws.{to_z_pos}

@@ -1,7 +1,6 @@
 -- `arith::sub` meets its contract: of like signs the difference fits, and of unlike signs the magnitudes add up and one test tells whether it does.
 use mathlib.Core.Path.{◌∙◌, ap, ap₂}
 use mathlib.Core.Bool.{true, false}
-use borrow.Author.Rules.{rules}
 use lib.IntN.{◌-ℤ◌}
 use Rattle.arith.specs.Exact.{checked}
 use Rattle.arith.proofs.Laws.{read_back, read_fits, value, diff_fits, diff_above, diff_beneath}

@@ -1,6 +1,5 @@
 -- `arith::under` meets its contract: below 2^63 the cast keeps n, and -1 - n is in the range.
 use mathlib.Core.Path.{◌∙◌}
-use borrow.Author.Rules.{rules}
 use Rattle.arith.proofs.Laws.{under_fits, under_read, read_back}
 use Rattle.arith.proofs.under.Goals as goal
 

@@ -1,7 +1,6 @@
 -- `arith::unsigned64` meets its contract: its two branches are the two clauses of `unsigned` at 64 bits.
 use mathlib.Core.Path.{ap}
 use native.Mathlib.Omega.{arith}
-use borrow.Author.Rules.{rules}
 use Rattle.arith.specs.Exact.{unsigned}
 use Rattle.arith.proofs.IntegerLaws.{unsigned_below, unsigned_above}
 use Rattle.arith.proofs.Laws.{read, read_back}

@@ -21,7 +21,6 @@ use Rattle.block.specs.declared.CallBody.TheVariants.{InRange}
 use Rattle.footprint.specs.Access.{Access}
 use Rattle.footprint.specs.Sets.{function_sets, sets_of, access_keys}
 use Rattle.block.specs.Naming.{function_of}
-use Rattle.footprint.proofs.SetLaws as sets
 use Rattle.footprint.proofs.SetLaws.{Distinct, merged_distinct}
 use Rattle.footprint.specs.Conflict.{row_for}
 use Rattle.footprint.specs.Table.{cell_number}

@@ -33,7 +33,6 @@ use Rattle.footprint.proofs.SetAccessLaws.{drop_bytes, take_bytes, InstrSound, s
 use Rattle.footprint.specs.Conflict.{member}
 use Rattle.footprint.proofs.RuleLimit.{read_call_bounded}
 use Rattle.footprint.specs.SafeSets.{CallBounded}
-use Rattle.footprint.proofs.SetLaws as sets
 use Rattle.footprint.proofs.SetLaws.{code_each}
 use Rattle.footprint.specs.Sets.{decoded_accesses, function_sets, sets_of, access_keys}
 use Rattle.footprint.specs.Table.{analysed, refused, analyse, insert_keys}

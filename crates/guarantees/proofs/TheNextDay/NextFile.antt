@@ -1,7 +1,7 @@
 -- A run whose kind 2 records are those of cells that keep document 01's rules opens the next block, with any functions and calls.
 use mathlib.Core.Path.{◌≡◌, sym, ap, subst, subst⁻¹, ◌∙◌}
 use mathlib.Core.List.{List, [], ◌∷◌, ◌++◌, flatten}
-use Prim.Native.Nat.{ℕ, zero, suc, ◌≤◌, ◌<◌}
+use Prim.Native.Nat.{ℕ, zero, suc, ◌≤◌}
 use lib.Dec.{lit<}
 use lib.ListN.{length}
 use Rattle.arith.specs.Exact.{unsigned}

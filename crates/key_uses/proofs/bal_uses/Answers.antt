@@ -1,5 +1,4 @@
 -- `footprint::access::bal_uses` meets its contract: it reads the balance of the contract, and no other.
-use borrow.Author.Rules.{rules}
 use mathlib.Core.Path.{◌∙◌}
 use Rattle.key_uses.specs.Uses.{no_use, uses_of}
 use Rattle.key_uses.proofs.bal_uses.Goals as goal

@@ -1,5 +1,4 @@
 -- `footprint::access::cell_use` meets its contract: the key has the parts that the sources give.
-use borrow.Author.Rules.{rules}
 use Rattle.key_uses.proofs.cell_use.Goals as goal
 
 pub returns : goal.returns

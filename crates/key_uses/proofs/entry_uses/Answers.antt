@@ -1,5 +1,4 @@
 -- `footprint::access::entry_uses` meets its contract: the test of the value is the definition's, and both balances are used as it says.
-use borrow.Author.Rules.{rules}
 use mathlib.Core.Path.{◌∙◌}
 use Rattle.footprint.specs.Access.{entry_accesses}
 use Rattle.key_uses.specs.Uses.{uses_of}

@@ -1,5 +1,4 @@
 -- `footprint::access::get_uses` meets its contract: it reads its cell, and no other.
-use borrow.Author.Rules.{rules}
 use mathlib.Core.Path.{◌∙◌}
 use Rattle.key_uses.specs.Uses.{no_use, uses_of}
 use Rattle.key_uses.proofs.get_uses.Goals as goal

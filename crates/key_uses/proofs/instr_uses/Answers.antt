@@ -1,5 +1,4 @@
 -- `footprint::access::instr_uses` meets its contract: each arm of the match is a clause of the definition, and the instructions of the last arm have no accesses.
-use borrow.Author.Rules.{rules}
 use mathlib.Core.Path.{sym, ap, ◌∙◌}
 use Rattle.footprint.specs.Access.{accesses}
 use Rattle.key_uses.specs.Uses.{uses_of}

@@ -1,5 +1,4 @@
 -- `footprint::access::key_use` meets its contract: the parts of a key fit its two words.
-use borrow.Author.Rules.{rules}
 use Rattle.block.specs.Key.{address_number}
 use Rattle.key_uses.proofs.AccessLaws.{key_words_lem}
 use Rattle.key_uses.proofs.key_use.Goals as goal

@@ -1,5 +1,4 @@
 -- `footprint::access::no_uses` meets its contract: there are no uses.
-use borrow.Author.Rules.{rules}
 use Rattle.key_uses.specs.Uses.{uses_of}
 use Rattle.key_uses.proofs.no_uses.Goals as goal
 

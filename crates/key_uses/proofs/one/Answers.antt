@@ -1,5 +1,4 @@
 -- `footprint::access::one` meets its contract: there is one use.
-use borrow.Author.Rules.{rules}
 use Rattle.key_uses.proofs.one.Goals as goal
 
 pub returns : goal.returns

@@ -1,5 +1,4 @@
 -- `footprint::access::pay_uses` meets its contract: the payee is the one that the number of the source names.
-use borrow.Author.Rules.{rules}
 use mathlib.Core.Path.{ap, ◌∙◌}
 use Rattle.block.specs.Key.{payee_of}
 use Rattle.block.specs.declared.Payee.{Payee}

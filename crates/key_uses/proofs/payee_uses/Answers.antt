@@ -1,5 +1,4 @@
 -- `footprint::access::payee_uses` meets its contract: both arms use the contract's balance, and the first the account's too.
-use borrow.Author.Rules.{rules}
 use mathlib.Core.Path.{◌∙◌}
 use Rattle.footprint.specs.Access.{pay_accesses}
 use Rattle.key_uses.specs.Uses.{no_use, uses_of}

@@ -1,5 +1,4 @@
 -- `footprint::access::put_uses` meets its contract: it writes its cell, and no other.
-use borrow.Author.Rules.{rules}
 use mathlib.Core.Path.{◌∙◌}
 use Rattle.key_uses.specs.Uses.{no_use, uses_of}
 use Rattle.key_uses.proofs.put_uses.Goals as goal

@@ -1,5 +1,4 @@
 -- `footprint::access::source_word` meets its contract: each arm is a clause of the definition, and the four arguments fit 32 bits.
-use borrow.Author.Rules.{rules}
 use Prim.Native.Nat.{◌^◌, ◌<◌}
 use native.Mathlib.Omega.{arith}
 use Rattle.block.specs.Record.{argument}

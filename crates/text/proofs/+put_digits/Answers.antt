@@ -1,7 +1,7 @@
 -- `text::put_digits` meets its contract: the last digit stands behind those of the tenth part.
-use Prim.Native.Nat.{ℕ, ◌-◌, ◌/◌}
+use Prim.Native.Nat.{◌-◌, ◌/◌}
 use native.Mathlib.Omega.{arith}
-use Rattle.text.proofs.Laws.{digits_length, fewer, put_none, put_one, put_more}
+use Rattle.text.proofs.Laws.{digits_length, put_none, put_one, put_more}
 use Rattle.text.proofs.+put_digits.Goals as goal
 
 pub returns-then-left-eq0 : goal.returns-then-left-eq0

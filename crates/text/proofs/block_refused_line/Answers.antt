@@ -1,5 +1,4 @@
 -- `text::block_refused_line` meets its contract: the two numbers, and the end of the line behind them.
-use borrow.Author.Rules.{rules}
 use Rattle.text.proofs.WrittenLaws.{written_end}
 use Rattle.text.proofs.Laws.{spaced_length}
 use mathlib.Core.List.{[], ◌∷◌}

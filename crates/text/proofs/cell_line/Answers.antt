@@ -1,5 +1,4 @@
 -- `text::cell_line` meets its contract: four numbers, the value, and the end of the line behind them.
-use borrow.Author.Rules.{rules}
 use Rattle.text.proofs.WrittenLaws.{written_part, written_end}
 use mathlib.Core.Path.{◌≡◌}
 use Rattle.arith.proofs.Laws.{read, read_back}

@@ -1,9 +1,7 @@
 -- `text::put_bits` meets its contract: what is written and what is left make up the whole text at every turn.
 use mathlib.Core.Path.{sym, ◌∙◌}
 use native.Mathlib.Omega.{arith}
-use Prim.Native.Nat.{◌-◌}
-use borrow.Author.Rules.{rules}
-use Rattle.text.proofs.Bits.{WritingBits, bits_start, going_set, going_clear, bits_end}
+use Rattle.text.proofs.Bits.{bits_start, going_set, going_clear, bits_end}
 use Rattle.text.proofs.put_bits.Goals.{then-row_test, else-row_test}
 use Rattle.text.proofs.put_bits.Goals as goal
 
@@ -21,8 +19,8 @@ loop-call-preserved c =
     let inv = c.loop-call.invariant in
     let asked = c.row_test.ensures in
     elim c.if-row_test.branch [
-      then-row_test w ↦ rw (w.out-is, w.end-is) (going_set c.args.row _ _ _ _ _ inv _ _ c.loop-call-test.true (sym asked ∙ w.if-row_test.true) (w.put_part-next.ensures.text, w.put_part-next.ensures.end))
-    | else-row_test w ↦ rw (w.out-is, w.end-is) (going_clear c.args.row _ _ _ _ _ inv c.loop-call-test.true (sym asked ∙ w.if-row_test.false))
+      | then-row_test w ↦ rw (w.out-is, w.end-is) (going_set c.args.row _ _ _ _ _ inv _ _ c.loop-call-test.true (sym asked ∙ w.if-row_test.true) (w.put_part-next.ensures.text, w.put_part-next.ensures.end))
+      | else-row_test w ↦ rw (w.out-is, w.end-is) (going_clear c.args.row _ _ _ _ _ inv c.loop-call-test.true (sym asked ∙ w.if-row_test.false))
     ]
 
 pub returns : goal.returns

@@ -1,9 +1,5 @@
-use mathlib.Core.Logic.{⊎_elim}
-use mathlib.Core.Path.{sym, ◌∙◌}
-use native.Mathlib.Omega.{arith}
 use Prim.Native.Nat.{◌-◌}
-use borrow.Author.Rules.{rules}
-use Rattle.text.proofs.Bits.{WritingBits, bits_start, going_set, going_clear, bits_end}
+use Rattle.text.proofs.Bits.{WritingBits}
 use Rattle.text.proofs.put_bits.Given as goal
 
 abbrev pub invariant-loop-call : goal.invariant-loop-call

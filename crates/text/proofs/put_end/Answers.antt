@@ -1,5 +1,4 @@
 -- `text::put_end` meets its contract: the line feed is stored, and the line ends behind it.
-use borrow.Author.Rules.{rules}
 use Rattle.text.proofs.Laws.{put_last}
 use Rattle.text.proofs.put_end.Goals as goal
 

@@ -1,5 +1,4 @@
 -- `text::put_four` meets its contract: each part is written behind the one before.
-use borrow.Author.Rules.{rules}
 use Rattle.text.proofs.WrittenLaws.{written_part}
 use Rattle.text.proofs.Laws.{spaced_length, digits_length}
 use mathlib.Core.List.{[], ◌∷◌}

@@ -1,5 +1,4 @@
 -- `text::put_part` meets its contract: the digits stand behind the space.
-use borrow.Author.Rules.{rules}
 use Rattle.text.proofs.Laws.{put_before}
 use Rattle.text.proofs.put_part.Goals as goal
 

@@ -1,5 +1,4 @@
 -- `text::put_value_part` meets its contract: the sign, where there is one, and the digits of the magnitude.
-use borrow.Author.Rules.{rules}
 use Rattle.text.proofs.Laws.{value_below, value_above}
 use Rattle.arith.proofs.Laws.{read, read_back}
 use Rattle.text.proofs.put_value_part.Goals as goal

@@ -1,5 +1,4 @@
 -- `text::receipt_line` meets its contract: three numbers, and the end of the line behind them.
-use borrow.Author.Rules.{rules}
 use Rattle.text.proofs.WrittenLaws.{written_part, written_end}
 use Rattle.text.proofs.Laws.{spaced_length, digits_length}
 use mathlib.Core.List.{[], ◌∷◌}

@@ -1,5 +1,4 @@
 -- `text::row_line` meets its contract: the call, its bits, and the end of the line behind them.
-use borrow.Author.Rules.{rules}
 use Rattle.text.proofs.WrittenLaws.{written_letter, written_part, written_parts, written_end}
 use Rattle.text.proofs.Bits.{bits_length}
 use Rattle.text.proofs.Laws.{digits_length}

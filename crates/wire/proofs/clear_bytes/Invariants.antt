@@ -1,7 +1,6 @@
 use Prim.Native.Nat.{◌-◌}
-use native.Mathlib.Omega.{arith}
-use lib.ListN.{length, length-set}
-use Rattle.wire.proofs.Laws.{ClearedBelow, cleared_none, cleared_length, cleared_more, cleared_all}
+use lib.ListN.{length}
+use Rattle.wire.proofs.Laws.{ClearedBelow}
 use Rattle.wire.proofs.clear_bytes.Given as goal
 
 abbrev pub invariant-loop-i : goal.invariant-loop-i

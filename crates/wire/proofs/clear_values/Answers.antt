@@ -1,9 +1,8 @@
 -- `wire::clear_values` meets its contract: each turn clears one element more, and the loop ends behind the last.
-use Prim.Native.Nat.{◌-◌}
 use native.Mathlib.Omega.{arith}
 use lib.IntN.{pos}
-use lib.ListN.{length, length-set}
-use Rattle.wire.proofs.Laws.{ClearedBelow, cleared_none, cleared_length, cleared_more, cleared_all}
+use lib.ListN.{length-set}
+use Rattle.wire.proofs.Laws.{cleared_none, cleared_length, cleared_more, cleared_all}
 use Rattle.wire.proofs.clear_values.Goals as goal
 
 pub loop-i-init : goal.loop-i-init

@@ -1,8 +1,7 @@
 use Prim.Native.Nat.{◌-◌}
-use native.Mathlib.Omega.{arith}
 use lib.IntN.{pos}
-use lib.ListN.{length, length-set}
-use Rattle.wire.proofs.Laws.{ClearedBelow, cleared_none, cleared_length, cleared_more, cleared_all}
+use lib.ListN.{length}
+use Rattle.wire.proofs.Laws.{ClearedBelow}
 use Rattle.wire.proofs.clear_values.Given as goal
 
 abbrev pub invariant-loop-i : goal.invariant-loop-i

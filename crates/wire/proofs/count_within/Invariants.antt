@@ -1,15 +1,7 @@
-use borrow.Author.Rules.{rules}
-use native.Mathlib.Omega.{arith}
-use Prim.Native.Nat.{◌*◌, ◌/◌, ◌-◌, ◌%◌, ◌^◌, ◌≤◌, ◌<◌}
-use mathlib.Core.Path.{◌≡◌, refl, ap, ◌∙◌}
-use mir.Syntax.{w64}
-use mir.Val.{Fits}
-use lib.Count.{ones, ones-le}
-use lib.ListN.{get_or}
-use lib.Pow.{pow_pos}
+use Prim.Native.Nat.{◌*◌, ◌/◌, ◌-◌, ◌≤◌}
+use mathlib.Core.Path.{◌≡◌}
 use Rattle.wire.specs.Rows.{in_row}
 use Rattle.wire.specs.RowOps.{count_of}
-use Rattle.wire.proofs.CountLaws.{count_most, part_few, row_whole, row_last}
 use Rattle.wire.proofs.count_within.Given as goal
 
 abbrev pub invariant-loop-w : goal.invariant-loop-w

@@ -1,5 +1,4 @@
 -- `wire::get16` meets its contract: it is 0 past the end, whole inside, and at the last byte that byte.
-use borrow.Author.Rules.{rules}
 use native.Mathlib.Omega.{arith}
 use mathlib.Core.Path.{sym}
 use Rattle.wire.proofs.BytesLaws.{read_past}

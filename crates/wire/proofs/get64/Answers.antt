@@ -1,5 +1,4 @@
 -- `wire::get64` meets its contract: it is 0 past the end, whole inside, and at the end its halves, each read by itself.
-use borrow.Author.Rules.{rules}
 use Prim.Native.Nat.{◌+◌, ◌*◌, ◌^◌, ◌<◌}
 use native.Mathlib.Omega.{arith}
 use mathlib.Core.Path.{sym}

@@ -1,5 +1,4 @@
 -- `wire::load16` meets its contract: two bytes are read one by one, the higher at 256.
-use borrow.Author.Rules.{rules}
 use native.Mathlib.Omega.{arith}
 use Prim.Native.Nat.{◌+◌}
 use mathlib.Core.Path.{sym}

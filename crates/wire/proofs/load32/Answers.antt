@@ -1,5 +1,4 @@
 -- `wire::load32` meets its contract: a number is its lower half and its upper half at that one's place value.
-use borrow.Author.Rules.{rules}
 use Prim.Native.Nat.{◌+◌, ◌*◌, ◌^◌, ◌<◌}
 use native.Mathlib.Omega.{arith}
 use Rattle.wire.proofs.Laws.{halves, halves_lt}

@@ -1,5 +1,4 @@
 -- `wire::mask` meets its contract: 1 shifted by less than 64 loses no bit.
-use borrow.Author.Rules.{rules}
 use Rattle.wire.proofs.MaskedBits.{mask_is}
 use Rattle.wire.proofs.mask.Goals as goal
 

@@ -1,5 +1,4 @@
 -- `wire::put16` meets its contract: nothing past the end, the whole inside, and at the last byte the low one.
-use borrow.Author.Rules.{rules}
 use native.Mathlib.Omega.{arith}
 use mathlib.Core.Path.{sym}
 use Rattle.wire.proofs.BytesLaws.{write_past}

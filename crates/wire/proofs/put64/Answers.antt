@@ -1,5 +1,4 @@
 -- `wire::put64` meets its contract: nothing past the end, the whole inside, and at the end its halves, each written by itself.
-use borrow.Author.Rules.{rules}
 use mathlib.Core.Path.{sym}
 use Rattle.wire.proofs.BytesLaws.{write_past}
 use Rattle.wire.proofs.Laws.{write_halves}

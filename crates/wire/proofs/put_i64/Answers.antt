@@ -1,5 +1,4 @@
 -- `wire::put_i64` meets its contract: the bits of the value are written as a number of eight bytes.
-use borrow.Author.Rules.{rules}
 use mathlib.Core.Path.{ap, ◌∙◌}
 use mir.Facts.{to_z-of_z}
 use Rattle.arith.specs.Exact.{unsigned}

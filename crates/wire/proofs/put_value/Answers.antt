@@ -1,5 +1,4 @@
 -- `wire::put_value` meets its contract: past the end the list's store changes nothing too.
-use borrow.Author.Rules.{rules}
 use mathlib.Core.Path.{sym}
 use lib.Seq.{set_out}
 use Rattle.wire.proofs.put_value.Goals as goal

@@ -2,7 +2,6 @@
 use mathlib.Core.Path.{sym, ◌∙◌}
 use native.Mathlib.Omega.{arith}
 use Rattle.wire.proofs.RowLaws.{row_read, row_stands, row_lacks}
-use borrow.Author.Rules.{rules}
 use Rattle.wire.proofs.row_from.Goals as goal
 
 pub returns-then-words-lt-ROW_WORDS : goal.returns-then-words-lt-ROW_WORDS

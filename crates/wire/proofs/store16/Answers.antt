@@ -1,5 +1,4 @@
 -- `wire::store16` meets its contract: two bytes are stored one by one, as the definition stores them.
-use borrow.Author.Rules.{rules}
 use native.Mathlib.Omega.{arith}
 use mathlib.Core.Path.{refl}
 use lib.ListN.{length-set}

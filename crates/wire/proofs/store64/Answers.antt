@@ -1,5 +1,4 @@
 -- `wire::store64` meets its contract: a number is written as its lower half and its upper half behind that.
-use borrow.Author.Rules.{rules}
 use Rattle.wire.proofs.Laws.{write_halves}
 use Rattle.wire.proofs.store64.Goals as goal
 

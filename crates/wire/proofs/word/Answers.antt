@@ -1,5 +1,4 @@
 -- `wire::word` meets its contract: past the end the list's default is 0 too.
-use borrow.Author.Rules.{rules}
 use mathlib.Core.Path.{sym}
 use lib.ListN.{get_or-eq_default}
 use Rattle.wire.proofs.word.Goals as goal

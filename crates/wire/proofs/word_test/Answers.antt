@@ -1,5 +1,4 @@
 -- `wire::word_test` meets its contract: the masked word is not 0 exactly when the bit is set.
-use borrow.Author.Rules.{rules}
 use Rattle.wire.proofs.MaskedBits.{test_by_mask}
 use Rattle.wire.proofs.word_test.Goals as goal
 

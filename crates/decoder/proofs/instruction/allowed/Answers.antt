@@ -1,5 +1,4 @@
 -- `block::instruction::allowed` meets its contract: it goes by the rule as the definition does.
-use borrow.Author.Rules.{rules}
 use Rattle.decoder.proofs.instruction.allowed.Goals as goal
 
 pub returns-then-rule : goal.returns-then-rule

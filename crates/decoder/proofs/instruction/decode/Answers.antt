@@ -1,5 +1,4 @@
 -- `block::instruction::decode` meets its contract: the parts are those of the eight bytes, each at its place value in their word.
-use borrow.Author.Rules.{rules}
 use mathlib.Core.Path.{◌∙◌}
 use Rattle.decoder.proofs.Laws.{decode_word}
 use Rattle.decoder.proofs.instruction.decode.Goals as goal

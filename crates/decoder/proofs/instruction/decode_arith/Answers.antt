@@ -1,5 +1,4 @@
 -- `block::instruction::decode_arith` meets its contract: the rule and the instruction are the definition's.
-use borrow.Author.Rules.{rules}
 use borrow.Author.Tests.{eq-eqb, ne_eqb}
 use Rattle.block.specs.Instruction.{decode_arith}
 use Rattle.decoder.proofs.instruction.decode_arith.Goals as goal

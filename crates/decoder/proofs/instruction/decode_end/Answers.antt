@@ -1,5 +1,4 @@
 -- `block::instruction::decode_end` meets its contract: the rule and the instruction are the definition's.
-use borrow.Author.Rules.{rules}
 use borrow.Author.Tests.{eq-eqb, ne_eqb}
 use Rattle.block.specs.Instruction.{decode_end}
 use Rattle.decoder.proofs.instruction.decode_end.Goals as goal

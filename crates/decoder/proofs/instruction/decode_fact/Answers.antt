@@ -1,5 +1,4 @@
 -- `block::instruction::decode_fact` meets its contract: the rule and the instruction are the definition's.
-use borrow.Author.Rules.{rules}
 use Rattle.block.specs.Instruction.{decode_fact}
 use Rattle.decoder.proofs.instruction.decode_fact.Goals as goal
 

@@ -1,5 +1,4 @@
 -- `block::instruction::decode_parts` meets its contract: its tests of op are the definition's, in the same order.
-use borrow.Author.Rules.{rules}
 use borrow.Author.Tests.{eq-eqb, le-ltb, lt-ltb, ne_eqb}
 use Rattle.block.specs.Instruction.{decode_parts}
 use Rattle.decoder.proofs.instruction.decode_parts.Goals as goal

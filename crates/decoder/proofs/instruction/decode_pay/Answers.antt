@@ -1,5 +1,4 @@
 -- `block::instruction::decode_pay` meets its contract: the rule and the instruction are the definition's.
-use borrow.Author.Rules.{rules}
 use Rattle.block.specs.Instruction.{decode_pay}
 use Rattle.decoder.proofs.instruction.decode_pay.Goals as goal
 

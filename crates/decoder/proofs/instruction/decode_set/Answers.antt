@@ -1,5 +1,4 @@
 -- `block::instruction::decode_set` meets its contract: the rule and the instruction are the definition's.
-use borrow.Author.Rules.{rules}
 use mathlib.Core.Path.{◌∙◌}
 use Rattle.arith.proofs.Laws.{read_back}
 use Rattle.block.specs.Instruction.{decode_set}

@@ -1,5 +1,4 @@
 -- `block::instruction::source_of` meets its contract: its tests are the definition's.
-use borrow.Author.Rules.{rules}
 use borrow.Author.Tests.{eq-eqb, ne_eqb}
 use Rattle.block.specs.Instruction.{source_of}
 use Rattle.decoder.proofs.instruction.source_of.Goals as goal

@@ -1,6 +1,5 @@
 -- `block::numbers::number_of` meets its contract: each arm is a clause of the definition.
 use Rattle.block.specs.Refusal.{number_of}
-use borrow.Author.Rules.{rules}
 use Rattle.decoder.proofs.numbers.number_of.Goals as goal
 
 pub returns-in-InputTooLong : goal.returns-in-InputTooLong

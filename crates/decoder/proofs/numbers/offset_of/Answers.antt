@@ -1,6 +1,5 @@
 -- `block::numbers::offset_of` meets its contract: each arm is a clause of the definition.
 use Rattle.block.specs.Refusal.{offset_of}
-use borrow.Author.Rules.{rules}
 use Rattle.decoder.proofs.numbers.offset_of.Goals as goal
 
 pub returns-in-InputTooLong : goal.returns-in-InputTooLong

@@ -1,5 +1,4 @@
 -- `block::part::from` meets its contract: a part that runs to the end is all that stands there, and past the end that is nothing.
-use borrow.Author.Rules.{rules}
 use Rattle.wire.proofs.ListLaws.{to_the_end, past_the_end}
 use Rattle.decoder.proofs.part.from.Goals as goal
 

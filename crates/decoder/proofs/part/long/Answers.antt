@@ -1,5 +1,4 @@
 -- `block::part::long` meets its contract: a number of 4 bytes is below 256 ^ 4.
-use borrow.Author.Rules.{rules}
 use Rattle.wire.proofs.BytesLaws.{read_lt}
 use Rattle.decoder.proofs.part.long.Goals as goal
 

@@ -1,5 +1,4 @@
 -- `block::part::short` meets its contract: a number of 2 bytes is below 256 ^ 2.
-use borrow.Author.Rules.{rules}
 use Rattle.wire.proofs.BytesLaws.{read_lt}
 use Rattle.decoder.proofs.part.short.Goals as goal
 

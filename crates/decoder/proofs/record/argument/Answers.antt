@@ -1,5 +1,4 @@
 -- `block::record::argument` meets its contract: its tests are the definition's.
-use borrow.Author.Rules.{rules}
 use borrow.Author.Tests.{eq-eqb, ne_eqb}
 use Rattle.block.specs.Record.{argument}
 use Rattle.decoder.proofs.record.argument.Goals as goal

@@ -1,5 +1,4 @@
 -- `block::record::call_at` meets its contract: a cut body is none, and a whole one is read from its own bytes.
-use borrow.Author.Rules.{rules}
 use mathlib.Core.Path.{sym, ap, ◌∙◌}
 use lib.Seq.{length-take-le}
 use native.Mathlib.Omega.{arith}

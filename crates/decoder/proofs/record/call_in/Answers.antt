@@ -1,5 +1,4 @@
 -- `block::record::call_in` meets its contract: the addresses and the value that it reads are those that the definition tests.
-use borrow.Author.Rules.{rules}
 use mathlib.Core.Path.{sym, ap, ◌∙◌}
 use lib.Signed.{non_neg}
 use Rattle.arith.proofs.Laws.{read_back}

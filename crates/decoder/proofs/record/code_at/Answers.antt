@@ -1,5 +1,4 @@
 -- `block::record::code_at` meets its contract: a stretch that the block cuts is all that is left of it.
-use borrow.Author.Rules.{rules}
 use native.Mathlib.Omega.{arith}
 use Rattle.wire.proofs.ListLaws.{cut, cut_length}
 use Rattle.decoder.proofs.record.code_at.Goals as goal

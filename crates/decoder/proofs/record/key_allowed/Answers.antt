@@ -1,5 +1,4 @@
 -- `block::record::key_allowed` meets its contract: each kind of address has the rule of the definition.
-use borrow.Author.Rules.{rules}
 use Rattle.block.specs.Key.{key_allowed}
 use Rattle.decoder.proofs.record.key_allowed.Goals as goal
 

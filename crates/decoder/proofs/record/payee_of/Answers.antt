@@ -1,5 +1,4 @@
 -- `block::record::payee_of` meets its contract: the number may be that of withdrawn warrants; else its address tells whether it is an account.
-use borrow.Author.Rules.{rules}
 use mathlib.Core.Path.{refl}
 use native.Mathlib.Omega.{arith}
 use Rattle.decoder.proofs.Laws.{address_read, payee_withdrawn, payee_account, payee_contract, payee_none}

@@ -1,5 +1,4 @@
 -- `machine::numbers::answer_number` meets its contract: each arm is a clause of the definition.
-use borrow.Author.Rules.{rules}
 use Rattle.machine.specs.Answer.{answer_number}
 use Rattle.machine.proofs.numbers.answer_number.Goals as goal
 

@@ -1,0 +1,11 @@
+-- `action::instruction::add` meets its contract: x takes the sum of both registers.
+use Rattle.arith.specs.Exact.{add_of}
+use Rattle.machine.specs.Action.{checked_action}
+use Rattle.action.proofs.Laws.{of_registers}
+use Rattle.action.proofs.instruction.add.Goals as goal
+
+pub returns : goal.returns
+returns c =
+    of_registers (checked_action c.args.place c.args.regs c.args.x) add_of c.assign_checked.ensures c.add-sum.ensures
+    (record { sfits = c.register.type_inv }) (record { sfits = c.register-2.type_inv })
+    c.register.ensures c.register-2.ensures

@@ -1,0 +1,83 @@
+-- `analysis::collect::call_keys` meets its contract: after j calls the analysis goes on from the table in the buffer.
+use native.Mathlib.Omega.{arith}
+use mathlib.Core.Path.{refl, ◌∙◌}
+use Prim.Native.Nat.{◌+◌, ◌*◌, ◌≤◌, ◌<◌}
+use lib.ListN.{length}
+use Rattle.block.specs.Limits.{max_bytes}
+use Rattle.block.specs.Record.{call_record_bytes}
+use Rattle.block.specs.BlockOfFile.{block_of}
+use Rattle.analysis.proofs.CallLaws.{collecting_start, going_place, set_worded, going_over, going_full, collecting_more, collecting_end, going_refused}
+use Rattle.analysis.proofs.collect.call_keys.Goals.{In-loop-call}
+use Rattle.analysis.proofs.collect.call_keys.Goals as goal
+
+-- A call's record lies within the file.
+inside : (c : In-loop-call)
+    → (c.args.l.first_call + call_record_bytes * c.loop-call.call + 4 ≤ max_bytes) × (c.loop-call.call < length (block_of c.args.file.now).calls)
+inside c =
+    let g = c.loop-call in
+    going_place c.args.file.now c.args.l c.requires.layout_of_block c.args.keys.now g.keys g.n g.call g.invariant c.loop-call-test.true
+
+pub loop-call-init : goal.loop-call-init
+loop-call-init c =
+    collecting_start c.args.file.now c.args.l c.requires.layout_of_block c.args.keys.now c.requires.max_keys_in_bounds c.requires.keys_value
+
+pub overflow_mul-at : goal.overflow_mul-at
+overflow_mul-at c = omega (arith, inside (goal.at.overflow_mul-at c).In-loop-call)
+
+pub overflow_add-at : goal.overflow_add-at
+overflow_add-at c = omega (arith, inside (goal.at.overflow_add-at c).In-loop-call)
+
+pub call_sets-s-requires : goal.call_sets-s-requires
+call_sets-s-requires c =
+    record { layout_of_block = c.requires.layout_of_block; call_in_bounds = (inside (goal.at.call_sets-s-requires c).In-loop-call).1 }
+
+pub shape_of-keys-then-s : goal.shape_of-keys-then-s
+shape_of-keys-then-s c =
+    c.refuse_keys.auto.keys ∙ c.loop-call.invariant.kept
+
+pub returns-then-s : goal.returns-then-s
+returns-then-s c =
+    let g = c.loop-call in
+    let h = (inside (goal.at.returns-then-s c).In-loop-call).1 in
+    going_refused c.args.file.now c.args.l c.requires.layout_of_block c.args.keys.now g.keys g.n g.call g.invariant _ _ g.keys _ g.invariant.kept
+    (going_over c.args.file.now c.args.l c.requires.layout_of_block c.args.keys.now g.keys g.n g.call g.invariant h _ c.call_sets-s.ensures _ refl c.if-s.true)
+    c.refuse_keys.ensures
+
+pub insert_sets-n-requires : goal.insert_sets-n-requires
+insert_sets-n-requires c =
+    let g = c.loop-call in
+    let h = (inside (goal.at.insert_sets-n-requires c).In-loop-call).1 in
+    record { tabled = g.invariant.tabled; sets_worded = set_worded c.args.file.now c.args.l c.requires.layout_of_block c.args.keys.now g.keys g.n g.call g.invariant h _ c.call_sets-s.ensures }
+
+pub shape_of-keys-then-n-gt-MAX_KEYS : goal.shape_of-keys-then-n-gt-MAX_KEYS
+shape_of-keys-then-n-gt-MAX_KEYS c =
+    c.refuse_keys-then-n-gt-MAX_KEYS.auto.keys ∙ c.insert_sets-n.auto.keys ∙ c.loop-call.invariant.kept
+
+pub returns-then-n-gt-MAX_KEYS : goal.returns-then-n-gt-MAX_KEYS
+returns-then-n-gt-MAX_KEYS c =
+    let g = c.loop-call in
+    let h = (inside (goal.at.returns-then-n-gt-MAX_KEYS c).In-loop-call).1 in
+    going_refused c.args.file.now c.args.l c.requires.layout_of_block c.args.keys.now g.keys g.n g.call g.invariant _ _ c.insert_sets-n.new.keys _ (c.insert_sets-n.auto.keys ∙ g.invariant.kept)
+    (going_full c.args.file.now c.args.l c.requires.layout_of_block c.args.keys.now g.keys g.n g.call g.invariant h _ c.call_sets-s.ensures c.if-s.false _ _ c.insert_sets-n.ensures _ refl c.if-n-gt-MAX_KEYS.true)
+    c.refuse_keys-then-n-gt-MAX_KEYS.ensures
+
+pub overflow_add-call : goal.overflow_add-call
+overflow_add-call c =
+    omega (arith, inside (goal.at.overflow_add-call c).In-loop-call)
+
+pub loop-call-smaller : goal.loop-call-smaller
+loop-call-smaller c = omega arith
+
+pub loop-call-preserved : goal.loop-call-preserved
+loop-call-preserved c =
+    let g = c.loop-call in
+    let h = (inside (goal.at.loop-call-preserved c).In-loop-call).1 in
+    collecting_more c.args.file.now c.args.l c.requires.layout_of_block c.args.keys.now g.keys g.n g.call g.invariant h _ c.call_sets-s.ensures c.if-s.false _ _ c.insert_sets-n.ensures c.if-n-gt-MAX_KEYS.false
+
+pub shape_of-keys : goal.shape_of-keys
+shape_of-keys c = c.loop-call.invariant.kept
+
+pub returns : goal.returns
+returns c =
+    let g = c.loop-call in
+    collecting_end c.args.file.now c.args.l c.requires.layout_of_block c.args.keys.now g.keys g.n g.call g.invariant c.loop-call-test.false

@@ -1,0 +1,13 @@
+-- `analysis::collect::refuse_keys` meets its contract: the buffer is cleared.
+use mathlib.Core.Path.{ap}
+use mathlib.Core.List.{List}
+use Prim.Native.Nat.{ℕ}
+use Rattle.block.specs.declared.Verdict.TheVariants.{Refused}
+use Rattle.analysis.specs.Collected.{leaving, collected_of}
+use Rattle.analysis.proofs.collect.refuse_keys.Goals as goal
+
+pub returns : goal.returns
+unfolding collected_of
+returns c =
+    let why = c.args.why in
+    ap (λ (t : List ℕ). leaving (record { verdict = Refused why; cells = 0 }) t) c.clear_words.ensures

@@ -1,0 +1,16 @@
+-- `closing::records::put_head` meets its contract: the length and the kind are the bytes of one number.
+use native.Mathlib.Omega.{arith}
+use mathlib.Core.Path.{ap, ◌∙◌}
+use Rattle.wire.specs.Bytes.{stored}
+use Rattle.closing.proofs.Storing.{head_number}
+use Rattle.closing.proofs.records.put_head.Goals as goal
+
+pub overflow_mul-kind : goal.overflow_mul-kind
+overflow_mul-kind c = omega arith
+
+pub overflow_add-size : goal.overflow_add-size
+overflow_add-size c = omega arith
+
+pub returns : goal.returns
+returns c =
+    c.put32.ensures ∙ ap (stored c.args.output.now c.args.at) (head_number c.args.size c.args.kind (omega arith) (omega arith))

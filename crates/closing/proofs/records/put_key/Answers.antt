@@ -1,0 +1,7 @@
+-- `closing::records::put_key` meets its contract: its four parts are stored one behind the other.
+use Rattle.closing.proofs.Storing.{key_behind}
+use Rattle.closing.proofs.records.put_key.Goals as goal
+
+pub returns : goal.returns
+returns c =
+    key_behind c.args.output.now c.args.at c.args.high c.args.low c.put16.ensures c.put16-2.ensures c.put32.ensures c.put32-2.ensures

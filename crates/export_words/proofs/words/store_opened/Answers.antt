@@ -1,0 +1,9 @@
+-- `library::words::store_opened` meets its contract: four words are stored in a cleared head.
+use Rattle.wire.specs.Bytes.{stored}
+use borrow.Author.Rules.{rules}
+use Rattle.export_words.proofs.words.store_opened.Goals as goal
+
+pub returns : goal.returns
+unfolding stored
+returns c =
+    simp (c.put_word-4.ensures, c.put_word-3.ensures, c.put_word-2.ensures, c.put_word.ensures, c.clear_words.ensures)
