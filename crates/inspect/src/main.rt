@@ -1,6 +1,7 @@
 // Lists block.bin of the current folder: `e NUMBER OFFSET` for a refused block; else `n FUNCTIONS CELLS CALLS KEYS`, and `w CALL` with the
 // earlier conflicting calls for each call. A missing file is read as empty. With an argument it only says on standard error what it reads
 // and writes.
+#![tactic(auto)]
 
 fn main(rt: HostRuntime) {
     let usage: &[u8] = b"\

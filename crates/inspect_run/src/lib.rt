@@ -1,4 +1,6 @@
 // The listing of a block, handed to standard output, and `inspect` as a function, with its contract.
+#![tactic(auto)]
+
 ghost use Rattle.std.specs.Prelude.{◌≡◌};
 ghost use Rattle.machine.specs.Run.{fixed_sizes};
 ghost use Rattle.listing.specs.Listing.{listing_of};

@@ -1,5 +1,7 @@
 // Prepares a block in buffers of their fixed sizes, and in such of which one is too short, which `open` refuses before it prepares. A line
 // for each: `p`, the lengths, the verdict, the numbers of calls and of cells, the first call's offset, and the first words and value.
+#![tactic(auto)]
+
 use analysis::prepare;
 use block::Verdict;
 use decoder::numbers::{number_of, offset_of};

@@ -1,5 +1,7 @@
 // Opens blocks, makes moves and serial runs on lent runs and asks for their sheets, with damages in between, as the records of standard input say, and
 // writes what each answers with a hash of the run as it stands then, or of the sheet's output. tools/runner/src/vectors/stream.rs has the form of the records.
+#![tactic(auto)]
+
 mod answer;
 mod change;
 mod close;
@@ -72,8 +74,7 @@ fn run(
             return;
         }
         lent = turn(
-            rt,
-            lent, &record, block, plan, keys, cells, status, seats, frames,
+            rt, lent, &record, block, plan, keys, cells, status, seats, frames,
         );
         left -= 1;
     }

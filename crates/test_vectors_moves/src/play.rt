@@ -148,8 +148,7 @@ fn act(
         return run_serially(rt, head, block, plan, keys, cells, status, seats, frames);
     }
     move_on(
-        rt,
-        head, record, block, plan, keys, cells, status, seats, frames,
+        rt, head, record, block, plan, keys, cells, status, seats, frames,
     )
 }
 

@@ -1,4 +1,6 @@
 // Lists the blocks of standard input, each behind its length in four bytes, little-endian.
+#![tactic(auto)]
+
 use host::{Exchange, FILE_BYTES};
 
 // More blocks than any input here has.
