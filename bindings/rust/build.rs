@@ -5,7 +5,7 @@ use std::path::PathBuf;
 use std::process::exit;
 
 /// The names by which the linker finds the archive: that of this crate, and the
-/// one that `rt staticlib library` gives it. The first that is there is linked.
+/// one that `rt lib` gives it. The first that is there is linked.
 const LIBRARIES: [&str; 2] = ["zumbiqa", "library"];
 
 /// Names the archive's folder, if it is elsewhere.

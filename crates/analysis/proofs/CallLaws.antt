@@ -10,7 +10,7 @@ use borrow.Author.Tests.{ltb-false, le-ltb}
 use lib.Dec.{ltb}
 use lib.ListN.{length, get_or, take, drop, length-map, drop_of_length-le}
 use lib.Seq.{take-suc, drop-cons}
-use Rattle.arith.specs.Choice.{if◌then◌else◌}
+use Rattle.std.specs.Prelude.{if◌then◌else◌}
 use Rattle.wire.specs.Bytes.{padded}
 use Rattle.block.specs.Limits.{max_bytes, max_call_keys, max_keys}
 use Rattle.block.specs.Record.{Block, call_record_bytes}

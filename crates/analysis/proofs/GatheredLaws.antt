@@ -11,7 +11,7 @@ use lib.Bits.{bit_or}
 use lib.Dec.{eqb, ltb}
 use lib.ListN.{length, get_or, set, replicate, length-append, length-map, length-set, get_or-append, get_or-map}
 use lib.Seq.{set-append_left, set-append_seam, map-set_same}
-use Rattle.arith.specs.Choice.{if◌then◌else◌}
+use Rattle.std.specs.Prelude.{if◌then◌else◌}
 use Rattle.wire.specs.Bytes.{repeated, padded}
 use Rattle.wire.specs.Rows.{bit}
 use Rattle.wire.specs.RowOps.{first_of}

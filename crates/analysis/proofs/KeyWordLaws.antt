@@ -11,7 +11,7 @@ use borrow.Author.Tests.{ltb-true, ltb-false, eqb-true, eqb-false, lt-ltb, le-lt
 use lib.Dec.{eqb, ltb}
 use lib.ListN.{length, get_or, take, drop, set, replicate, length-append, length-drop, take-append-drop, get_or-append}
 use lib.Seq.{slice, slice_empty, slice-cons, length-slice, take-suc, set_at, get_or-take, length-take-le, take-append-add, take-append_seam, drop-append-add, drop-append_seam}
-use Rattle.arith.specs.Choice.{if◌then◌else◌}
+use Rattle.std.specs.Prelude.{if◌then◌else◌}
 use Rattle.wire.specs.Bytes.{repeated, padded}
 use Rattle.block.specs.Limits.{max_keys}
 use Rattle.footprint.specs.Conflict.{member}

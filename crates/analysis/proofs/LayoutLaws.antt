@@ -10,7 +10,7 @@ use borrow.Author.Tests.{ltb-false}
 use lib.Dec.{ltb}
 use lib.IntN.{pos}
 use lib.ListN.{length, get_or, drop, length-map, get_or-eq_default}
-use Rattle.arith.specs.Choice.{if◌then◌else◌}
+use Rattle.std.specs.Prelude.{if◌then◌else◌}
 use Rattle.wire.proofs.BytesLaws.{padded_at}
 use Rattle.block.specs.Limits.{max_bytes, max_code}
 use Rattle.block.specs.Record.{Function, Cell, Block, call_record_bytes, call_id, call_of, cell_of}

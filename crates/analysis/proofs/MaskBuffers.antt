@@ -12,7 +12,7 @@ use lib.Bits.{bit_or}
 use lib.Dec.{eqb, lit<}
 use lib.ListN.{length, get_or, set, take, drop, replicate, length-set, length-take, length-drop, length-replicate, length-map, get_or-replicate}
 use lib.Seq.{get_or-set_same, get_or-take, get_or-drop, take_at, ext_get_or}
-use Rattle.arith.specs.Choice.{if◌then◌else◌}
+use Rattle.std.specs.Prelude.{if◌then◌else◌}
 use Rattle.wire.specs.Bytes.{repeated, padded, stored}
 use Rattle.wire.proofs.BytesLaws.{stored_length, stored_before, stored_behind}
 use Rattle.wire.specs.Rows.{row_of, in_row, row_words}

@@ -11,7 +11,7 @@ use lib.Dec.{eqb}
 use lib.IntN.{ℤ, pos}
 use lib.ListN.{length, get_or, take, drop, set, replicate, length-map, replicate-append-replicate}
 use lib.Seq.{take-suc, take_all, set-append_left, length-take-le}
-use Rattle.arith.specs.Choice.{if◌then◌else◌}
+use Rattle.std.specs.Prelude.{if◌then◌else◌}
 use Rattle.wire.specs.Bytes.{repeated, padded}
 use Rattle.block.specs.Limits.{max_bytes}
 use Rattle.block.specs.Record.{Cell, call_record_bytes, cell_of}

@@ -1,6 +1,6 @@
 -- The code of the function that a call names, as the tables of a layout tell it, and the set of a call of a code.
 use Rattle.std.specs.Prelude.{Bool, List, [], ◌∷◌, ℕ, ◌+◌, ◌-◌, ◌≤◌, eqb, ltb, get_or}
-use Rattle.arith.specs.Choice.{if◌then◌else◌}
+use Rattle.std.specs.Prelude.{if◌then◌else◌}
 use Rattle.wire.specs.RowOps.{first_of}
 use Rattle.block.specs.Limits.{max_code, max_functions}
 use Rattle.block.specs.Record.{code_at}

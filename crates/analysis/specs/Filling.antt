@@ -1,6 +1,6 @@
 -- The keys of a call's set inserted into the table one after another, up to the first that does not fit.
 use Rattle.std.specs.Prelude.{◌≡◌, List, [], ◌∷◌, ℕ, zero, suc, ◌+◌, ◌^◌, ◌≤◌, ◌<◌, leb, length, get_or, drop}
-use Rattle.arith.specs.Choice.{if◌then◌else◌}
+use Rattle.std.specs.Prelude.{if◌then◌else◌}
 use Rattle.wire.specs.Bytes.{padded}
 use Rattle.block.specs.Limits.{max_call_keys, max_keys}
 use Rattle.footprint.specs.Plan.{table_words}

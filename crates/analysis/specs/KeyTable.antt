@@ -2,7 +2,7 @@
 -- leaves.
 use Rattle.std.specs.Prelude.{◌≡◌, Bool, ◌&&◌, List, [], ◌∷◌, ◌++◌, ℕ, suc, ◌+◌, ◌*◌, ◌^◌, ◌≤◌, ◌<◌, eqb, ltb, leb, length, get_or, take, drop}
 use Rattle.std.proofs.Math.Seq.{slice}
-use Rattle.arith.specs.Choice.{if◌then◌else◌}
+use Rattle.std.specs.Prelude.{if◌then◌else◌}
 use Rattle.wire.specs.Bytes.{padded}
 use Rattle.block.specs.Limits.{max_keys}
 use Rattle.footprint.specs.Conflict.{member}

@@ -1,7 +1,7 @@
 -- A call's row from masks kept per cell, which calls so far touch it and which write it: what the masks are, what a row takes from them,
 -- and both on the words of two buffers.
 use Rattle.std.specs.Prelude.{◌≡◌, Bool, List, [], ◌∷◌, map, ℕ, ◌*◌, ◌≤◌, ◌<◌, length, get_or, take, drop}
-use Rattle.arith.specs.Choice.{if◌then◌else◌}
+use Rattle.std.specs.Prelude.{if◌then◌else◌}
 use Rattle.wire.specs.Rows.{row_of, row_words}
 use Rattle.wire.specs.Bytes.{stored}
 use Rattle.wire.specs.RowOps.{with_bit, union_of}

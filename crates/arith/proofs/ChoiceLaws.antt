@@ -1,7 +1,7 @@
 -- Laws of choice by a test: what holds of a choice, and what the tests of a test that passes or fails are.
 use mathlib.Core.Path.{◌≡◌, refl}
 use mathlib.Core.Bool.{Bool, true, false, ◌&&◌, ◌||◌, false≢true, true≢false}
-use Rattle.arith.specs.Choice.{if◌then◌else◌}
+use Rattle.std.specs.Prelude.{if◌then◌else◌}
 
 -- What holds at both answers of a test, each under its own, holds at the answer that it has.
 pub by_test : (Q : Bool → Type 0) (t : Bool) → (t ≡ true → Q true) → (t ≡ false → Q false) → Q t

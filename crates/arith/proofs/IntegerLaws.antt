@@ -12,7 +12,7 @@ use lib.Signed.{mag, lt_z, le_z, non_neg}
 use mir.Syntax.{Width, w8, w16, w32, w64, w128}
 use mir.Val.{SFits, bits, hbits, to_z, of_z, sel}
 use borrow.Author.Tests.{ltb-true, ltb-false, leb-true, leb-false, eqb-true, lt-ltb, le-ltb, eq-eqb}
-use Rattle.arith.specs.Choice.{if◌then◌else◌}
+use Rattle.std.specs.Prelude.{if◌then◌else◌}
 use Rattle.arith.specs.Compare.{eq_z}
 use Rattle.arith.specs.Exact.{fits64, checked, floor_by, div_of, signed, unsigned}
 use Rattle.arith.specs.declared.Checked.TheVariants.{Value, Overflow}

@@ -13,7 +13,7 @@ use mir.Syntax.{w64}
 use mir.Val.{Fits, SFits, to_z, of_z}
 use mir.ValLaws.{to_z-of_z, to_z_pos}
 use borrow.Author.Tests.{eq-eqb, ne_eqb, lt-ltb, ltb-true, ltb-false}
-use Rattle.arith.specs.Choice.{if◌then◌else◌}
+use Rattle.std.specs.Prelude.{if◌then◌else◌}
 use Rattle.arith.specs.Compare.{eq_z}
 use Rattle.arith.specs.Exact.{checked, sub_of, mul_of, floor_by, div_of}
 use Rattle.arith.proofs.IntegerLaws.{pos_part, neg_part, equal, sum, diff, P-neg, N-neg, lt_z_true, lt_z_false, eq_z_true, eq_z_false, sfits_parts, parts_sfits, sfits_fits, small_fits, large_fits, checked_value, checked_overflow}

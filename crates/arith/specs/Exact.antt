@@ -1,7 +1,7 @@
 -- Exact arithmetic on values: integers of 64 signed bits. Each operation is the exact one over ℤ, and then a test of its range.
 use Rattle.std.specs.Prelude.{Bool, ℕ, zero, suc, ◌-◌, ◌/◌, ◌^◌, ℤ, pos, negsuc, neg_ℤ, ◌+ℤ◌, ◌-ℤ◌, ◌*ℤ◌, ltb}
 use Rattle.std.specs.Int.Signed.{mag}
-use Rattle.arith.specs.Choice.{if◌then◌else◌}
+use Rattle.std.specs.Prelude.{if◌then◌else◌}
 use Rattle.arith.specs.declared.Checked.{Checked}
 use Rattle.arith.specs.declared.Checked.TheVariants.{Value, Overflow, ZeroDivisor}
 

@@ -3,7 +3,7 @@
 
 ghost use Rattle.std.specs.Prelude.{◌≡◌, pos, negsuc, neg_ℤ, nat_abs, ◌*◌, ◌+◌, ◌^◌, ◌-◌, ◌<◌, ◌≤◌, min, ltb};
 ghost use Rattle.std.specs.Int.Signed.{mag, lt_z};
-ghost use Rattle.arith.specs.Choice.{if◌then◌else◌};
+ghost use Rattle.std.specs.Prelude.{if◌then◌else◌};
 ghost use Rattle.arith.specs.Exact.{checked, add_of, sub_of, mul_of, div_of, signed, unsigned};
 ghost use Rattle.arith.specs.Compare.{eq_z};
 

@@ -9,7 +9,7 @@ use lib.Dec.{eqb, leb, ltb, lit<}
 use lib.IntN.{pos}
 use lib.ListN.{length, drop}
 use lib.Signed.{mag, lt_z, non_neg}
-use Rattle.arith.specs.Choice.{if◌then◌else◌}
+use Rattle.std.specs.Prelude.{if◌then◌else◌}
 use Rattle.arith.proofs.ChoiceLaws.{both}
 use Rattle.arith.specs.Exact.{signed, unsigned}
 use Rattle.arith.proofs.IntegerLaws.{pos_part, clash, lt_z_true, signed_unsigned, unsigned_signed, signed_range, unsigned_range}

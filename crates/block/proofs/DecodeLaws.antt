@@ -9,7 +9,7 @@ use borrow.Author.Tests.{ltb-true, ltb-false, leb-true, eqb-true, eqb-false, not
 use lib.Dec.{eqb, leb, ltb, lit<}
 use lib.ListN.{drop}
 use lib.Signed.{mag}
-use Rattle.arith.specs.Choice.{if◌then◌else◌}
+use Rattle.std.specs.Prelude.{if◌then◌else◌}
 use Rattle.arith.specs.Exact.{signed, unsigned}
 use Rattle.arith.proofs.ChoiceLaws.{if_all, both}
 use Rattle.arith.proofs.IntegerLaws.{unsigned_signed, signed_range}

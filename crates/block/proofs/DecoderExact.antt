@@ -9,7 +9,7 @@ use borrow.Author.Tests.{le-leb, ne_eqb}
 use lib.Dec.{eqb, lit<}
 use lib.ListN.{length, take, drop, take-append-drop}
 use Rattle.arith.specs.Exact.{unsigned}
-use Rattle.arith.specs.Choice.{if◌then◌else◌}
+use Rattle.std.specs.Prelude.{if◌then◌else◌}
 use Rattle.arith.proofs.ChoiceLaws.{or_right}
 use Rattle.arith.proofs.IntegerLaws.{unsigned_range, signed_unsigned}
 use Rattle.wire.specs.Bytes.{number}

@@ -10,7 +10,7 @@ use lib.IntN.{ℤ}
 use lib.ListN.{length, drop, length-append}
 use lib.Seq.{drop-append_seam}
 use lib.Signed.{le_z}
-use Rattle.arith.specs.Choice.{if◌then◌else◌}
+use Rattle.std.specs.Prelude.{if◌then◌else◌}
 use Rattle.arith.proofs.ChoiceLaws.{if_all}
 use Rattle.arith.specs.Balance.{total, largest, none_below_zero, within_limit}
 use Rattle.arith.proofs.BalanceLaws.{BalancesWithin, limit_within, total_front}

@@ -1,6 +1,6 @@
 -- "Instructions": eight bytes and what they say. Everything that these bytes can break is refusal 10.
 use Rattle.std.specs.Prelude.{Bool, true, false, ◌&&◌, ◌||◌, not, List, ℕ, zero, suc, ◌+◌, ◌/◌, ◌%◌, eqb, leb, ltb, drop}
-use Rattle.arith.specs.Choice.{if◌then◌else◌}
+use Rattle.std.specs.Prelude.{if◌then◌else◌}
 use Rattle.arith.specs.Exact.{signed}
 use Rattle.wire.specs.Bytes.{number}
 use Rattle.block.specs.declared.Source.{Source}

@@ -1,7 +1,7 @@
 -- What a call and its instructions name: the call's function, a source's number, the account that PAY pays, the cell of GET and PUT.
 use Rattle.std.specs.Prelude.{Bool, true, false, List, [], ◌∷◌, ℕ, eqb}
 use Rattle.std.proofs.Math.Option.{Option, none, some}
-use Rattle.arith.specs.Choice.{if◌then◌else◌}
+use Rattle.std.specs.Prelude.{if◌then◌else◌}
 use Rattle.block.specs.Key.{contract_cell, payee_of}
 use Rattle.block.specs.Record.{Function, function_id, call_id, argument}
 use Rattle.block.specs.declared.Call.{Call}

@@ -2,7 +2,7 @@
 -- its position.
 use Rattle.std.specs.Prelude.{Bool, true, ◌||◌, not, List, [], ◌∷◌, ◌++◌, map, ℕ, zero, suc, ◌+◌, ◌-◌, ◌*◌, ◌/◌, ℤ, eqb, leb, ltb, length, drop}
 use Rattle.std.specs.Int.Signed.{le_z}
-use Rattle.arith.specs.Choice.{if◌then◌else◌}
+use Rattle.std.specs.Prelude.{if◌then◌else◌}
 use Rattle.arith.specs.Balance.{total, largest}
 use Rattle.wire.specs.Bytes.{number, read_le}
 use Rattle.block.specs.Limits.{max_bytes, max_functions, max_cells, max_calls}

@@ -1,7 +1,7 @@
 -- "Block file": what the bodies of its records hold, and the block they make.
 use Rattle.std.specs.Prelude.{Bool, ◌&&◌, not, List, ◌++◌, ℕ, ◌+◌, ◌-◌, ◌*◌, ◌%◌, ℤ, pos, eqb, leb, ltb, length, take, drop}
 use Rattle.std.specs.Int.Signed.{lt_z, non_neg}
-use Rattle.arith.specs.Choice.{if◌then◌else◌}
+use Rattle.std.specs.Prelude.{if◌then◌else◌}
 use Rattle.arith.specs.Exact.{signed}
 use Rattle.wire.specs.Bytes.{number, read_le, bytes_of}
 use Rattle.block.specs.Limits.{max_code}

@@ -11,7 +11,7 @@ use lib.ListN.{length, length-append}
 use lib.Signed.{non_neg}
 use mir.Syntax.{w64}
 use mir.Val.{SFits}
-use Rattle.arith.specs.Choice.{if◌then◌else◌}
+use Rattle.std.specs.Prelude.{if◌then◌else◌}
 use Rattle.arith.specs.Exact.{unsigned}
 use Rattle.arith.proofs.Laws.{read, read_back}
 use Rattle.wire.specs.Bytes.{bytes_of}

@@ -1,6 +1,6 @@
 -- What one look at the first cells finds.
 use Rattle.std.specs.Prelude.{List, ℕ, ℤ, length}
-use Rattle.arith.specs.Choice.{if◌then◌else◌}
+use Rattle.std.specs.Prelude.{if◌then◌else◌}
 use Rattle.sheet.specs.Sheet.{cell_records, balances_allowed}
 use Rattle.closing.specs.declared.Found.{Found}
 use Rattle.closing.specs.declared.Found.TheVariants.{BelowZero, Records}

@@ -1,6 +1,6 @@
 -- What each exported function answers, and what it leaves in all that it was lent.
 use Rattle.std.specs.Prelude.{Bool, List, [], ◌∷◌, ℕ, ltb, length, get_or}
-use Rattle.arith.specs.Choice.{if◌then◌else◌}
+use Rattle.std.specs.Prelude.{if◌then◌else◌}
 use Rattle.wire.specs.Bytes.{stored, repeated}
 use Rattle.block.specs.Limits.{max_bytes}
 use Rattle.block.specs.Refusal.{verdict_number, verdict_offset}

@@ -1,6 +1,6 @@
 -- A lent run whose head is a list of words too, as programs in other languages lend it.
 use Rattle.std.specs.Prelude.{List, map, ℕ, ◌+◌, min, ℤ, eqb, leb, get_or, set}
-use Rattle.arith.specs.Choice.{if◌then◌else◌}
+use Rattle.std.specs.Prelude.{if◌then◌else◌}
 use Rattle.wire.specs.Bytes.{below}
 use Rattle.block.specs.Limits.{max_workers}
 use Rattle.machine.specs.Run.{Run, held_at}

@@ -10,7 +10,7 @@ use lib.ListN.{get_or, get_elem?, set}
 use lib.Signed.{lt_z, non_neg}
 use Rattle.wire.specs.All.{All}
 use Rattle.footprint.specs.SafeSets.{AlikeOn, LeftAlike}
-use Rattle.arith.specs.Choice.{if◌then◌else◌}
+use Rattle.std.specs.Prelude.{if◌then◌else◌}
 use Rattle.arith.specs.Exact.{add_of, sub_of, mul_of, div_of}
 use Rattle.arith.proofs.IntegerLaws.{clash}
 use Rattle.arith.specs.declared.Checked.{Checked}

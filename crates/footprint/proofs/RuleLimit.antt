@@ -10,7 +10,7 @@ use lib.Dec.{ltb, leb, lit<}
 use lib.ListN.{length, drop}
 use lib.IntN.{ℤ, pos}
 use lib.Signed.{mag, lt_z, non_neg}
-use Rattle.arith.specs.Choice.{if◌then◌else◌}
+use Rattle.std.specs.Prelude.{if◌then◌else◌}
 use Rattle.arith.specs.Exact.{signed}
 use Rattle.arith.proofs.IntegerLaws.{signed_range}
 use Rattle.wire.specs.Bytes.{number, read_le}

@@ -9,7 +9,7 @@ use lib.IntN.{pos}
 use lib.ListN.{drop}
 use lib.Signed.{lt_z}
 use Rattle.footprint.specs.SetsInWords.{read_by, paid_to, written_by, some_of, is_read, is_written, ReadsExact, WritesExact}
-use Rattle.arith.specs.Choice.{if◌then◌else◌}
+use Rattle.std.specs.Prelude.{if◌then◌else◌}
 use Rattle.block.specs.Key.{account_balance, contract_balance}
 use Rattle.block.specs.Instruction.{instr_bytes, decode}
 use Rattle.block.specs.Record.{Function, code_at}

@@ -12,7 +12,7 @@ use lib.Dec.{lit<}
 use lib.IntN.{ℤ, pos, negsuc, neg_ℤ, ◌+ℤ◌, ◌-ℤ◌, ◌*ℤ◌}
 use lib.ListN.{get_or, get_elem?, set}
 use lib.Signed.{mag, lt_z, non_neg}
-use Rattle.arith.specs.Choice.{if◌then◌else◌}
+use Rattle.std.specs.Prelude.{if◌then◌else◌}
 use Rattle.arith.proofs.ChoiceLaws.{if_all, neither}
 use Rattle.arith.specs.Exact.{fits64, checked, floor_by, div_of}
 use Rattle.arith.specs.declared.Checked.{Checked}

@@ -1,6 +1,6 @@
 -- How the entries of calls use cells.
 use Rattle.std.specs.Prelude.{Bool, true, false, ◌&&◌, ◌||◌, List, [], ◌∷◌, map, ℕ, eqb}
-use Rattle.arith.specs.Choice.{if◌then◌else◌}
+use Rattle.std.specs.Prelude.{if◌then◌else◌}
 use Rattle.footprint.specs.Access.{Access}
 use Rattle.footprint.specs.Plan.{entry_cell, entry_writes, entry_word}
 

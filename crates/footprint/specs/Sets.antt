@@ -2,7 +2,7 @@
 use Rattle.std.specs.Prelude.{◌||◌, List, [], ◌∷◌, ◌++◌, map, ℕ, zero, suc, eqb, drop}
 use Rattle.std.proofs.Math.Option.{Option, none, some}
 use Rattle.block.specs.Naming.{function_of}
-use Rattle.arith.specs.Choice.{if◌then◌else◌}
+use Rattle.std.specs.Prelude.{if◌then◌else◌}
 use Rattle.block.specs.Instruction.{instr_bytes, decode}
 use Rattle.block.specs.Record.{Function, code_at}
 use Rattle.block.specs.declared.Call.{Call}

@@ -1,6 +1,6 @@
 -- The table of all keys in opening and sets together, rising; a cell's number is its key's place in it.
 use Rattle.std.specs.Prelude.{true, false, List, [], ◌∷◌, ◌++◌, ℕ, suc, ◌+◌, eqb, ltb, length}
-use Rattle.arith.specs.Choice.{if◌then◌else◌}
+use Rattle.std.specs.Prelude.{if◌then◌else◌}
 use Rattle.block.specs.Limits.{max_call_keys, max_keys}
 use Rattle.block.specs.Record.{Function, call_record_bytes}
 use Rattle.block.specs.declared.Call.{Call}

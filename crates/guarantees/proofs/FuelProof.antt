@@ -14,7 +14,7 @@ use lib.IntN.{ℤ, ◌+ℤ◌}
 use lib.ListN.{get_elem?, drop}
 use lib.Signed.{lt_z, le_z, non_neg}
 use Rattle.arith.specs.Balance.{largest}
-use Rattle.arith.specs.Choice.{if◌then◌else◌}
+use Rattle.std.specs.Prelude.{if◌then◌else◌}
 use Rattle.arith.proofs.ChoiceLaws.{if_all}
 use Rattle.block.specs.Instruction.{is_register, allowed, decode_jump, decode_parts}
 use Rattle.block.specs.Key.{account_balance, is_balance}

@@ -10,7 +10,7 @@ use borrow.Author.Tests.{eqb-true}
 use lib.IntN.{ℤ, pos, ◌-ℤ◌}
 use lib.ListN.{drop, get_elem?}
 use lib.Signed.{lt_z, non_neg}
-use Rattle.arith.specs.Choice.{if◌then◌else◌}
+use Rattle.std.specs.Prelude.{if◌then◌else◌}
 use Rattle.arith.specs.Exact.{add_of, sub_of, mul_of, div_of}
 use Rattle.arith.specs.declared.Checked.{Checked}
 use Rattle.arith.specs.declared.Checked.TheVariants as checked

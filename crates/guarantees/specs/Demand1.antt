@@ -3,7 +3,7 @@
 -- ends" are the contracts, which have no `requires`.
 use Rattle.std.specs.Prelude.{◌≡◌, true, List, [], ◌∷◌, ◌⊎◌, ℕ, suc, ◌+◌, ◌-◌, ◌*◌, ◌%◌, ◌<◌, ◌≤◌, eqb, ℤ, pos, length, get_or, take}
 use Rattle.std.specs.Int.Signed.{non_neg}
-use Rattle.arith.specs.Choice.{if◌then◌else◌}
+use Rattle.arith.specs.Choice.{when◌then◌else◌}
 use Rattle.wire.specs.Bytes.{repeated}
 use Rattle.wire.specs.Rows.{in_row}
 use Rattle.schedule.specs.declared.Move.{Move}
@@ -85,17 +85,17 @@ Before1 s workers = Large s × ((1 ≤ workers) × (workers ≤ max_workers))
 -- "Order: 20 .., 13, 1; by record ..; then by call 11, 12": when an opening is refused by each number with each offset. 2 to 10 are the faults of the file.
 abbrev pub OpeningRefuses : Sizes → (file : List ℕ) (workers n offset : ℕ) → Type 0
 OpeningRefuses s file workers n offset =
-    if eqb n 20
+    when eqb n 20
     then (Large s → ⊥) × (offset ≡ 0)
-    else if eqb n 13
+    else when eqb n 13
     then Large s × ((1 ≤ workers) × (workers ≤ max_workers) → ⊥) × (offset ≡ 0)
-    else if eqb n 1
+    else when eqb n 1
     then Before1 s workers × (max_bytes < length file) × (offset ≡ 0)
-    else if eqb n 11
+    else when eqb n 11
     then
     Before1 s workers
     × ((t : Contents) × HoldsContents file t × Over24 (all_sets file (block_for t)) (opening_keys (block_for t)) (block_for t).first_call offset)
-    else if eqb n 12
+    else when eqb n 12
     then
     Before1 s workers
     × ((t : Contents) × HoldsContents file t × Over1024 (all_sets file (block_for t)) (opening_keys (block_for t)) (block_for t).first_call offset)
@@ -168,17 +168,17 @@ pub record Before25 (r : Run) (worker call : ℕ) : Type 0 where
 -- BEGIN looks at this number alone": when BEGIN gives each number, 0 for accepted, 20 apart.
 abbrev pub BeginGives : Run → (worker call n : ℕ) → Type 0
 BeginGives r worker call n =
-    if eqb n 0
+    when eqb n 0
     then Before25 r worker call × (wait_count r.status call ≡ 0) × EntriesIn r call
-    else if eqb n 21
+    else when eqb n 21
     then Before21 r × (r.head.workers ≤ worker)
-    else if eqb n 22
+    else when eqb n 22
     then Before22 r worker × (r.head.calls ≤ call)
-    else if eqb n 23
+    else when eqb n 23
     then Before23 r worker call × (held_in r worker ≡ 0 → ⊥)
-    else if eqb n 24
+    else when eqb n 24
     then Before24 r worker call × (state_of r.status call ≡ waiting → ⊥)
-    else if eqb n 25
+    else when eqb n 25
     then Before25 r worker call × (wait_count r.status call ≡ 0 → ⊥)
     else ⊥
 
@@ -187,9 +187,9 @@ BeginGives r worker call n =
 -- "21 no such worker", "26 worker holds none": when STEP and CANCEL are refused by each number, 20 apart.
 abbrev pub HeldRefuses : Run → (worker n : ℕ) → Type 0
 HeldRefuses r worker n =
-    if eqb n 21
+    when eqb n 21
     then Before21 r × (r.head.workers ≤ worker)
-    else if eqb n 26
+    else when eqb n 26
     then Before21 r × (worker < r.head.workers) × (held_in r worker ≡ 0)
     else ⊥
 
@@ -249,11 +249,11 @@ pub record Writable (r : Run) (output : List ℕ) : Type 0 where
 -- "27 sheet wanted with a call unfinished; 28 sheet longer than the output buffer": when the sheet gives each number, 0 for written, 20 apart.
 abbrev pub SheetGives : Run → (output : List ℕ) (n : ℕ) → Type 0
 SheetGives r output n =
-    if eqb n 0
+    when eqb n 0
     then Writable r output
-    else if eqb n 27
+    else when eqb n 27
     then Before27 r × ((call : ℕ) × (call < r.head.calls) × (CallFinished r call → ⊥))
-    else if eqb n 28
+    else when eqb n 28
     then Before28 r × (length output < length (sheet_bytes r))
     else ⊥
 

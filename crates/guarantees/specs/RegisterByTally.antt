@@ -1,7 +1,7 @@
 -- REGISTER by the tally: what it prints of an accepted block, from the file and the input alone. No run is mentioned but the serial one.
 use Rattle.std.specs.Prelude.{◌≡◌, Bool, true, false, ◌&&◌, List, [], ◌∷◌, ◌++◌, ℕ, zero, suc, eqb, take}
 use Rattle.std.proofs.Math.Option.{Option, none, some}
-use Rattle.arith.specs.Choice.{if◌then◌else◌}
+use Rattle.std.specs.Prelude.{if◌then◌else◌}
 use Rattle.wire.specs.Decimal.{line_feed}
 use Rattle.block.specs.Limits.{max_workers}
 use Rattle.block.specs.Encoding.{AreBytes}

@@ -2,7 +2,7 @@
 use Rattle.std.specs.Prelude.{◌≡◌, Bool, true, false, ◌&&◌, List, [], ◌∷◌, ℕ, ◌+◌, ◌<◌, eqb, ℤ, pos, ◌-ℤ◌}
 use Rattle.std.proofs.Math.Option.{some}
 use Rattle.std.specs.Int.Signed.{lt_z}
-use Rattle.arith.specs.Choice.{if◌then◌else◌}
+use Rattle.std.specs.Prelude.{if◌then◌else◌}
 use Rattle.schedule.specs.declared.Move.{Move}
 use Rattle.block.specs.Key.{withdrawn, balance_of0, contract_balance}
 use Rattle.block.specs.Outcomes.{ended, not_paid}

@@ -12,7 +12,7 @@ use lib.Dec.{eqb}
 use lib.IntN.{ℤ, pos, ◌+ℤ◌, ◌-ℤ◌}
 use lib.ListN.{length, get_or, get_elem?, drop}
 use lib.Signed.{lt_z}
-use Rattle.arith.specs.Choice.{if◌then◌else◌}
+use Rattle.std.specs.Prelude.{if◌then◌else◌}
 use Rattle.arith.proofs.IntegerLaws.{equal, sum, diff, lt_z_true, lt_z_false, non_neg_true}
 use Rattle.wire.specs.Bytes.{padded}
 use Rattle.block.specs.Limits.{max_call_keys, max_keys}

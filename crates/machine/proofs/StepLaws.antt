@@ -11,7 +11,7 @@ use lib.Signed.{lt_z, le_z, non_neg}
 use lib.Dec.{eqb, leb, ltb}
 use lib.ListN.{length, drop, length-set}
 use Rattle.arith.specs.Balance.{largest}
-use Rattle.arith.specs.Choice.{if◌then◌else◌}
+use Rattle.std.specs.Prelude.{if◌then◌else◌}
 use Rattle.arith.proofs.ChoiceLaws.{if_all, by_test}
 use Rattle.arith.specs.Exact.{add_of, sub_of, mul_of, div_of}
 use Rattle.arith.specs.Compare.{eq_z}

@@ -9,7 +9,7 @@ use lib.IntN.{ℤ, pos}
 use lib.Dec.{ltb}
 use lib.ListN.{length, get_or, set}
 use lib.Signed.{lt_z, non_neg}
-use Rattle.arith.specs.Choice.{if◌then◌else◌}
+use Rattle.std.specs.Prelude.{if◌then◌else◌}
 use Rattle.arith.specs.Compare.{eq_z}
 use Rattle.arith.specs.Exact.{add_of, sub_of, mul_of, div_of}
 use Rattle.arith.proofs.IntegerLaws.{pos_part, neg_part, equal, lt_z_true, lt_z_false, ne_eq_z, eq_eq_z}

@@ -3,7 +3,7 @@
 use Rattle.std.specs.Prelude.{Bool, List, ℕ, ◌+◌, ℤ, pos, get_or, set}
 use Rattle.std.specs.Int.Signed.{lt_z, non_neg}
 use Rattle.block.specs.Outcomes.{ended, balance_too_low, thrown, out_of_range, not_paid, zero_divisor}
-use Rattle.arith.specs.Choice.{if◌then◌else◌}
+use Rattle.std.specs.Prelude.{if◌then◌else◌}
 use Rattle.arith.specs.Exact.{add_of, sub_of, mul_of, div_of}
 use Rattle.arith.specs.Compare.{eq_z}
 use Rattle.arith.specs.declared.Checked.{Checked}

@@ -6,7 +6,7 @@
 -- 20 for a value is tested where the test or the change first uses that value".
 use Rattle.std.specs.Prelude.{Bool, ◌||◌, not, List, [], ◌∷◌, ℕ, ◌+◌, ◌-◌, ◌*◌, eqb, leb, ltb, drop}
 use Rattle.footprint.specs.Plan.{code_start, code_length, key_count}
-use Rattle.arith.specs.Choice.{if◌then◌else◌}
+use Rattle.std.specs.Prelude.{if◌then◌else◌}
 use Rattle.block.specs.Limits.{max_calls, max_code, max_workers}
 use Rattle.block.specs.Record.{head_bytes, call_record_bytes, call_of}
 use Rattle.block.specs.declared.Call.{Call}

@@ -1,6 +1,6 @@
 -- The opening: what the head and every lent buffer hold afterwards, accepted or refused.
 use Rattle.std.specs.Prelude.{◌||◌, not, List, ℕ, pos, eqb, ltb}
-use Rattle.arith.specs.Choice.{if◌then◌else◌}
+use Rattle.std.specs.Prelude.{if◌then◌else◌}
 use Rattle.wire.specs.Bytes.{repeated}
 use Rattle.block.specs.Limits.{max_workers}
 use Rattle.block.specs.Reader.{read_block}

@@ -1,6 +1,6 @@
 -- "Serial run: calls 0, 1, .. each begun and stepped to its end."
 use Rattle.std.specs.Prelude.{Bool, true, false, List, [], ◌∷◌, ℕ, zero, suc, min, eqb}
-use Rattle.arith.specs.Choice.{if◌then◌else◌}
+use Rattle.std.specs.Prelude.{if◌then◌else◌}
 use Rattle.wire.specs.Bytes.{below}
 use Rattle.block.specs.Limits.{max_calls, max_fuel}
 use Rattle.machine.specs.Run.{Run, held_at}

@@ -2,7 +2,7 @@
 -- else.
 use Rattle.std.specs.Prelude.{Bool, true, ◌&&◌, ◌||◌, not, List, [], ◌∷◌, ℕ, ◌+◌, ◌-◌, ◌*◌, ◌%◌, ℤ, pos, ◌+ℤ◌, ◌-ℤ◌, eqb, leb, ltb, length, get_or, drop, set}
 use Rattle.std.specs.Int.Signed.{lt_z, le_z, non_neg}
-use Rattle.arith.specs.Choice.{if◌then◌else◌}
+use Rattle.std.specs.Prelude.{if◌then◌else◌}
 use Rattle.arith.specs.Balance.{largest}
 use Rattle.block.specs.Limits.{max_call_keys, max_keys}
 use Rattle.block.specs.Key.{is_balance}

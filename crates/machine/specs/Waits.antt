@@ -1,7 +1,7 @@
 -- M-100: "Each call shall carry the number of its earlier conflicting calls still unfinished." What is counted, how it is set at the opening, and how
 -- a finish lowers it.
 use Rattle.std.specs.Prelude.{Bool, true, ◌&&◌, ◌||◌, not, List, ℕ, zero, suc, ◌-◌, eqb, leb, ltb}
-use Rattle.arith.specs.Choice.{if◌then◌else◌}
+use Rattle.std.specs.Prelude.{if◌then◌else◌}
 use Rattle.wire.specs.Rows.{in_row}
 use Rattle.schedule.specs.Tally.{unfinished_earlier}
 use Rattle.machine.specs.Run.{row_in, state_of, finished, wait_count, with_wait}

@@ -9,7 +9,7 @@ use borrow.Author.Tests.{eq-eqb, ne_eqb, lt-ltb, le-ltb, le-leb, lt-leb, leb-fal
 use lib.Dec.{eqb, leb, ltb}
 use lib.IntN.{ℤ}
 use lib.ListN.{get_or, set}
-use Rattle.arith.specs.Choice.{if◌then◌else◌}
+use Rattle.std.specs.Prelude.{if◌then◌else◌}
 use Rattle.block.specs.Limits.{max_calls, max_call_keys}
 use Rattle.machine.specs.Run.{Run, entries_of, held_at, large_enough, sizes_of, state_of, wait_count, with_held, with_regs, with_saved, with_seat, zero_registers}
 use Rattle.machine.specs.Step.{restorable, saved_of}

@@ -7,7 +7,7 @@ use native.Mathlib.Omega.{arith}
 use borrow.Author.Tests.{le-leb, lt-leb, le-ltb, lt-ltb}
 use lib.Dec.{eqb}
 use lib.ListN.{length, get_or, take, drop}
-use Rattle.arith.specs.Choice.{if◌then◌else◌}
+use Rattle.std.specs.Prelude.{if◌then◌else◌}
 use Rattle.block.specs.Limits.{max_calls, max_call_keys, max_keys}
 use Rattle.footprint.specs.Plan.{plan_words, high_word, low_word, entry_cell, entry_reads, entry_writes}
 use Rattle.footprint.specs.Access.{Access}

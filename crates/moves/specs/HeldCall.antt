@@ -1,6 +1,6 @@
 -- What STEP and CANCEL test of what the worker holds, in the type of their definition, and what is known of the held call.
 use Rattle.std.specs.Prelude.{◌||◌, ℕ, ◌-◌, ◌≤◌, ◌<◌, eqb, ltb}
-use Rattle.arith.specs.Choice.{if◌then◌else◌}
+use Rattle.std.specs.Prelude.{if◌then◌else◌}
 use Rattle.block.specs.Limits.{max_calls}
 use Rattle.machine.specs.Moves as definition
 use Rattle.machine.specs.declared.Answer.TheVariants.{Damaged, WorkerIdle}

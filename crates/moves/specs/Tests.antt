@@ -1,6 +1,6 @@
 -- What the tests of a move find, as the code answers it: how a move goes on behind them.
 use Rattle.std.specs.Prelude.{Bool, ◌||◌, not, ℕ, ◌≤◌, eqb, leb, ltb}
-use Rattle.arith.specs.Choice.{if◌then◌else◌}
+use Rattle.std.specs.Prelude.{if◌then◌else◌}
 use Rattle.block.specs.Limits.{max_calls, max_call_keys, max_workers}
 use Rattle.machine.specs.Run.{Run}
 use Rattle.machine.specs.Moves.{Moved, waits_by_count, begin_checked}

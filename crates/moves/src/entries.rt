@@ -1,6 +1,6 @@
 // A call's entries in the plan: their number, whether they can be used to keep and to restore, the old values kept, and the cells restored.
 ghost use Rattle.std.specs.Prelude.{◌≡◌, ◌&&◌, ◌||◌, not, ◌%◌, ◌≤◌, ◌<◌, eqb, ltb, pos, length, set};
-ghost use Rattle.arith.specs.Choice.{if◌then◌else◌};
+ghost use Rattle.std.specs.Prelude.{if◌then◌else◌};
 ghost use Rattle.block.specs.Limits.{max_calls, max_call_keys, max_keys, max_workers};
 ghost use Rattle.machine.specs.Run.{fixed_sizes, entries_of, saved_in, with_saved};
 ghost use Rattle.footprint.specs.Plan.{entry_cell, entry_writes};

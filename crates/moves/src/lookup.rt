@@ -1,6 +1,6 @@
 // Where a call keeps a cell: the search among its entries for a key with the wanted flags.
 ghost use Rattle.std.specs.Prelude.{◌≡◌, ◌&&◌, ◌||◌, not, ◌*◌, ◌≤◌, ◌<◌, length};
-ghost use Rattle.arith.specs.Choice.{if◌then◌else◌};
+ghost use Rattle.std.specs.Prelude.{if◌then◌else◌};
 ghost use Rattle.block.specs.Limits.{max_calls, max_keys};
 ghost use Rattle.footprint.specs.Plan.{key_words, plan_words, entry_cell, entry_reads, entry_writes};
 ghost use Rattle.machine.specs.Run.{has_key, plan_word};

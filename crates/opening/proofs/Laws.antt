@@ -8,7 +8,7 @@ use borrow.Author.Tests.{leb-true}
 use lib.Dec.{eqb, leb, ltb}
 use lib.IntN.{ℤ, pos}
 use lib.ListN.{length}
-use Rattle.arith.specs.Choice.{if◌then◌else◌}
+use Rattle.std.specs.Prelude.{if◌then◌else◌}
 use Rattle.arith.proofs.ChoiceLaws.{both, if_all}
 use Rattle.wire.specs.Bytes.{repeated}
 use Rattle.block.specs.Limits.{max_calls, max_workers}

@@ -1,6 +1,6 @@
 -- What `open` answers, put together with the buffers that it leaves.
 use Rattle.std.specs.Prelude.{◌≡◌, Bool, ◌||◌, not, List, ℕ, eqb, ltb, ℤ}
-use Rattle.arith.specs.Choice.{if◌then◌else◌}
+use Rattle.std.specs.Prelude.{if◌then◌else◌}
 use Rattle.block.specs.Limits.{max_workers}
 use Rattle.block.specs.Refusal.{verdict_number, verdict_offset}
 use Rattle.block.specs.declared.Refusal.{Refusal}

@@ -5,8 +5,6 @@ use mathlib.Core.List.{List, [], ◌∷◌}
 use mathlib.Core.Option.{Option, none, some}
 use Prim.Native.Nat.{ℕ, zero, suc}
 use native.Mathlib.Nat.{add-zero}
-use denote.Enum.Declared.{tag_of}
-use types.Run.{OneOf, miss}
 use Rattle.wire.specs.Bytes.{stored}
 use Rattle.wire.specs.Decimal.{line_feed}
 use Rattle.schedule.specs.declared.Move.{Move}
@@ -21,7 +19,6 @@ use Rattle.console.specs.Line.{is_empty, line_move}
 use Rattle.console.specs.Register.{answer_text, next_number, after_move, play_move, play_line, play_byte, play_bytes, play_end}
 use Rattle.console.specs.declared.Line.{Line}
 use Rattle.console.specs.declared.Line.TheVariants.{Empty, Named, Spaced, First, Between, Second, Malformed}
-use Rattle.console.specs.contracts.Line
 use Rattle.play.specs.Shown.{Shown, fresh_session, shown, shown_from}
 
 -- An accepted move has no text, every other answer the line of a refused move.
@@ -58,13 +55,10 @@ module _ (block : List ℕ) (number : ℕ) (line : Line) (run : Run) (out after 
       ∙ ap (λ (r : Moved). shown out from (after_move (fresh_session number line run) r)) made
       ∙ ap (λ (o : Option Move). shown out from (play_move block (fresh_session number line run) o)) e
 
--- At the input's end a line that is not empty is played; the others stand in the order of the type.
-abbrev some_read : List ℕ
-some_read = 1 ∷ 2 ∷ 3 ∷ 4 ∷ 5 ∷ 6 ∷ []
-
-not_empty : (line : Line) → OneOf some_read (tag_of Line.the_type line) → is_empty line ≡ false
+-- At the input's end a line that is not empty is played.
+not_empty : (line : Line) → (line ≡ Empty → ⊥) → is_empty line ≡ false
 unfolding is_empty
-not_empty Empty h = absurd (miss some_read 0 tt h)
+not_empty Empty h = absurd (h refl)
 not_empty (Named l) h = refl
 not_empty (Spaced l) h = refl
 not_empty (First l digits n) h = refl
@@ -79,7 +73,7 @@ unfolding play_end is_empty stored
 end_empty block number line run out e = rw e refl
 
 -- Every other rest is played as a line feed behind it would play it.
-pub end_line : (block : List ℕ) (number : ℕ) (line : Line) (run : Run) (out : List ℕ) → OneOf some_read (tag_of Line.the_type line)
+pub end_line : (block : List ℕ) (number : ℕ) (line : Line) (run : Run) (out : List ℕ) → (line ≡ Empty → ⊥)
     → {w : Shown} → w ≡ shown out 0 (play_bytes block (fresh_session number line run) (line_feed ∷ [])) → w ≡ shown out 0 (play_end block (fresh_session number line run))
 unfolding play_end play_bytes play_byte
 end_line block number line run out h e = rw (not_empty line h) e

@@ -10,7 +10,7 @@ use lib.ListN.{length, get_or, drop, length-append}
 use lib.Seq.{drop-append_seam}
 use Rattle.block.proofs.ContentsLaws.{head_length, head_kind, head_behind}
 use Rattle.text.proofs.TextSizes.{line_fits}
-use Rattle.arith.specs.Choice.{if◌then◌else◌}
+use Rattle.std.specs.Prelude.{if◌then◌else◌}
 use Rattle.arith.specs.Exact.{unsigned}
 use Rattle.wire.specs.Bytes.{number, read_le, bytes_of, repeated}
 use Rattle.wire.proofs.BytesLaws.{read_first, bytes_of_lt}

@@ -1,4 +1,6 @@
 // REGISTER's input as code: move lines read byte by byte, each whole line played on a lent run, the answers and the sheet as text.
+#![tactic(auto)]
+
 pub mod apply;
 pub mod input;
 pub mod line;

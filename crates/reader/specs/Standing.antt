@@ -1,7 +1,7 @@
 -- How the reader's numbers stand for the block read so far, and its turns for those of the definition.
 use Rattle.std.specs.Prelude.{◌≡◌, Bool, not, List, [], ◌∷◌, ◌++◌, map, ℕ, ◌+◌, ◌*◌, ◌^◌, ◌<◌, ◌≤◌, eqb, pos, length}
 use Rattle.std.specs.Int.Signed.{lt_z}
-use Rattle.arith.specs.Choice.{if◌then◌else◌}
+use Rattle.std.specs.Prelude.{if◌then◌else◌}
 use Rattle.arith.specs.Balance.{total}
 use Rattle.arith.specs.Exact.{signed}
 use Rattle.block.specs.Record.{Block, function_id, head_bytes, function_kind, cell_kind, call_kind}

@@ -1,7 +1,7 @@
 // An opening cell's record: its key and value, the order of keys, and the sum of balances.
 ghost use Rattle.std.specs.Prelude.{◌≡◌, eqb, leb, ◌+◌, ◌*◌, ◌^◌, ◌-◌, ◌<◌, ◌≤◌};
 ghost use Rattle.block.specs.Limits.{max_bytes, max_cells};
-ghost use Rattle.arith.specs.Choice.{if◌then◌else◌};
+ghost use Rattle.std.specs.Prelude.{if◌then◌else◌};
 ghost use Rattle.block.specs.Record.{Block, head_bytes};
 ghost use Rattle.block.specs.Reader.{read_cell};
 ghost use Rattle.reader.specs.Standing.{value_allowed, Steady, after_cell, NumbersOfBlock, TurnFollows};

@@ -5,7 +5,7 @@ use Rattle.std.proofs.Math.Option.{Option, none, some}
 use Rattle.std.specs.Int.Signed.{lt_z, non_neg}
 use Rattle.std.proofs.Math.ListN.{get_elem?}
 use Rattle.block.specs.Outcomes.{ended, unknown_function, balance_too_low, thrown, out_of_range, not_paid, zero_divisor, out_of_fuel}
-use Rattle.arith.specs.Choice.{if◌then◌else◌}
+use Rattle.std.specs.Prelude.{if◌then◌else◌}
 use Rattle.arith.specs.Exact.{add_of, sub_of, mul_of, div_of}
 use Rattle.arith.specs.Balance.{within_limit}
 use Rattle.arith.specs.declared.Checked.{Checked}

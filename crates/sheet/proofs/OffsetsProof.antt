@@ -9,7 +9,7 @@ use lib.Dec.{eqb}
 use lib.IntN.{ℤ}
 use lib.ListN.{length, get_or, take, drop, length-append}
 use lib.Seq.{take-append_seam, get_or-append_seam}
-use Rattle.arith.specs.Choice.{if◌then◌else◌}
+use Rattle.std.specs.Prelude.{if◌then◌else◌}
 use Rattle.arith.specs.Exact.{unsigned}
 use Rattle.arith.proofs.ChoiceLaws.{if_all}
 use Rattle.wire.specs.Bytes.{number, read_le, bytes_of}

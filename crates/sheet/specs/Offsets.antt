@@ -1,7 +1,7 @@
 -- Request M-102 of document 02, "Sheet offsets": the offset of each record of a sheet, by the sheet's own bytes, and what a sheet answers. That
 -- the writer carries these offsets from record to record is `Carried` of the crate `closing`.
 use Rattle.std.specs.Prelude.{◌≡◌, List, [], ◌++◌, ℕ, zero, suc, ◌+◌, ◌-◌, ◌<◌, ℤ, eqb, length, get_or, take, drop}
-use Rattle.arith.specs.Choice.{if◌then◌else◌}
+use Rattle.std.specs.Prelude.{if◌then◌else◌}
 use Rattle.arith.specs.Exact.{unsigned}
 use Rattle.wire.specs.Bytes.{read_le, bytes_of}
 use Rattle.block.specs.Record.{head_bytes, recordOf, cell_kind, receipt_kind, end_kind}

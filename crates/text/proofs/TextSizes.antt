@@ -7,7 +7,7 @@ use native.Mathlib.Omega.{arith}
 use borrow.Author.Tests.{ltb-false}
 use lib.Dec.{ltb}
 use lib.ListN.{length, length-append}
-use Rattle.arith.specs.Choice.{if◌then◌else◌}
+use Rattle.std.specs.Prelude.{if◌then◌else◌}
 use Rattle.wire.specs.Decimal.{digits_of, decimal, zero_digit, parts, text_line}
 use Rattle.text.specs.Lines.{passing}
 use Rattle.text.specs.Written.{spaced}

@@ -1,6 +1,6 @@
 -- The lines of text that the programs print.
 use Rattle.std.specs.Prelude.{Bool, List, [], ◌∷◌, map, ℕ, zero, suc, ◌+◌, ℤ}
-use Rattle.arith.specs.Choice.{if◌then◌else◌}
+use Rattle.std.specs.Prelude.{if◌then◌else◌}
 use Rattle.wire.specs.Decimal.{decimal, signed_decimal, text_line}
 use Rattle.wire.specs.Rows.{in_row}
 

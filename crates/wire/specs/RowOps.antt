@@ -1,7 +1,7 @@
 -- A row that stands among words, a row with one bit more, and the union of two rows; the first position that passes a test, and how many do.
 use Rattle.std.specs.Prelude.{Bool, List, [], ◌∷◌, ℕ, zero, suc, ◌+◌, ◌/◌, ◌%◌, ◌^◌, leb, length, get_or, set, take}
 use Rattle.std.specs.Int.Bits.{bit_or}
-use Rattle.arith.specs.Choice.{if◌then◌else◌}
+use Rattle.std.specs.Prelude.{if◌then◌else◌}
 use Rattle.wire.specs.Rows.{bit, row_words}
 
 -- The row that the first words are; an empty row where there are too few.

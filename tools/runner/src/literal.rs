@@ -10,11 +10,10 @@ use crate::machine::open;
 const CASES_PER_MODULE: usize = 34;
 
 /// What stands in a module before its cases.
-const HEADER: &str = "use mathlib.Core.Path.{_≡_, refl}
-use mathlib.Core.List.{List, [], _∷_}
-use Rattle·block.specs.Assemble.{text}
-use Rattle·console.specs.Computing as console
-use Rattle·cases·specs.specs.Case.{Case, case, unpack, same, failures}
+const HEADER: &str = "use Rattle.std.specs.Prelude.{◌≡◌, refl, List, [], ◌∷◌}
+use Rattle.block.specs.Assemble.{text}
+use Rattle.console.specs.Computing as console
+use Rattle.cases.specs.Case.{Case, case, unpack, same, failures}
 
 unfoldable pub cases : List Case
 cases =
@@ -76,6 +75,7 @@ fn numeral(bytes: &[u8]) -> String {
 /// A byte string as a quoted text, each byte the character of that number.
 fn quoted(bytes: &[u8]) -> String {
     let escaped = bytes.iter().map(|&byte| match byte {
+        0 => "\\0".to_string(),
         b'\n' => "\\n".to_string(),
         b'\r' => "\\r".to_string(),
         b'\t' => "\\t".to_string(),

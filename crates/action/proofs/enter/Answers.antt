@@ -1,4 +1,5 @@
 -- `action::enter` meets its contract: the test of the value is the definition's.
+use borrow.Author.Rules.{rules}
 use lib.IntN.{pos}
 use lib.Signed.{lt_z}
 use Rattle.arith.proofs.Laws.{read_back}
@@ -10,10 +11,10 @@ pub returns-then-amount-gt0 : goal.returns-then-amount-gt0
 unfolding entry_action
 returns-then-amount-gt0 c =
     simp (
-      test_read (lt_z (pos 0)) {z = c.args.c.value} (record { sfits = c.struct_told-1.given.1.1.1.0.1 }) c.if-amount-gt0.true,
-      read_back {z = c.args.c.value} (record { sfits = c.struct_told-1.given.1.1.1.0.1 }),
+      test_read (lt_z (pos 0)) {z = c.args.c.value} (search rules) c.if-amount-gt0.true,
+      read_back {z = c.args.c.value} (search rules),
     )
 
 pub returns : goal.returns
 unfolding entry_action
-returns c = simp (test_read (lt_z (pos 0)) {z = c.args.c.value} (record { sfits = c.struct_told-1.given.1.1.1.0.1 }) c.if-amount-gt0.false)
+returns c = simp (test_read (lt_z (pos 0)) {z = c.args.c.value} (search rules) c.if-amount-gt0.false)

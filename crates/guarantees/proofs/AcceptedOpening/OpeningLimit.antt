@@ -9,7 +9,7 @@ use borrow.Author.Tests.{eqb-true, ne_eqb}
 use lib.Dec.{eqb}
 use lib.IntN.{ℤ, pos, ◌+ℤ◌}
 use lib.Signed.{non_neg}
-use Rattle.arith.specs.Choice.{if◌then◌else◌}
+use Rattle.std.specs.Prelude.{if◌then◌else◌}
 use Rattle.arith.proofs.ChoiceLaws.{both}
 use Rattle.arith.specs.Balance.{total, none_below_zero, within_limit}
 use Rattle.arith.proofs.BalanceLaws.{BalancesWithin, limit_within, within_limit_lem, total_from_zero}

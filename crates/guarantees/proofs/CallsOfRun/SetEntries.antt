@@ -7,7 +7,7 @@ use native.Mathlib.Omega.{arith}
 use borrow.Author.Tests.{eqb-false, eqb-true}
 use lib.Dec.{eqb}
 use lib.ListN.{length}
-use Rattle.arith.specs.Choice.{if◌then◌else◌}
+use Rattle.std.specs.Prelude.{if◌then◌else◌}
 use Rattle.arith.proofs.ChoiceLaws.{neither}
 use Rattle.block.specs.Limits.{max_keys}
 use Rattle.schedule.proofs.RunLaws.{one_answer}

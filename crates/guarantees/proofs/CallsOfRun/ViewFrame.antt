@@ -8,7 +8,7 @@ use lib.IntN.{ℤ, ◌+ℤ◌, ◌-ℤ◌}
 use lib.Signed.{lt_z, le_z, non_neg}
 use lib.Dec.{ltb}
 use lib.ListN.{length, set, length-set}
-use Rattle.arith.specs.Choice.{if◌then◌else◌}
+use Rattle.std.specs.Prelude.{if◌then◌else◌}
 use Rattle.arith.specs.Balance.{largest}
 use Rattle.block.specs.Limits.{max_keys}
 use Rattle.block.specs.Key.{is_balance}

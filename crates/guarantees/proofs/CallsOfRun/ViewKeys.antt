@@ -8,7 +8,7 @@ use lib.IntN.{ℤ}
 use lib.Signed.{lt_z, non_neg}
 use lib.Dec.{eqb, leb, ltb}
 use lib.ListN.{length, get_or, drop}
-use Rattle.arith.specs.Choice.{if◌then◌else◌}
+use Rattle.std.specs.Prelude.{if◌then◌else◌}
 use Rattle.block.specs.Limits.{max_call_keys, max_keys}
 use Rattle.block.specs.Instruction.{instr_bytes, decode}
 use Rattle.block.specs.declared.Decoded.{Decoded}

@@ -7,7 +7,7 @@ use Prim.Native.Nat.{ℕ, zero, suc, ◌+◌, ◌≤◌, ◌<◌}
 use native.Mathlib.Omega.{arith}
 use lib.IntN.{ℤ}
 use lib.Dec.{eqb, leb, ltb}
-use Rattle.arith.specs.Choice.{if◌then◌else◌}
+use Rattle.std.specs.Prelude.{if◌then◌else◌}
 use Rattle.block.specs.Limits.{max_calls, max_keys}
 use Rattle.block.specs.Record.{recordOf, end_kind}
 use Rattle.machine.specs.Run.{Run, Sizes, sizes_of, large_enough, status_word, state_of, is_state, finished}

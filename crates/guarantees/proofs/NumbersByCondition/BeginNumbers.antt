@@ -6,7 +6,7 @@ use Prim.Native.Nat.{ℕ, ◌%◌}
 use native.Mathlib.Omega.{arith}
 use borrow.Author.Tests.{ltb-false, le-ltb, lt-leb, leb-true, leb-false, le-leb, eqb-true, eqb-false, eq-eqb, ne_eqb, not-true, not-false}
 use lib.Dec.{eqb, leb, ltb}
-use Rattle.arith.specs.Choice.{if◌then◌else◌}
+use Rattle.std.specs.Prelude.{if◌then◌else◌}
 use Rattle.arith.proofs.ChoiceLaws.{if_all, neither}
 use Rattle.block.specs.Limits.{max_calls, max_call_keys, max_keys, max_workers}
 use Rattle.wire.specs.All.{All}

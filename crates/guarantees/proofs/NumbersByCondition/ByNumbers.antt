@@ -5,7 +5,7 @@ use Prim.Native.Nat.{ℕ}
 use native.Mathlib.Omega.{arith}
 use borrow.Author.Tests.{eqb-true}
 use lib.Dec.{eqb}
-use Rattle.arith.specs.Choice.{if◌then◌else◌}
+use Rattle.arith.specs.Choice.{when◌then◌else◌}
 use Rattle.machine.specs.Run.{Run}
 use Rattle.machine.specs.Answer.{answer_number}
 use Rattle.machine.specs.declared.Answer.{Answer}
@@ -13,7 +13,7 @@ use Rattle.machine.specs.declared.Answer.TheVariants as answer
 use Rattle.guarantees.specs.Demand1.{Exactly, BeginGives, HeldRefuses}
 
 -- What a condition that is chosen by a test gives.
-pub chosen : (C : Type 0) (t : Bool) {A B : Type 0} → (t ≡ true → A → C) → (t ≡ false → B → C) → (if t then A else B) → C
+pub chosen : (C : Type 0) (t : Bool) {A B : Type 0} → (t ≡ true → A → C) → (t ≡ false → B → C) → (when t then A else B) → C
 chosen C true f g h = f refl h
 chosen C false f g h = g refl h
 

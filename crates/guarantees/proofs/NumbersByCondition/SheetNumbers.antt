@@ -8,7 +8,7 @@ use lib.Dec.{eqb, leb, ltb}
 use lib.IntN.{ℤ}
 use lib.ListN.{length}
 use lib.Signed.{non_neg}
-use Rattle.arith.specs.Choice.{if◌then◌else◌}
+use Rattle.std.specs.Prelude.{if◌then◌else◌}
 use Rattle.block.specs.Limits.{max_calls, max_keys}
 use Rattle.block.specs.Outcomes.{last_outcome, max_count}
 use Rattle.machine.specs.Run.{Run, sizes_of, large_enough, status_word, state_of, is_state, finished}

@@ -11,7 +11,7 @@ use lib.Signed.{lt_z, le_z, non_neg}
 use lib.Dec.{eqb, leb, ltb}
 use lib.ListN.{length, get_or, drop}
 use Rattle.arith.specs.Balance.{largest}
-use Rattle.arith.specs.Choice.{if◌then◌else◌}
+use Rattle.std.specs.Prelude.{if◌then◌else◌}
 use Rattle.arith.specs.Exact.{signed, fits64, floor_by, checked, add_of, sub_of, mul_of, div_of}
 use Rattle.arith.specs.declared.Checked.{Checked}
 use Rattle.arith.specs.declared.Checked.TheVariants as checked_as

@@ -8,7 +8,7 @@ use borrow.Author.Tests.{le-ltb, ne_eqb}
 use lib.Dec.{eqb, ltb}
 use lib.IntN.{ℤ, pos}
 use lib.ListN.{length, get_or, drop}
-use Rattle.arith.specs.Choice.{if◌then◌else◌}
+use Rattle.std.specs.Prelude.{if◌then◌else◌}
 use Rattle.wire.specs.Bytes.{padded}
 use Rattle.wire.proofs.BytesLaws.{padded_at}
 use Rattle.block.specs.Limits.{max_workers}

@@ -12,7 +12,7 @@ use lib.ListN.{length, get_or, drop}
 use lib.Signed.{mag, le_z, lt_z, non_neg}
 use Rattle.arith.specs.Balance.{total, largest, none_below_zero, within_limit}
 use Rattle.arith.proofs.BalanceLaws.{limit_within, within_limit_lem}
-use Rattle.arith.specs.Choice.{if◌then◌else◌}
+use Rattle.std.specs.Prelude.{if◌then◌else◌}
 use Rattle.arith.proofs.ChoiceLaws.{both}
 use Rattle.arith.specs.Compare.{eq_z}
 use Rattle.arith.proofs.IntegerLaws.{pos_part, clash, eq_z_true, eq_z_false}

@@ -8,7 +8,7 @@ use native.Mathlib.Omega.{arith}
 use lib.IntN.{ℤ, pos}
 use lib.ListN.{length, get_or}
 use lib.Signed.{mag}
-use Rattle.arith.specs.Choice.{if◌then◌else◌}
+use Rattle.std.specs.Prelude.{if◌then◌else◌}
 use Rattle.arith.specs.Exact.{unsigned}
 use Rattle.arith.specs.Compare.{eq_z}
 use Rattle.wire.specs.Bytes.{repeated, padded}

@@ -1,0 +1,11 @@
+-- `library::zumbiqa_cancel` meets its contract: it is CANCEL on the head that the words stand for.
+use Rattle.library.proofs.ExportLaws.{move_refused, move_made}
+use borrow.Author.Rules.{rules}
+use Rattle.library.proofs.zumbiqa_cancel.Goals as goal
+
+pub returns-then-head-lt-HEAD_WORDS : goal.returns-then-head-lt-HEAD_WORDS
+returns-then-head-lt-HEAD_WORDS c = move_refused _ _ _ c.if-head-lt-HEAD_WORDS.true c.answer_number.ensures
+
+pub returns : goal.returns
+returns c =
+    move_made _ _ _ c.if-head-lt-HEAD_WORDS.false c.head_in.ensures c.cancel_lending-reply.ensures c.store_held.ensures c.answer_number-2.ensures
