@@ -1,5 +1,7 @@
 // What a run prints: text lines, or the bytes of its sheet; its answers, its close, and the line of a refused block. What is handed to standard
 // output is kept in a transcript that the caller lends, as far as it fits; its length changes nothing else.
+#![tactic(auto)]
+
 ghost use Rattle.std.specs.Prelude.{◌≡◌, ◌≤◌, ◌<◌, length};
 ghost use Rattle.block.specs.Refusal.{number_of, offset_of};
 ghost use Rattle.text.specs.Lines.{refused_text, block_refused_text};
