@@ -2,6 +2,8 @@
 // prints `r`, its line, its number; a refused block only `e`, number, offset; then the closing sheet is printed, or `r 0 27` for an unfinished
 // run. As bytes, the sheet alone is printed, and these lines are told on standard error. What is handed to standard output is kept in a
 // transcript that the caller lends, as far as it fits; its length changes nothing else.
+#![tactic(auto)]
+
 ghost use Rattle.std.specs.Prelude.{◌≡◌, ◌*◌, ◌≤◌, ◌<◌, length};
 ghost use Rattle.moves.specs.Lent.{lent};
 ghost use Rattle.console.specs.declared.Line.TheVariants.{Empty};
@@ -433,7 +435,10 @@ pub fn register(rt: &(impl Files + io::Input + Print + Eprint), transcript: &mut
 }
 
 // The same file and input, and of them the bytes of the closing sheet; a refusal is told on standard error, and no byte is printed.
-pub fn write_sheet(rt: &(impl Files + io::Input + Print + Eprint), transcript: &mut [u8]) -> Registered
+pub fn write_sheet(
+    rt: &(impl Files + io::Input + Print + Eprint),
+    transcript: &mut [u8],
+) -> Registered
     ensures { Registers Sheet transcript.old result transcript.new }
 {
     run_file(rt, Output::Sheet, transcript)
