@@ -1,5 +1,6 @@
 // REGISTER: opens block.bin of the current folder for 8 workers, plays the move lines of standard input, and prints the closing sheet. A
 // missing file is read as empty. With an argument it only says on standard error what it reads and writes.
+#![tactic(auto)]
 
 fn main(rt: HostRuntime) {
     let usage: &[u8] = b"\

@@ -1,4 +1,5 @@
 // REGISTER on an edge: a block.bin of 65,537 bytes, which is refused.
+#![tactic(auto)]
 
 fn main(rt: HostRuntime) {
     let mut transcript = [0u8; 0];

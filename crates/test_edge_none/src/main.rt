@@ -1,4 +1,5 @@
 // REGISTER on an edge: no block.bin, which is read as empty.
+#![tactic(auto)]
 
 fn main(rt: HostRuntime) {
     let mut transcript = [0u8; 0];

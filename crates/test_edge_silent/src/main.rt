@@ -1,4 +1,5 @@
 // REGISTER on an edge: no input.
+#![tactic(auto)]
 
 fn main(rt: HostRuntime) {
     let mut transcript = [0u8; 0];

@@ -1,5 +1,7 @@
 // Lists and runs the titled blocks of standard input: a title behind its length in four bytes, little-endian, then a block and its moves
 // likewise. For each it prints `# ` and the title, what `inspect` prints of the block, and what REGISTER prints of it with these moves.
+#![tactic(auto)]
+
 use host::{Exchange, FILE_BYTES};
 use printing::Output;
 
@@ -35,7 +37,12 @@ fn pass_moves(rt: &impl Input, opened: bool, moves: &mut [u8], length: usize) {
 }
 
 // Lists and runs the next block, with its moves.
-fn run_in(rt: &(impl Input + Print + Eprint), x: Exchange, file: &mut [u8], moves: &mut [u8]) -> Exchange {
+fn run_in(
+    rt: &(impl Input + Print + Eprint),
+    x: Exchange,
+    file: &mut [u8],
+    moves: &mut [u8],
+) -> Exchange {
     let mut transcript = [0u8; 0];
     let part = host::read_part(rt, file);
     let length = part.length;

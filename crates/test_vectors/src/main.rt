@@ -1,5 +1,7 @@
 // Runs the blocks of standard input as REGISTER does, each with its moves: a block behind its length in four bytes, little-endian, then
 // its moves likewise.
+#![tactic(auto)]
+
 use host::{Exchange, FILE_BYTES};
 use printing::Output;
 
@@ -18,7 +20,12 @@ fn pass_moves(rt: &impl Input, opened: bool, moves: &mut [u8], length: usize) {
 }
 
 // Runs the next block with its moves in these buffers; where there was none, or something failed, the exchange is not ok.
-fn run_in(rt: &(impl Input + Print + Eprint), x: Exchange, file: &mut [u8], moves: &mut [u8]) -> Exchange {
+fn run_in(
+    rt: &(impl Input + Print + Eprint),
+    x: Exchange,
+    file: &mut [u8],
+    moves: &mut [u8],
+) -> Exchange {
     let mut transcript = [0u8; 0];
     let part = host::read_part(rt, file);
     let length = part.length;

@@ -1,5 +1,6 @@
 // Runs block.bin of the current folder as REGISTER does, and writes the bytes of the closing sheet to standard output; refusals are told on
 // standard error. With an argument it only says there what it reads and writes.
+#![tactic(auto)]
 
 fn main(rt: HostRuntime) {
     let usage: &[u8] = b"\
