@@ -9,7 +9,7 @@ use Rattle.block.specs.Worked.{P}
 use Rattle.footprint.specs.Examples.{gets, keys_block}
 use Rattle.footprint.specs.Table as table
 use Rattle.footprint.specs.Table.{Analysis, analyse}
-use Rattle.footprint.specs.Plan.{Room, Prepared, prepared_of}
+use Rattle.footprint.specs.Plan.{Prepared, prepared_of}
 use Rattle.console.specs.Register.{register_of}
 use Rattle.console.specs.Computing as console
 

@@ -1,5 +1,5 @@
 -- The answers 20 of the three moves, computed on damaged runs of block P.
-use Rattle.std.specs.Prelude.{◌≡◌, refl, [], ◌∷◌, ◌++◌, ◌+◌, ◌-◌, ◌^◌, pos, negsuc, take, set}
+use Rattle.std.specs.Prelude.{◌≡◌, refl, [], ◌∷◌, ◌++◌, ◌-◌, ◌^◌, pos, negsuc, take, set}
 use Rattle.block.specs.Assemble.{text}
 use Rattle.block.specs.Worked.{P}
 use Rattle.machine.specs.Damage.{too_short, plan_at, with_key_at, value_at, status_at, frame_at, workers_as, calls_as, first_as, held_as, seat_as}

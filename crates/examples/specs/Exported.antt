@@ -1,5 +1,5 @@
 -- What the exported functions answer and leave, computed on block P for three workers, its head of 13 words.
-use Rattle.std.specs.Prelude.{◌≡◌, refl, List, [], ◌∷◌, map, ℕ, length, set, take}
+use Rattle.std.specs.Prelude.{◌≡◌, refl, List, [], ◌∷◌, map, ℕ, set, take}
 use Rattle.wire.specs.Bytes.{repeated, below}
 use Rattle.block.specs.Assemble.{text}
 use Rattle.block.specs.Worked.{P}

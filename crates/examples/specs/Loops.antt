@@ -1,8 +1,7 @@
 -- Fuel and loops, computed on a run of their block.
-use Rattle.std.specs.Prelude.{◌≡◌, refl, [], ◌∷◌, ◌++◌, map, ◌+◌, ◌*◌, pos, negsuc, take, drop, set}
+use Rattle.std.specs.Prelude.{◌≡◌, refl, [], ◌∷◌, ◌++◌, map, ◌*◌, pos, negsuc, take, drop, set}
 use Rattle.wire.specs.Bytes.{below}
 use Rattle.schedule.specs.declared.Move.TheVariants.{Begin, Step}
-use Rattle.block.specs.Assemble.{call}
 use Rattle.block.specs.Worked.{fuelled}
 use Rattle.machine.specs.Answer.{answer_number}
 use Rattle.machine.specs.Run.{Run, outcome_word, count_word}

@@ -1,5 +1,5 @@
 -- Payments to account 0, computed on a run of their block.
-use Rattle.std.specs.Prelude.{◌≡◌, refl, [], ◌∷◌, ◌++◌, map, ◌+◌, pos, negsuc, take}
+use Rattle.std.specs.Prelude.{◌≡◌, refl, [], ◌∷◌, ◌++◌, map, pos, negsuc, take}
 use Rattle.wire.specs.Bytes.{below}
 use Rattle.schedule.specs.declared.Move.TheVariants.{Begin, Step}
 use Rattle.block.specs.Assemble.{text}

@@ -1,5 +1,5 @@
 -- The numbers that calls carry, computed on block P's run.
-use Rattle.std.specs.Prelude.{◌≡◌, refl, [], ◌∷◌, ◌++◌, map, ◌+◌, ◌-◌, ◌^◌, pos, take}
+use Rattle.std.specs.Prelude.{◌≡◌, refl, [], ◌∷◌, ◌++◌, map, ◌-◌, ◌^◌, pos, take}
 use Rattle.schedule.specs.declared.Move.TheVariants.{Step, Cancel}
 use Rattle.block.specs.Assemble.{text}
 use Rattle.block.specs.Worked.{P}

@@ -1,5 +1,7 @@
 // The register for programs in other languages: each function takes numbers and slices, keeps nothing, and refuses what it cannot take. A run
 // is its head, a slice of words, and six buffers, all lent by the caller.
+#![tactic(auto)]
+
 mod run;
 
 ghost use Rattle.std.specs.Prelude.{◌≡◌, length};

@@ -1,6 +1,5 @@
 -- `library::zumbiqa_cancel` meets its contract: it is CANCEL on the head that the words stand for.
 use Rattle.library.proofs.ExportLaws.{move_refused, move_made}
-use borrow.Author.Rules.{rules}
 use Rattle.library.proofs.zumbiqa_cancel.Goals as goal
 
 pub returns-then-head-lt-HEAD_WORDS : goal.returns-then-head-lt-HEAD_WORDS

@@ -1,6 +1,5 @@
 -- `library::zumbiqa_open` meets its contract: the head of what is opened is stored, its number and its offset are told.
 use Rattle.library.proofs.ExportLaws.{open_told}
-use borrow.Author.Rules.{rules}
 use Rattle.library.proofs.zumbiqa_open.Goals as goal
 
 pub returns : goal.returns

@@ -1,6 +1,5 @@
 -- `library::zumbiqa_serial_run` meets its contract: it is the serial run on the head that the words stand for.
 use Rattle.library.proofs.ExportLaws.{move_refused, move_made}
-use borrow.Author.Rules.{rules}
 use Rattle.library.proofs.zumbiqa_serial_run.Goals as goal
 
 pub returns-then-head-lt-HEAD_WORDS : goal.returns-then-head-lt-HEAD_WORDS

@@ -1,6 +1,5 @@
 -- `library::zumbiqa_sheet` meets its contract: it is the sheet of the run that the words stand for, its number told, and its length where it is written.
 use Rattle.library.proofs.ExportLaws.{sheet_refused, sheet_made}
-use borrow.Author.Rules.{rules}
 use Rattle.library.proofs.zumbiqa_sheet.Goals as goal
 
 pub returns-then-head-lt-HEAD_WORDS : goal.returns-then-head-lt-HEAD_WORDS

@@ -1,6 +1,5 @@
 -- `library::answers::closing_number` meets its contract: each arm is a clause of the definition.
 use Rattle.sheet.specs.Sheet.{closing_number}
-use borrow.Author.Rules.{rules}
 use Rattle.export_words.proofs.answers.closing_number.Goals as goal
 
 pub returns-in-Written : goal.returns-in-Written

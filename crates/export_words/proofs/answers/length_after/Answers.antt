@@ -1,6 +1,5 @@
 -- `export_words::answers::length_after` meets its contract: each arm is a clause of the definition.
 use Rattle.exports.specs.Exports.{length_after}
-use borrow.Author.Rules.{rules}
 use Rattle.export_words.proofs.answers.length_after.Goals as goal
 
 pub returns-in-Written : goal.returns-in-Written

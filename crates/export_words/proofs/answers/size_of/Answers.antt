@@ -1,5 +1,4 @@
 -- `library::answers::size_of` meets its contract: the sizes stand in the definition's order.
-use borrow.Author.Rules.{rules}
 use Rattle.exports.specs.Exports.{size_of}
 use Rattle.export_words.proofs.answers.size_of.Goals as goal
 

@@ -1,6 +1,5 @@
 -- `library::answers::verdict_number` meets its contract: each arm is a clause of the definition.
 use Rattle.block.specs.Refusal.{verdict_number}
-use borrow.Author.Rules.{rules}
 use Rattle.export_words.proofs.answers.verdict_number.Goals as goal
 
 pub returns-in-Accepted : goal.returns-in-Accepted

@@ -1,6 +1,5 @@
 -- `library::answers::verdict_offset` meets its contract: each arm is a clause of the definition.
 use Rattle.block.specs.Refusal.{verdict_offset}
-use borrow.Author.Rules.{rules}
 use Rattle.export_words.proofs.answers.verdict_offset.Goals as goal
 
 pub returns-in-Accepted : goal.returns-in-Accepted

@@ -1,7 +1,6 @@
 -- `library::words::head_in` meets its contract: each number is read from its word.
 use Rattle.wire.specs.Bytes.{below}
 use Rattle.exports.specs.Words.{held_in}
-use borrow.Author.Rules.{rules}
 use Rattle.export_words.proofs.words.head_in.Goals as goal
 
 pub returns : goal.returns

@@ -1,7 +1,6 @@
 -- `library::words::store_held` meets its contract: the worker's word is compared with what the worker holds behind the move.
 use mathlib.Core.Path.{◌∙◌}
 use Rattle.exports.proofs.HeadLaws.{stored_none, stored_same, stored_other}
-use borrow.Author.Rules.{rules}
 use Rattle.export_words.proofs.words.store_held.Goals as goal
 
 pub returns-then-worker-ge-MAX_WORKERS : goal.returns-then-worker-ge-MAX_WORKERS

@@ -1,6 +1,5 @@
 -- `library::words::store_opened` meets its contract: four words are stored in a cleared head.
 use Rattle.wire.specs.Bytes.{stored}
-use borrow.Author.Rules.{rules}
 use Rattle.export_words.proofs.words.store_opened.Goals as goal
 
 pub returns : goal.returns

@@ -1,7 +1,6 @@
 -- `library::run::open_for` meets its contract: behind the test of the head it is the opening.
 use Rattle.exports.proofs.LengthLaws.{open_long}
 use Rattle.library.proofs.ExportLaws.{open_cleared}
-use borrow.Author.Rules.{rules}
 use Rattle.library.proofs.run.open_for.Goals as goal
 
 pub returns-then-head_words-lt-HEAD_WORDS : goal.returns-then-head_words-lt-HEAD_WORDS

@@ -1,8 +1,6 @@
 -- `library::run::serial_move` meets its contract: behind the test of the sizes it is the serial run.
 use mathlib.Core.Path.{sym, ◌∙◌}
-use borrow.Author.Tests.{not-true, not-false}
 use Rattle.library.proofs.ExportLaws.{serial_refused, serial_made}
-use borrow.Author.Rules.{rules}
 use Rattle.library.proofs.run.serial_move.Goals as goal
 
 pub returns-then-not-large : goal.returns-then-not-large
