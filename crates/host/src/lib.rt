@@ -1,11 +1,21 @@
 // What the programs exchange with their host: the file block.bin, streams on standard input, standard output, and what is told on standard
 // error. A read or a write that fails is told there in one line, and after it nothing more is written.
-ghost use Rattle.std.specs.Prelude.{◌≡◌, false, ◌+◌, ◌-◌, ◌^◌, ◌<◌, ◌≤◌, length, drop};
+#![tactic(auto)]
+
+ghost use Rattle.std.specs.Prelude.{◌≡◌, false, ◌+◌, ◌-◌, ◌^◌, ◌<◌, ◌≤◌, length, drop, IfOk};
 ghost use Rattle.wire.specs.Bytes.{stored, repeated};
 ghost use Rattle.host.specs.Exchange.{Handed, has_arguments, NoneIsEmpty, Taken, PartIn, Reads, FileIn};
 
 use block::limits::MAX_BYTES;
-use libc::{STDERR_FILENO, STDIN_FILENO, STDOUT_FILENO};
+use std::env::FillError;
+use std::io::{ErrorKind, Read};
+use std::rt::{Env, Files};
+use std::{fs, io};
+use told::Told;
+
+mod told;
+
+pub use told::fail;
 
 // How the exchange stands: whether no read and no write failed, how many bytes came from standard input, and how many were handed to
 // standard output.
@@ -62,13 +72,18 @@ fn keep(transcript: &mut [u8], from: usize, text: &[u8])
 }
 
 // Tells on standard error that standard output took no more.
-fn fail_output() {
-    os::fail(b"standard output");
+fn fail_output(rt: &impl Eprint, why: io::Error) {
+    fail(rt, "standard output", why);
 }
 
 // Hands a text to standard output, whole, and keeps it in the transcript behind what was handed over before. A write that fails is told on
 // standard error; after a failure nothing is handed over.
-pub fn print(x: Exchange, text: &[u8], transcript: &mut [u8]) -> Exchange
+pub fn print(
+    rt: &(impl Print + Eprint),
+    x: Exchange,
+    text: &[u8],
+    transcript: &mut [u8],
+) -> Exchange
     ensures text { Handed transcript.old x text.now transcript.new result }
     ensures received { result.received ≡ x.received }
 {
@@ -84,8 +99,8 @@ pub fn print(x: Exchange, text: &[u8], transcript: &mut [u8]) -> Exchange
             sent,
         };
     }
-    if !io::write_all(STDOUT_FILENO, text) {
-        fail_output();
+    if let Err(why) = rt.write_all(text) {
+        fail_output(rt, why);
         return Exchange {
             ok: false,
             received,
@@ -101,23 +116,34 @@ pub fn print(x: Exchange, text: &[u8], transcript: &mut [u8]) -> Exchange
 }
 
 // Tells a text on standard error; after a failure nothing is told. Standard output is handed nothing.
-pub fn tell(x: Exchange, text: &[u8]) -> Exchange
+pub fn tell(rt: &impl Eprint, x: Exchange, text: &[u8]) -> Exchange
     ensures { result ≡ x }
 {
     if x.ok {
-        io::write_all(STDERR_FILENO, text);
+        let _ = rt.eprint(Told(text));
     }
     x
 }
 
+// How many words a program was started with, its own name the first.
+pub fn argument_count(rt: &impl Env) -> usize {
+    let mut none = [0u8; 0];
+    for i in 0..usize::MAX {
+        if let Err(FillError::NotPresent) = rt.arg(i, &mut none) {
+            return i;
+        }
+    }
+    usize::MAX
+}
+
 // Whether a program was started with an argument beside its name; then what it reads and writes is told on standard error.
-pub fn explains(arguments: usize, usage: &[u8]) -> bool
+pub fn explains(rt: &impl Eprint, arguments: usize, usage: &[u8]) -> bool
     ensures { result ≡ has_arguments arguments }
 {
     if arguments <= 1 {
         return false;
     }
-    io::write_all(STDERR_FILENO, usage);
+    let _ = rt.eprint(Told(usage));
     true
 }
 
@@ -130,31 +156,20 @@ fn clear_from(file: &mut [u8], from: usize)
     wire::clear_bytes(rest);
 }
 
-// What one read gave.
-#[derive(Clone, Copy)]
-struct Got {
-    ok: bool,
-    count: usize,
-}
-
 // One read of the file into the buffer from a position on: how many bytes came, 0 at the file's end.
-fn read_from(fd: i32, file: &mut [u8], from: usize) -> Got
+fn read_from<F: Read>(input: &mut F, file: &mut [u8], from: usize) -> io::Result<usize>
     requires { from ≤ length file.old }
-    ensures { from + result.count ≤ length file.old }
+    ensures { IfOk result (λ count. from + count ≤ length file.old) }
 {
     let rest = &mut file[from..];
-    let got = libc::read(fd, rest);
-    Got {
-        ok: 0 <= got,
-        count: io::count(got, rest),
-    }
+    input.read(rest)
 }
 
 // Tells on standard error that block.bin cannot be read.
-fn fail_file() -> FileRead
+fn fail_file(rt: &impl Eprint, why: io::Error) -> FileRead
     ensures { result ≡ record { ok = false; length = 0; ended = false } }
 {
-    os::fail(b"block.bin");
+    fail(rt, "block.bin", why);
     FileRead {
         ok: false,
         length: 0,
@@ -163,23 +178,22 @@ fn fail_file() -> FileRead
 }
 
 // Reads the file until the buffer is full or the file ends.
-fn read_all(fd: i32, file: &mut [u8]) -> FileRead
+fn read_all<F: Read>(rt: &impl Eprint, input: &mut F, file: &mut [u8]) -> FileRead
     ensures { Reads (length file.old) result }
 {
     let mut done = 0;
     while done < file.len() {
-        let got = read_from(fd, file, done);
-        if !got.ok {
-            return fail_file();
+        match read_from(input, file, done) {
+            Err(why) => return fail_file(rt, why),
+            Ok(0) => {
+                return FileRead {
+                    ok: true,
+                    length: done,
+                    ended: true,
+                };
+            }
+            Ok(count) => done += count,
         }
-        if got.count == 0 {
-            return FileRead {
-                ok: true,
-                length: done,
-                ended: true,
-            };
-        }
-        done += got.count;
     }
     FileRead {
         ok: true,
@@ -188,47 +202,62 @@ fn read_all(fd: i32, file: &mut [u8]) -> FileRead
     }
 }
 
-// What an opened file holds; below 0 it was not opened, and one that is missing is empty.
-fn read_opened(fd: i32, file: &mut [u8]) -> FileRead
+// What an opened file holds; one that is missing is empty.
+fn read_opened<F: Read + Drop>(rt: &impl Eprint, opened: io::Result<F>, file: &mut [u8]) -> FileRead
     ensures { Reads (length file.old) result }
 {
-    if 0 <= fd {
-        let r = read_all(fd, file);
-        libc::close(fd);
-        return r;
+    match opened {
+        Ok(mut input) => read_all(rt, &mut input, file),
+        Err(why) => {
+            if why.kind() == ErrorKind::NotFound {
+                return FileRead {
+                    ok: true,
+                    length: 0,
+                    ended: true,
+                };
+            }
+            fail_file(rt, why)
+        }
     }
-    if os::errno() == libc::ENOENT {
-        return FileRead {
-            ok: true,
-            length: 0,
-            ended: true,
-        };
-    }
-    fail_file()
 }
 
 // The file block.bin of the current folder, as much as the buffer takes, with zeros behind it; a missing file is read as empty. A file that
 // cannot be read is told on standard error.
-pub fn read_block_file(file: &mut [u8]) -> FileRead
+pub fn read_block_file<R: Files + Eprint>(rt: &R, file: &mut [u8]) -> FileRead
     ensures { FileIn file.old file.new result }
 {
-    let fd = os::open_read(b"block.bin");
-    let r = read_opened(fd, file);
+    let opened = fs::open(rt, "block.bin");
+    let r = read_opened(rt, opened, file);
     let length = r.length;
     clear_from(file, length);
     r
 }
 
+// Reads standard input until the buffer is full, the input ends or a read fails. Answers how many bytes came.
+fn read_full(rt: &impl Input, buffer: &mut [u8]) -> usize
+    ensures { result ≤ length buffer.new }
+{
+    let mut input = rt.reader();
+    let mut done = 0;
+    while done < buffer.len() {
+        match input.read(&mut buffer[done..]) {
+            Ok(0) | Err(_) => return done,
+            Ok(count) => done += count,
+        }
+    }
+    done
+}
+
 // The next n bytes of standard input at most in the buffer's first bytes, with zeros behind them; none where the buffer has fewer. Answers how
 // many came.
-pub fn read_bytes(buffer: &mut [u8], n: usize) -> usize
+pub fn read_bytes(rt: &impl Input, buffer: &mut [u8], n: usize) -> usize
     ensures { Taken buffer.old buffer.new n result }
 {
     if buffer.len() < n {
         clear_from(buffer, 0);
         return 0;
     }
-    let got = io::read_full(STDIN_FILENO, &mut buffer[..n]);
+    let got = read_full(rt, &mut buffer[..n]);
     clear_from(buffer, got);
     got
 }
@@ -237,12 +266,12 @@ pub fn read_bytes(buffer: &mut [u8], n: usize) -> usize
 const LENGTHS: u64 = 4294967296;
 
 // The next length of a stream on standard input, in four bytes, little-endian; none at the input's end.
-pub fn next_length() -> Part
+pub fn next_length(rt: &impl Input) -> Part
     ensures length_bound { result.length < 2 ^ 32 }
     ensures none_is_empty { NoneIsEmpty result.found result.length }
 {
     let mut head = [0u8; 4];
-    if io::read_full(STDIN_FILENO, &mut head) < 4 {
+    if read_full(rt, &mut head) < 4 {
         return Part {
             found: false,
             length: 0,
@@ -256,10 +285,10 @@ pub fn next_length() -> Part
 
 // The next part of a stream on standard input, behind its length, in the buffer's first bytes, with zeros behind them. Where the buffer has fewer
 // bytes than that length none is found.
-pub fn read_part(buffer: &mut [u8]) -> PartRead
+pub fn read_part(rt: &impl Input, buffer: &mut [u8]) -> PartRead
     ensures { PartIn buffer.old buffer.new result }
 {
-    let head = next_length();
+    let head = next_length(rt);
     let told = head.length;
     if buffer.len() < told {
         clear_from(buffer, 0);
@@ -269,7 +298,7 @@ pub fn read_part(buffer: &mut [u8]) -> PartRead
             length: 0,
         };
     }
-    let length = read_bytes(buffer, told);
+    let length = read_bytes(rt, buffer, told);
     PartRead {
         found: head.found,
         told,

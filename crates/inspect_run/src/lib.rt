@@ -1,4 +1,6 @@
 // The listing of a block, handed to standard output, and `inspect` as a function, with its contract.
+#![tactic(auto)]
+
 ghost use Rattle.std.specs.Prelude.{◌≡◌};
 ghost use Rattle.machine.specs.Run.{fixed_sizes};
 ghost use Rattle.listing.specs.Listing.{listing_of};
@@ -8,6 +10,7 @@ ghost use Rattle.inspect_run.specs.Inspects.{Inspects};
 use host::{Exchange, FILE_BYTES, print, read_block_file};
 use listing::MAX_LISTING;
 use machine::layout::{CELLS_SIZE, FRAMES_SIZE, KEYS_SIZE, PLAN_SIZE, SEATS_SIZE, STATUS_SIZE};
+use std::rt::Files;
 
 // block.bin, listed: whether it could be read and its end was met, and how the exchange stands.
 #[derive(Clone, Copy)]
@@ -18,7 +21,12 @@ pub struct Inspected {
 }
 
 // The listing of a block, handed to standard output.
-pub fn print_listing(x: Exchange, block: &[u8], transcript: &mut [u8]) -> Exchange
+pub fn print_listing(
+    rt: &(impl Print + Eprint),
+    x: Exchange,
+    block: &[u8],
+    transcript: &mut [u8],
+) -> Exchange
     ensures text { Handed transcript.old x (listing_of fixed_sizes block.now) transcript.new result }
     ensures received { result.received ≡ x.received }
 {
@@ -39,22 +47,22 @@ pub fn print_listing(x: Exchange, block: &[u8], transcript: &mut [u8]) -> Exchan
         &mut frames,
         &mut text,
     );
-    print(x, &text[..length], transcript)
+    print(rt, x, &text[..length], transcript)
 }
 
 // Lists block.bin of the current folder. A missing file is read as empty; where a file cannot be read nothing is listed.
-pub fn inspect(transcript: &mut [u8]) -> Inspected
+pub fn inspect(rt: &(impl Files + Print + Eprint), transcript: &mut [u8]) -> Inspected
     ensures { Inspects transcript.old result transcript.new }
 {
     let mut file = [0u8; FILE_BYTES];
-    let f = read_block_file(&mut file);
+    let f = read_block_file(rt, &mut file);
     let length = f.length;
     let x = Exchange {
         ok: f.ok,
         received: 0,
         sent: 0,
     };
-    let exchange = print_listing(x, &file[..length], transcript);
+    let exchange = print_listing(rt, x, &file[..length], transcript);
     Inspected {
         file_ok: f.ok,
         file_ended: f.ended,

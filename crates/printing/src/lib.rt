@@ -1,5 +1,7 @@
 // What a run prints: text lines, or the bytes of its sheet; its answers, its close, and the line of a refused block. What is handed to standard
 // output is kept in a transcript that the caller lends, as far as it fits; its length changes nothing else.
+#![tactic(auto)]
+
 ghost use Rattle.std.specs.Prelude.{◌≡◌, ◌≤◌, ◌<◌, length};
 ghost use Rattle.block.specs.Refusal.{number_of, offset_of};
 ghost use Rattle.text.specs.Lines.{refused_text, block_refused_text};
@@ -29,18 +31,29 @@ pub enum Output {
 }
 
 // A text of lines, printed, or, beside the sheet's bytes, told on standard error.
-pub fn say(output: Output, x: Exchange, text: &[u8], transcript: &mut [u8]) -> Exchange
+pub fn say(
+    rt: &(impl Print + Eprint),
+    output: Output,
+    x: Exchange,
+    text: &[u8],
+    transcript: &mut [u8],
+) -> Exchange
     ensures text { Handed transcript.old x (printed_lines output text.now) transcript.new result }
     ensures received { result.received ≡ x.received }
 {
     match output {
-        Output::Text => host::print(x, text, transcript),
-        Output::Sheet => host::tell(x, text),
+        Output::Text => host::print(rt, x, text, transcript),
+        Output::Sheet => host::tell(rt, x, text),
     }
 }
 
 // Prints the lines of a sheet.
-fn print_lines(x: Exchange, bytes: &[u8], transcript: &mut [u8]) -> Exchange
+fn print_lines(
+    rt: &(impl Print + Eprint),
+    x: Exchange,
+    bytes: &[u8],
+    transcript: &mut [u8],
+) -> Exchange
     requires bytes_len_bound { length bytes.now < 65536 }
     requires bytes_len_bound_2 { length (sheet_text bytes.now) ≤ max_close_text }
     ensures text { Handed transcript.old x (sheet_text bytes.now) transcript.new result }
@@ -48,34 +61,47 @@ fn print_lines(x: Exchange, bytes: &[u8], transcript: &mut [u8]) -> Exchange
 {
     let mut text = [0u8; MAX_CLOSE_TEXT];
     let n = sheet_text(bytes, bytes.len() as u16, &mut text);
-    host::print(x, &text[..n], transcript)
+    host::print(rt, x, &text[..n], transcript)
 }
 
 // Prints a sheet: its lines, or its bytes.
-fn print_sheet(output: Output, x: Exchange, bytes: &[u8], transcript: &mut [u8]) -> Exchange
+fn print_sheet(
+    rt: &(impl Print + Eprint),
+    output: Output,
+    x: Exchange,
+    bytes: &[u8],
+    transcript: &mut [u8],
+) -> Exchange
     requires bytes_len_bound { length bytes.now < 65536 }
     requires bytes_len_bound_2 { length (sheet_text bytes.now) ≤ max_close_text }
     ensures text { Handed transcript.old x (printed_sheet output bytes.now) transcript.new result }
     ensures received { result.received ≡ x.received }
 {
     match output {
-        Output::Text => print_lines(x, bytes, transcript),
-        Output::Sheet => host::print(x, bytes, transcript),
+        Output::Text => print_lines(rt, x, bytes, transcript),
+        Output::Sheet => host::print(rt, x, bytes, transcript),
     }
 }
 
 // Says the line of a refused sheet.
-fn refuse_sheet(output: Output, answer: Answer, x: Exchange, transcript: &mut [u8]) -> Exchange
+fn refuse_sheet(
+    rt: &(impl Print + Eprint),
+    output: Output,
+    answer: Answer,
+    x: Exchange,
+    transcript: &mut [u8],
+) -> Exchange
     ensures text { Handed transcript.old x (printed_lines output (refused_text 0 (answer_number answer))) transcript.new result }
     ensures received { result.received ≡ x.received }
 {
     let mut text = [0u8; MAX_ANSWER];
     let n = text::refused_line(&mut text, 0, 0, answer_number(answer));
-    say(output, x, &text[..n], transcript)
+    say(rt, output, x, &text[..n], transcript)
 }
 
 // The close of a run: its sheet, or the sheet's refusal.
 pub fn close(
+    rt: &(impl Print + Eprint),
     output: Output,
     head: Head,
     plan: &[u64],
@@ -96,17 +122,23 @@ pub fn close(
 {
     let mut bytes = [0u8; MAX_SHEET];
     match sheet(head, plan, keys, cells, status, seats, frames, &mut bytes) {
-        Closing::Written(n) => print_sheet(output, x, &bytes[..n], transcript),
-        Closing::Refused(answer) => refuse_sheet(output, answer, x, transcript),
+        Closing::Written(n) => print_sheet(rt, output, x, &bytes[..n], transcript),
+        Closing::Refused(answer) => refuse_sheet(rt, output, answer, x, transcript),
     }
 }
 
 // Says the line of a refused block.
-pub fn refuse_block(output: Output, why: Refusal, x: Exchange, transcript: &mut [u8]) -> Exchange
+pub fn refuse_block(
+    rt: &(impl Print + Eprint),
+    output: Output,
+    why: Refusal,
+    x: Exchange,
+    transcript: &mut [u8],
+) -> Exchange
     ensures text { Handed transcript.old x (printed_lines output (block_refused_text (number_of why) (offset_of why))) transcript.new result }
     ensures received { result.received ≡ x.received }
 {
     let mut text = [0u8; MAX_ANSWER];
     let n = text::block_refused_line(&mut text, 0, number_of(why), offset_of(why));
-    say(output, x, &text[..n], transcript)
+    say(rt, output, x, &text[..n], transcript)
 }

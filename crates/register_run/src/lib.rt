@@ -2,6 +2,8 @@
 // prints `r`, its line, its number; a refused block only `e`, number, offset; then the closing sheet is printed, or `r 0 27` for an unfinished
 // run. As bytes, the sheet alone is printed, and these lines are told on standard error. What is handed to standard output is kept in a
 // transcript that the caller lends, as far as it fits; its length changes nothing else.
+#![tactic(auto)]
+
 ghost use Rattle.std.specs.Prelude.{◌≡◌, ◌*◌, ◌≤◌, ◌<◌, length};
 ghost use Rattle.moves.specs.Lent.{lent};
 ghost use Rattle.console.specs.declared.Line.TheVariants.{Empty};
@@ -15,12 +17,14 @@ use block::Verdict;
 use block::limits::MAX_WORKERS;
 use console::Line;
 use host::{Exchange, FILE_BYTES};
-use libc::STDIN_FILENO;
 use machine::Head;
 use machine::layout::{CELLS_SIZE, FRAMES_SIZE, KEYS_SIZE, PLAN_SIZE, SEATS_SIZE, STATUS_SIZE};
 use play::Session;
 use play::input::{MAX_ANSWER, play_chunk, play_end};
 use printing::{Output, close, refuse_block, say};
+use std::io;
+use std::io::Read;
+use std::rt::Files;
 
 // The input is read in pieces of at most so many bytes, and each byte of it makes at most MAX_ANSWER bytes of answers.
 const CHUNK: usize = 512;
@@ -73,12 +77,12 @@ pub struct Registered {
 }
 
 // Tells on standard error that standard input cannot be read.
-fn fail_input() {
-    os::fail(b"standard input");
+fn fail_input(rt: &impl Eprint, why: io::Error) {
+    host::fail(rt, "standard input", why);
 }
 
 // One read of standard input into the buffer's first bytes, `limit` at most.
-fn read_some(x: Exchange, chunk: &mut [u8], limit: usize) -> Got
+fn read_some(rt: &(impl io::Input + Eprint), x: Exchange, chunk: &mut [u8], limit: usize) -> Got
     requires limit_in_bounds { limit ≤ length chunk.old }
     requires limit_bound { limit < 65536 }
     requires received_bound { x.received < 4294967296 }
@@ -86,33 +90,35 @@ fn read_some(x: Exchange, chunk: &mut [u8], limit: usize) -> Got
     ensures input_read { InputRead x result.count result.exchange }
 {
     let part = &mut chunk[..limit];
-    let got = libc::read(STDIN_FILENO, part);
-    let n = io::count(got, part);
-    let received = x.received + n as u64;
+    let mut input = rt.reader();
+    let received = x.received;
     let sent = x.sent;
-    if got < 0 {
-        fail_input();
-        return Got {
+    match input.read(part) {
+        Err(why) => {
+            fail_input(rt, why);
+            Got {
+                exchange: Exchange {
+                    ok: false,
+                    received,
+                    sent,
+                },
+                count: 0,
+            }
+        }
+        Ok(n) => Got {
             exchange: Exchange {
-                ok: false,
-                received,
+                ok: x.ok,
+                received: received + n as u64,
                 sent,
             },
             count: n as u16,
-        };
-    }
-    Got {
-        exchange: Exchange {
-            ok: x.ok,
-            received,
-            sent,
         },
-        count: n as u16,
     }
 }
 
 // Plays the next piece of the input, of at most `limit` bytes, and says the answers.
 fn play_some(
+    rt: &(impl io::Input + Print + Eprint),
     output: Output,
     s: Session,
     block: &[u8],
@@ -141,14 +147,14 @@ fn play_some(
         frames.new)
         transcript.new }
 {
-    let got = read_some(x, chunk, limit);
+    let got = read_some(rt, x, chunk, limit);
     let taken = got.count;
     let p = play_chunk(
         s, block, plan, keys, cells, status, seats, frames, chunk, taken, answers,
     );
     let n = p.length;
     let before = got.exchange;
-    let exchange = say(output, before, &answers[..n], transcript);
+    let exchange = say(rt, output, before, &answers[..n], transcript);
     let session = p.session;
     Piece {
         session,
@@ -170,6 +176,7 @@ fn piece_limit(left: u32) -> usize
 
 // Plays the input to its end, `limit` bytes at most, or until something fails.
 fn play_input(
+    rt: &(impl io::Input + Print + Eprint),
     output: Output,
     head: Head,
     block: &[u8],
@@ -207,7 +214,7 @@ fn play_input(
     while 0 < left {
         let most = piece_limit(left);
         let piece = play_some(
-            output, s, block, plan, keys, cells, status, seats, frames, exchange, most, chunk,
+            rt, output, s, block, plan, keys, cells, status, seats, frames, exchange, most, chunk,
             answers, transcript,
         );
         s = piece.session;
@@ -237,6 +244,7 @@ fn play_input(
 
 // The last line of the input, if it has no line feed, and the close.
 fn finish(
+    rt: &(impl Print + Eprint),
     output: Output,
     s: Session,
     block: &[u8],
@@ -269,16 +277,17 @@ fn finish(
         &mut answers,
     );
     let n = p.length;
-    let after = say(output, x, &answers[..n], transcript);
+    let after = say(rt, output, x, &answers[..n], transcript);
     let session = p.session;
     let head = session.head;
     close(
-        output, head, plan, keys, cells, status, seats, frames, after, transcript,
+        rt, output, head, plan, keys, cells, status, seats, frames, after, transcript,
     )
 }
 
 // A block that is opened, run with at most `limit` bytes of input and closed.
 fn run_opened(
+    rt: &(impl io::Input + Print + Eprint),
     output: Output,
     head: Head,
     block: &[u8],
@@ -301,6 +310,7 @@ fn run_opened(
     let mut chunk = [0u8; CHUNK];
     let mut answers = [0u8; ANSWERS];
     let i = play_input(
+        rt,
         output,
         head,
         block,
@@ -319,7 +329,7 @@ fn run_opened(
     let s = i.session;
     let behind = i.exchange;
     let exchange = finish(
-        output, s, block, plan, keys, cells, status, seats, frames, behind, transcript,
+        rt, output, s, block, plan, keys, cells, status, seats, frames, behind, transcript,
     );
     Ran {
         opened: true,
@@ -329,7 +339,14 @@ fn run_opened(
 }
 
 // A block: its refusal, or its run with at most `limit` bytes of standard input.
-pub fn run(output: Output, block: &[u8], x: Exchange, limit: u32, transcript: &mut [u8]) -> Ran
+pub fn run(
+    rt: &(impl io::Input + Print + Eprint),
+    output: Output,
+    block: &[u8],
+    x: Exchange,
+    limit: u32,
+    transcript: &mut [u8],
+) -> Ran
     ensures { Runs output block.now x limit transcript.old result transcript.new }
 {
     let mut plan = [0u64; PLAN_SIZE];
@@ -357,7 +374,7 @@ pub fn run(output: Output, block: &[u8], x: Exchange, limit: u32, transcript: &m
     let head = o.head;
     match verdict {
         Verdict::Refused(why) => {
-            let exchange = refuse_block(output, why, start, transcript);
+            let exchange = refuse_block(rt, output, why, start, transcript);
             Ran {
                 opened: false,
                 ended: false,
@@ -365,6 +382,7 @@ pub fn run(output: Output, block: &[u8], x: Exchange, limit: u32, transcript: &m
             }
         }
         Verdict::Accepted => run_opened(
+            rt,
             output,
             head,
             block,
@@ -383,18 +401,22 @@ pub fn run(output: Output, block: &[u8], x: Exchange, limit: u32, transcript: &m
 
 // Opens block.bin of the current folder for 8 workers, plays the move lines of standard input, and prints the closing sheet. A missing file is
 // read as empty; where a file cannot be read nothing is printed.
-fn run_file(output: Output, transcript: &mut [u8]) -> Registered
+fn run_file(
+    rt: &(impl Files + io::Input + Print + Eprint),
+    output: Output,
+    transcript: &mut [u8],
+) -> Registered
     ensures { Registers output transcript.old result transcript.new }
 {
     let mut file = [0u8; FILE_BYTES];
-    let f = host::read_block_file(&mut file);
+    let f = host::read_block_file(rt, &mut file);
     let length = f.length;
     let x = Exchange {
         ok: f.ok,
         received: 0,
         sent: 0,
     };
-    let r = run(output, &file[..length], x, MAX_INPUT, transcript);
+    let r = run(rt, output, &file[..length], x, MAX_INPUT, transcript);
     let exchange = r.exchange;
     Registered {
         file_ok: f.ok,
@@ -406,15 +428,18 @@ fn run_file(output: Output, transcript: &mut [u8]) -> Registered
 }
 
 // REGISTER: block.bin and standard input, and as text the answers of refused lines and the closing sheet.
-pub fn register(transcript: &mut [u8]) -> Registered
+pub fn register(rt: &(impl Files + io::Input + Print + Eprint), transcript: &mut [u8]) -> Registered
     ensures { Registers Text transcript.old result transcript.new }
 {
-    run_file(Output::Text, transcript)
+    run_file(rt, Output::Text, transcript)
 }
 
 // The same file and input, and of them the bytes of the closing sheet; a refusal is told on standard error, and no byte is printed.
-pub fn write_sheet(transcript: &mut [u8]) -> Registered
+pub fn write_sheet(
+    rt: &(impl Files + io::Input + Print + Eprint),
+    transcript: &mut [u8],
+) -> Registered
     ensures { Registers Sheet transcript.old result transcript.new }
 {
-    run_file(Output::Sheet, transcript)
+    run_file(rt, Output::Sheet, transcript)
 }

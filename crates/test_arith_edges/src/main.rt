@@ -1,8 +1,9 @@
 // Runs exact arithmetic at the edges and writes what it gives, held to the file stdout beside src.
 // That file is what `python3 edges.py > stdout` writes: Python's integers have no width, and its
 // `//` is floor division.
+#![tactic(auto)]
+
 use arith::Checked;
-use libc::STDOUT_FILENO;
 
 // How many numbers each table has, and the pairs of edges.
 const EDGES: u32 = 17;
@@ -60,83 +61,87 @@ fn half(k: u32) -> u32 {
     }
 }
 
-fn text(s: &[u8]) {
-    io::write_all(STDOUT_FILENO, s);
+fn text(rt: &impl Print, s: &str) {
+    let _ = rt.print(s);
+}
+
+fn decimal(rt: &impl Print, n: u64) {
+    let _ = rt.print(n);
 }
 
 // z in decimal, after a space.
-fn number(z: i64) {
+fn number(rt: &impl Print, z: i64) {
     let bits = arith::unsigned64(z);
     if z < 0 {
-        text(b" -");
-        io::print_decimal(STDOUT_FILENO, std::num::wrapping_sub_u64(0, bits));
+        text(rt, " -");
+        decimal(rt, 0u64.wrapping_sub(bits));
     } else {
-        text(b" ");
-        io::print_decimal(STDOUT_FILENO, bits);
+        text(rt, " ");
+        decimal(rt, bits);
     }
 }
 
-fn result(c: Checked) {
+fn result(rt: &impl Print, c: Checked) {
     match c {
-        Checked::Value(z) => number(z),
-        Checked::Overflow => text(b" overflow"),
-        Checked::ZeroDivisor => text(b" zero"),
+        Checked::Value(z) => number(rt, z),
+        Checked::Overflow => text(rt, " overflow"),
+        Checked::ZeroDivisor => text(rt, " zero"),
     }
 }
 
-fn answer(yes: bool) {
+fn answer(rt: &impl Print, yes: bool) {
     if yes {
-        text(b" yes");
+        text(rt, " yes");
     } else {
-        text(b" no");
+        text(rt, " no");
     }
 }
 
 // The two numbers, their sum, difference, product and quotient, whether the first is below the
 // second, and whether they are the same.
-fn pair(a: i64, b: i64) {
-    text(b"pair");
-    number(a);
-    number(b);
-    result(arith::add(a, b));
-    result(arith::sub(a, b));
-    result(arith::mul(a, b));
-    result(arith::div(a, b));
-    answer(arith::less(a, b));
-    answer(arith::same(a, b));
-    text(b"\n");
+fn pair(rt: &impl Print, a: i64, b: i64) {
+    text(rt, "pair");
+    number(rt, a);
+    number(rt, b);
+    result(rt, arith::add(a, b));
+    result(rt, arith::sub(a, b));
+    result(rt, arith::mul(a, b));
+    result(rt, arith::div(a, b));
+    answer(rt, arith::less(a, b));
+    answer(rt, arith::same(a, b));
+    text(rt, "\n");
 }
 
 // The integer that 64 bits name, and its bits again.
-fn word_line(n: u64) {
+fn word_line(rt: &impl Print, n: u64) {
     let z = arith::signed64(n);
-    text(b"word");
-    number(z);
-    text(b" ");
-    io::print_decimal(STDOUT_FILENO, arith::unsigned64(z));
-    text(b"\n");
+    text(rt, "word");
+    number(rt, z);
+    text(rt, " ");
+    decimal(rt, arith::unsigned64(z));
+    text(rt, "\n");
 }
 
 // The integer that 32 bits name.
-fn half_line(n: u32) {
-    text(b"half");
-    number(arith::signed32(n));
-    text(b"\n");
+fn half_line(rt: &impl Print, n: u32) {
+    text(rt, "half");
+    number(rt, arith::signed32(n));
+    text(rt, "\n");
 }
 
 // Each pair of edges, then each word, then each half.
-fn line(k: u32) {
+fn line(rt: &impl Print, k: u32) {
     if k < PAIRS {
-        pair(edge(k / EDGES), edge(k % EDGES));
+        pair(rt, edge(k / EDGES), edge(k % EDGES));
     } else if k < PAIRS + WORDS {
-        word_line(word(k - PAIRS));
+        word_line(rt, word(k - PAIRS));
     } else {
-        half_line(half(k - PAIRS - WORDS));
+        half_line(rt, half(k - PAIRS - WORDS));
     }
 }
 
-fn main() {
+fn main(rt: HostRuntime) {
     for k in 0..PAIRS + WORDS + HALVES {
-        line(k);
+        line(&rt, k);
     }
 }

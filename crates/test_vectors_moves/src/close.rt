@@ -7,21 +7,22 @@ use machine::numbers::answer_number;
 use sheet::Closing;
 
 // The number of a sheet's answer and its length, 0 if it is refused.
-fn answered(answer: Closing) {
+fn answered(rt: &impl Print, answer: Closing) {
     match answer {
         Closing::Written(n) => {
-            text(b" 0");
-            number(n as u64);
+            text(rt, " 0");
+            number(rt, n as u64);
         }
         Closing::Refused(why) => {
-            number(answer_number(why));
-            text(b" 0");
+            number(rt, answer_number(why));
+            text(rt, " 0");
         }
     }
 }
 
 // A sheet written to an output, with its line, which ends in the hash of the output's bytes.
 fn close_into(
+    rt: &impl Print,
     head: Head,
     plan: &[u64],
     keys: &[u64],
@@ -32,14 +33,15 @@ fn close_into(
     output: &mut [u8],
 ) {
     let answer = closing::sheet(head, plan, keys, cells, status, seats, frames, output);
-    text(b"c");
-    answered(answer);
-    number(bytes(output));
-    text(b"\n");
+    text(rt, "c");
+    answered(rt, answer);
+    number(rt, bytes(output));
+    text(rt, "\n");
 }
 
 // The same with a part of an output. Nothing is done where a longer one is asked for.
 fn close_part(
+    rt: &impl Print,
     head: Head,
     record: &[u8],
     plan: &[u64],
@@ -55,6 +57,7 @@ fn close_part(
         return;
     }
     close_into(
+        rt,
         head,
         plan,
         keys,
@@ -68,6 +71,7 @@ fn close_part(
 
 // The same with an output whose bytes are 7, longer than the longest sheet by eight.
 pub(crate) fn close(
+    rt: &impl Print,
     head: Head,
     record: &[u8],
     plan: &[u64],
@@ -79,6 +83,7 @@ pub(crate) fn close(
 ) {
     let mut output = [7u8; 26636];
     close_part(
+        rt,
         head,
         record,
         plan,

@@ -7,11 +7,11 @@ const WORKERS: usize = 8;
 
 // The product with 2^40 + 435 modulo 2^64, as a sum of shifts: 435 is 256 + 128 + 32 + 16 + 2 + 1.
 fn times(x: u64) -> u64 {
-    let low = std::num::wrapping_add_u64(x, x << 1);
-    let middle = std::num::wrapping_add_u64(x << 4, x << 5);
-    let high = std::num::wrapping_add_u64(x << 7, x << 8);
-    let sum = std::num::wrapping_add_u64(std::num::wrapping_add_u64(low, middle), high);
-    std::num::wrapping_add_u64(sum, x << 40)
+    let low = x.wrapping_add(x << 1);
+    let middle = (x << 4).wrapping_add(x << 5);
+    let high = (x << 7).wrapping_add(x << 8);
+    let sum = low.wrapping_add(middle).wrapping_add(high);
+    sum.wrapping_add(x << 40)
 }
 
 // One more word.

@@ -1,5 +1,7 @@
 // Opens blocks, makes moves and serial runs on lent runs and asks for their sheets, with damages in between, as the records of standard input say, and
 // writes what each answers with a hash of the run as it stands then, or of the sheet's output. tools/runner/src/vectors/stream.rs has the form of the records.
+#![tactic(auto)]
+
 mod answer;
 mod change;
 mod close;
@@ -7,7 +9,6 @@ mod digest;
 mod play;
 
 use crate::change::Lent;
-use libc::STDIN_FILENO;
 
 // A record has four words of eight bytes: its kind and three parts.
 const RECORD_BYTES: usize = 32;
@@ -22,6 +23,7 @@ const HEAD: u64 = 9;
 
 // One record: a change of the block, of a buffer, or of what is lent; or an opening, a move, a serial run or a sheet.
 fn turn(
+    rt: &impl Print,
     lent: Lent,
     record: &[u8],
     block: &mut [u8],
@@ -48,12 +50,13 @@ fn turn(
         return change::damage(lent, record);
     }
     play::play(
-        lent, record, block, plan, keys, cells, status, seats, frames,
+        rt, lent, record, block, plan, keys, cells, status, seats, frames,
     )
 }
 
 // Every record of the input, of which there are at most as many as the counter says.
 fn run(
+    rt: &(impl Input + Print),
     block: &mut [u8],
     plan: &mut [u64],
     keys: &mut [u64],
@@ -66,19 +69,19 @@ fn run(
     let mut left = u64::MAX;
     while 0 < left {
         let mut record = [0u8; RECORD_BYTES];
-        let n = io::read_full(STDIN_FILENO, &mut record);
+        let n = host::read_bytes(rt, &mut record, RECORD_BYTES);
         if n < RECORD_BYTES {
             return;
         }
         lent = turn(
-            lent, &record, block, plan, keys, cells, status, seats, frames,
+            rt, lent, &record, block, plan, keys, cells, status, seats, frames,
         );
         left -= 1;
     }
 }
 
 // The buffers are longer than their fixed sizes by eight, so that longer ones can be lent; the block's by one record.
-fn main() {
+fn main(rt: HostRuntime) {
     let mut block = [0u8; 65552];
     let mut plan = [0u64; 8200];
     let mut keys = [0u64; 2056];
@@ -87,6 +90,7 @@ fn main() {
     let mut seats = [0u64; 136];
     let mut frames = [0i64; 264];
     run(
+        &rt,
         &mut block,
         &mut plan,
         &mut keys,

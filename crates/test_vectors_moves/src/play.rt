@@ -47,6 +47,7 @@ fn make(
 
 // The end of a line: the hash of the run.
 fn hashed(
+    rt: &impl Print,
     head: Head,
     plan: &[u64],
     keys: &[u64],
@@ -55,12 +56,13 @@ fn hashed(
     seats: &[u64],
     frames: &[i64],
 ) {
-    number(digest(head, plan, keys, cells, status, seats, frames));
-    text(b"\n");
+    number(rt, digest(head, plan, keys, cells, status, seats, frames));
+    text(rt, "\n");
 }
 
 // An opening, with its line.
 fn open(
+    rt: &impl Print,
     record: &[u8],
     block: &[u8],
     plan: &mut [u64],
@@ -74,14 +76,15 @@ fn open(
     let opened = opening::open(block, workers, plan, keys, cells, status, seats, frames);
     let found = opened.verdict;
     let head = opened.head;
-    text(b"o");
-    verdict(found);
-    hashed(head, plan, keys, cells, status, seats, frames);
+    text(rt, "o");
+    verdict(rt, found);
+    hashed(rt, head, plan, keys, cells, status, seats, frames);
     head
 }
 
 // A move, with its line.
 fn move_on(
+    rt: &impl Print,
     head: Head,
     record: &[u8],
     block: &[u8],
@@ -97,14 +100,15 @@ fn move_on(
     );
     let answer = reply.answer;
     let next = reply.head;
-    text(b"m");
-    number(answer_number(answer));
-    hashed(next, plan, keys, cells, status, seats, frames);
+    text(rt, "m");
+    number(rt, answer_number(answer));
+    hashed(rt, next, plan, keys, cells, status, seats, frames);
     next
 }
 
 // The serial run, with its line.
 fn run_serially(
+    rt: &impl Print,
     head: Head,
     block: &[u8],
     plan: &mut [u64],
@@ -115,13 +119,14 @@ fn run_serially(
     frames: &mut [i64],
 ) -> Head {
     let next = serial::serial_run(head, block, plan, keys, cells, status, seats, frames);
-    text(b"s");
-    hashed(next, plan, keys, cells, status, seats, frames);
+    text(rt, "s");
+    hashed(rt, next, plan, keys, cells, status, seats, frames);
     next
 }
 
 // An opening, a move, a serial run or a sheet on what is lent: the head behind it.
 fn act(
+    rt: &impl Print,
     head: Head,
     record: &[u8],
     block: &[u8],
@@ -133,22 +138,23 @@ fn act(
     frames: &mut [i64],
 ) -> Head {
     if wire::get64(record, 0) == OPEN {
-        return open(record, block, plan, keys, cells, status, seats, frames);
+        return open(rt, record, block, plan, keys, cells, status, seats, frames);
     }
     if wire::get64(record, 0) == SHEET {
-        close(head, record, plan, keys, cells, status, seats, frames);
+        close(rt, head, record, plan, keys, cells, status, seats, frames);
         return head;
     }
     if wire::get64(record, 0) == SERIAL {
-        return run_serially(head, block, plan, keys, cells, status, seats, frames);
+        return run_serially(rt, head, block, plan, keys, cells, status, seats, frames);
     }
     move_on(
-        head, record, block, plan, keys, cells, status, seats, frames,
+        rt, head, record, block, plan, keys, cells, status, seats, frames,
     )
 }
 
 // The same on the parts of status, seats and frames that are lent.
 fn act_on_three(
+    rt: &impl Print,
     lent: Lent,
     record: &[u8],
     block: &[u8],
@@ -172,6 +178,7 @@ fn act_on_three(
         return lent;
     }
     let head = act(
+        rt,
         lent.head,
         record,
         block,
@@ -187,6 +194,7 @@ fn act_on_three(
 
 // The same on the part of the block and of all buffers that are lent. Nothing is done where one is longer than its buffer.
 pub(crate) fn play(
+    rt: &impl Print,
     lent: Lent,
     record: &[u8],
     block: &[u8],
@@ -214,6 +222,7 @@ pub(crate) fn play(
         return lent;
     }
     act_on_three(
+        rt,
         lent,
         record,
         &block[..b],
