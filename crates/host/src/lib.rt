@@ -11,11 +11,9 @@ use std::env::FillError;
 use std::io::{ErrorKind, Read};
 use std::rt::{Env, Files};
 use std::{fs, io};
-use told::Told;
+use told::{Told, fail};
 
 mod told;
-
-pub use told::fail;
 
 // How the exchange stands: whether no read and no write failed, how many bytes came from standard input, and how many were handed to
 // standard output.
@@ -74,6 +72,20 @@ fn keep(transcript: &mut [u8], from: usize, text: &[u8])
 // Tells on standard error that standard output took no more.
 fn fail_output(rt: &impl Eprint, why: io::Error) {
     fail(rt, "standard output", why);
+}
+
+// Tells on standard error, in one line, what failed and the system's words for it; after it nothing more is written.
+pub fn stop(rt: &impl Eprint, what: &str, why: io::Error, x: Exchange) -> Exchange
+    ensures { result ≡ record { ok = false; received = x.received; sent = x.sent } }
+{
+    let received = x.received;
+    let sent = x.sent;
+    fail(rt, what, why);
+    Exchange {
+        ok: false,
+        received,
+        sent,
+    }
 }
 
 // Hands a text to standard output, whole, and keeps it in the transcript behind what was handed over before. A write that fails is told on

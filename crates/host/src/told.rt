@@ -61,7 +61,7 @@ impl Words {
 }
 
 // Tells in one line on standard error what failed and the system's words for it.
-pub fn fail(rt: &impl Eprint, what: &str, why: io::Error) {
+pub(crate) fn fail(rt: &impl Eprint, what: &str, why: io::Error) {
     let mut words = Words::new();
     let _ = write!(words, "{why}");
     let text = words.text();
