@@ -137,15 +137,17 @@ pub fn tell(rt: &impl Eprint, x: Exchange, text: &[u8]) -> Exchange
     x
 }
 
-// How many words a program was started with, its own name the first.
-pub fn argument_count(rt: &impl Env) -> usize {
+// How many words a program was started with, its own name the first; `most` at most.
+pub fn argument_count(rt: &impl Env, most: usize) -> usize
+    ensures { result ≤ most }
+{
     let mut none = [0u8; 0];
-    for i in 0..usize::MAX {
+    for i in 0..most {
         if let Err(FillError::NotPresent) = rt.arg(i, &mut none) {
             return i;
         }
     }
-    usize::MAX
+    most
 }
 
 // Whether a program was started with an argument beside its name; then what it reads and writes is told on standard error.

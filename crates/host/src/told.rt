@@ -10,7 +10,7 @@ const NUMBER: &str = " (os error ";
 
 // A text whose bytes are characters, one each.
 #[derive(Clone, Copy)]
-pub struct Told<'a>(pub &'a [u8]);
+pub(crate) struct Told<'a>(pub(crate) &'a [u8]);
 
 impl Display for Told<'_> {
     fn fmt<W: Write>(&self, f: &mut Formatter<W>) -> fmt::Result {

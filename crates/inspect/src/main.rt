@@ -10,7 +10,7 @@ Reads block.bin of the current folder, and no standard input.
 Prints its counts, and for each call the earlier calls that it waits for.
 The manual is docs/MANUAL.md.
 ";
-    if host::explains(&rt, host::argument_count(&rt), usage) {
+    if host::explains(&rt, host::argument_count(&rt, 2), usage) {
         return;
     }
     let mut transcript = [0u8; 0];

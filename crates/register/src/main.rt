@@ -12,7 +12,7 @@ Reads block.bin of the current folder and, on standard input, lines of moves:
 Prints a line for each refused move, then the closing sheet as text.
 The manual is docs/MANUAL.md.
 ";
-    if host::explains(&rt, host::argument_count(&rt), usage) {
+    if host::explains(&rt, host::argument_count(&rt, 2), usage) {
         return;
     }
     let mut transcript = [0u8; 0];

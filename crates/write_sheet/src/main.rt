@@ -13,7 +13,7 @@ Writes the closing sheet, in bytes, to standard output, and a line for each
 refusal to standard error; of a refused block or sheet no byte is written.
 The manual is docs/MANUAL.md.
 ";
-    if host::explains(&rt, host::argument_count(&rt), usage) {
+    if host::explains(&rt, host::argument_count(&rt, 2), usage) {
         return;
     }
     let mut transcript = [0u8; 0];
