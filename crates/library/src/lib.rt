@@ -22,16 +22,14 @@ use run::{open_for, serial_move};
 
 // The fixed size, by number, of the head (0), the plan, the keys, the cells, the status, the seats and the frames (6), of the longest sheet (7)
 // and of the longest block (8); 0 for any other number.
-#[unsafe(no_mangle)]
-pub extern "C" fn zumbiqa_size(which: usize) -> u64
+pub fn zumbiqa_size(which: usize) -> u64
     ensures { result ≡ size_of which }
 {
     size_of(which)
 }
 
 // The run of a block for 1 to 8 workers: 0, or the number of its refusal, whose place is the offset.
-#[unsafe(no_mangle)]
-pub extern "C" fn zumbiqa_open(
+pub fn zumbiqa_open(
     block: &[u8],
     workers: usize,
     head: &mut [u64],
@@ -71,8 +69,7 @@ pub extern "C" fn zumbiqa_open(
 }
 
 // BEGIN(worker, call): 0, or the number of its refusal.
-#[unsafe(no_mangle)]
-pub extern "C" fn zumbiqa_begin(
+pub fn zumbiqa_begin(
     head: &mut [u64],
     plan: &[u64],
     keys: &[u64],
@@ -112,8 +109,7 @@ pub extern "C" fn zumbiqa_begin(
 }
 
 // STEP(worker): 0, or the number of its refusal.
-#[unsafe(no_mangle)]
-pub extern "C" fn zumbiqa_step(
+pub fn zumbiqa_step(
     block: &[u8],
     head: &mut [u64],
     plan: &[u64],
@@ -153,8 +149,7 @@ pub extern "C" fn zumbiqa_step(
 }
 
 // CANCEL(worker): 0, or the number of its refusal.
-#[unsafe(no_mangle)]
-pub extern "C" fn zumbiqa_cancel(
+pub fn zumbiqa_cancel(
     head: &mut [u64],
     plan: &[u64],
     keys: &[u64],
@@ -192,8 +187,7 @@ pub extern "C" fn zumbiqa_cancel(
 }
 
 // The serial run, calls 0, 1, .. each begun on worker 0 and stepped to its end: 0, or 20 for a slice that is too short.
-#[unsafe(no_mangle)]
-pub extern "C" fn zumbiqa_serial_run(
+pub fn zumbiqa_serial_run(
     block: &[u8],
     head: &mut [u64],
     plan: &[u64],
@@ -232,8 +226,7 @@ pub extern "C" fn zumbiqa_serial_run(
 
 // The closing sheet: 0, or the number of its refusal. The length becomes that of the written sheet, the offset behind its last record; a refusal
 // leaves it as it was.
-#[unsafe(no_mangle)]
-pub extern "C" fn zumbiqa_sheet(
+pub fn zumbiqa_sheet(
     head: &[u64],
     plan: &[u64],
     keys: &[u64],
