@@ -4,7 +4,8 @@ use mathlib.Core.List.{List}
 use Prim.Native.Nat.{ℕ, ◌≤◌}
 use native.Mathlib.Omega.{arith}
 use Rattle.block.specs.Instruction.{decode}
-use Rattle.block.proofs.DecodeLaws.{JumpsWithin, Decodes, decode_within}
+use Rattle.block.proofs.DecodeLaws.{JumpsWithin, Decodes}
+use Rattle.block.proofs.DecodeOwn.{decode_within}
 use Rattle.block.specs.declared.Decoded.TheVariants.{Valid}
 use Rattle.block.specs.declared.Instr.{Instr}
 use Rattle.block.specs.declared.Instr.TheVariants.{Stop, Throw, Set, Arg, Sender, Value, Add, Sub, Mul, Div, Get, Put, Bal, Pay, Jeq, Jlt}

@@ -15,7 +15,8 @@ use Rattle.wire.proofs.BytesLaws.{padded_at}
 use Rattle.block.specs.Limits.{max_bytes, max_code}
 use Rattle.block.specs.Record.{Function, Cell, Block, call_record_bytes, call_id, call_of, cell_of}
 use Rattle.block.specs.Reader.{accepted, refused, due, empty_block, read_from, read_block}
-use Rattle.block.proofs.ReaderLaws.{BlockLaws, EndsFile, accepted_laws}
+use Rattle.block.proofs.ReaderLaws.{BlockLaws, EndsFile}
+use Rattle.block.proofs.ReaderRight.{accepted_laws}
 use Rattle.block.specs.declared.Call.{Call}
 use Rattle.block.specs.declared.CallBody.{CallBody}
 use Rattle.block.specs.declared.CallBody.TheVariants.{InRange, OutOfRange}

@@ -2,19 +2,16 @@
 -- code, the field of its cell is no balance's, and the value that it sets and the numbers that a key is made of fit.
 use mathlib.Core.Path.{◌≡◌, refl, sym, ap, subst, ◌∙◌}
 use mathlib.Core.Bool.{Bool, true, false, ◌&&◌, ◌||◌, not}
-use mathlib.Core.List.{List}
 use Prim.Native.Nat.{ℕ, ◌/◌, ◌%◌, ◌^◌, ◌≤◌, ◌<◌}
 use native.Mathlib.Omega.{arith}
-use borrow.Author.Tests.{ltb-true, ltb-false, leb-true, eqb-true, eqb-false, not-true}
-use lib.Dec.{eqb, leb, ltb, lit<}
-use lib.ListN.{drop}
+use borrow.Author.Tests.{leb-true, eqb-true, eqb-false, not-true}
+use lib.Dec.{eqb, leb, lit<}
 use lib.Signed.{mag}
 use Rattle.std.specs.Prelude.{if◌then◌else◌}
 use Rattle.arith.specs.Exact.{signed, unsigned}
 use Rattle.arith.proofs.ChoiceLaws.{if_all, both}
 use Rattle.arith.proofs.IntegerLaws.{unsigned_signed, signed_range}
-use Rattle.wire.specs.Bytes.{number}
-use Rattle.block.specs.Instruction.{is_register, is_argument, is_source, source_of, allowed, decode_end, decode_set, decode_arg, decode_fact, decode_arith, decode_cell, decode_pay, decode_jump, decode_parts, decode}
+use Rattle.block.specs.Instruction.{is_register, is_argument, is_source, source_of, allowed, decode_end, decode_set, decode_arg, decode_fact, decode_arith, decode_cell, decode_pay, decode_jump}
 use Rattle.block.specs.InstructionBytes.{instr, source_number, constant_or, cell_constant, pay_constant, cell_bits, instruction_bytes, Register, SourceKeeps, CellPartsKeep, PayPartsKeep, InstrKeeps}
 use Rattle.block.specs.declared.Source.{Source}
 use Rattle.block.specs.declared.Source.TheVariants as source
@@ -108,7 +105,7 @@ when5 : (P : Instr → Type 0) (s t u v r : Bool) {i : Instr} → (s ≡ true �
 when5 P s t u v r h = when4 P (s && t) u v r (λ e f g k. let a = both s t e in h a.0 a.1 f g k)
 
 -- A failed test, as a fact that `omega` reads.
-apart : (a b : ℕ) → eqb a b ≡ false → ¬ (a ≡ b)
+pub apart : (a b : ℕ) → eqb a b ≡ false → ¬ (a ≡ b)
 apart a b e = eqb-false a b e
 
 -- Equal parts have equal bytes.
@@ -148,14 +145,14 @@ module _ (size op x y z w : ℕ) where
       → (w < 2 ^ 32 → InstrKeeps size i × (op ≡ op') × (x ≡ x') × (y ≡ y') × (z ≡ z') × (w ≡ w')) → Own i
   leaf i op' x' y' z' w' bytes j f = (j, λ l. ((f l).0, parts_same ((f l).1, (f l).2, (f l).3, (f l).4, (f l).5) ∙ bytes))
 
-  end_own : op < 2 → D (decode_end op x y z w)
+  pub end_own : op < 2 → D (decode_end op x y z w)
   unfolding decode_end
   end_own h =
       when4 Own (eqb x 0) (eqb y 0) (eqb z 0) (eqb w 0) λ a b c d.
       if_all Own (eqb op 0) (λ e. leaf Stop 0 0 0 0 0 refl tt (λ l. omega (arith, eqb-true, leb-true)))
       (λ e. leaf Throw 1 0 0 0 0 refl tt (λ l. omega (arith, eqb-true, leb-true, apart)))
 
-  set_own : op ≡ 2 → D (decode_set x y z w)
+  pub set_own : op ≡ 2 → D (decode_set x y z w)
   unfolding decode_set
   set_own h =
       when3 Own (is_register x) (eqb y 0) (eqb z 0) λ a b c.
@@ -164,7 +161,7 @@ module _ (size op x y z w : ℕ) where
       let small : mag (signed 32 w) < 2 ^ 31 = signed_range 32 w (lit< tt) l in
       omega (arith, eqb-true, leb-true)
 
-  arg_own : op ≡ 3 → D (decode_arg x y z w)
+  pub arg_own : op ≡ 3 → D (decode_arg x y z w)
   unfolding decode_arg
   arg_own h =
       when4 Own (is_register x) (is_argument y) (eqb z 0) (eqb w 0) λ a b c d.
@@ -174,14 +171,14 @@ module _ (size op x y z w : ℕ) where
       omega (arith, eqb-true, leb-true)
 
   -- SENDER, VALUE and BAL.
-  fact_own : (i : Instr) (n : ℕ) → op ≡ n → JumpsWithin size i → (Register x → InstrKeeps size i) → instr n x 0 0 0 ≡ instruction_bytes i
+  pub fact_own : (i : Instr) (n : ℕ) → op ≡ n → JumpsWithin size i → (Register x → InstrKeeps size i) → instr n x 0 0 0 ≡ instruction_bytes i
       → D (decode_fact x y z w i)
   unfolding decode_fact
   fact_own i n h j k own =
       when4 Own (is_register x) (eqb y 0) (eqb z 0) (eqb w 0) λ a b c d.
       leaf i n x 0 0 0 own j λ l. (k (leb-true x 7 a), h, refl, eqb-true y 0 b, eqb-true z 0 c, eqb-true w 0 d)
 
-  arith_own : 6 ≤ op → op < 10 → D (decode_arith op x y z w)
+  pub arith_own : 6 ≤ op → op < 10 → D (decode_arith op x y z w)
   unfolding decode_arith
   arith_own low high =
       when4 Own (is_register x) (is_register y) (is_register z) (eqb w 0) λ a b c d.
@@ -208,7 +205,7 @@ module _ (size op x y z w : ℕ) where
         parts_same (refl, refl, sym na.number, sym nb.number, omega arith),
       )
 
-  cell_own : 10 ≤ op → op < 12 → D (decode_cell op x y z w)
+  pub cell_own : 10 ≤ op → op < 12 → D (decode_cell op x y z w)
   unfolding decode_cell
   cell_own low high =
       when5 Own (is_register x) (is_source y) (is_source z) (not (eqb (w % 65536) 0)) (eqb y 6 || eqb z 6 || eqb (w / 65536) 0) λ a b c d e.
@@ -228,79 +225,15 @@ module _ (size op x y z w : ℕ) where
         parts_same (h, refl, sym nt.number, unused, omega arith),
       )
 
-  pay_own : op ≡ 13 → D (decode_pay x y z w)
+  pub pay_own : op ≡ 13 → D (decode_pay x y z w)
   unfolding decode_pay
   pay_own h =
       when5 Own (is_register x) (is_source y) (eqb z 0) (eqb (w % 65536) 0) (eqb y 6 || eqb (w / 65536) 0) λ a b c d e.
       (tt, pay_parts (source_of y w) (named y w (leb-true y 6 b)) (leb-true x 7 a) e (eqb-true (w % 65536) 0 d) (eqb-true z 0 c) h)
 
-  jump_own : 14 ≤ op → op < 16 → D (decode_jump size op x y z w)
+  pub jump_own : 14 ≤ op → op < 16 → D (decode_jump size op x y z w)
   unfolding decode_jump
   jump_own low high =
       when4 Own (is_register x) (is_register y) (eqb z 0) (leb w size) λ a b c d.
       if_all Own (eqb op 14) (λ e. leaf (Jeq x y w) 14 x y 0 w refl (leb-true w size d) (λ l. omega (arith, eqb-true, leb-true)))
       (λ e. leaf (Jlt x y w) 15 x y 0 w refl (leb-true w size d) (λ l. omega (arith, eqb-true, leb-true, apart)))
-
-  pub parts_own : D (decode_parts size op x y z w)
-  unfolding decode_parts
-  parts_own =
-      if_all D (ltb op 2) (λ e. end_own (ltb-true op 2 e)) λ a.
-      if_all D (eqb op 2) (λ e. set_own (eqb-true op 2 e)) λ b.
-      if_all D (eqb op 3) (λ e. arg_own (eqb-true op 3 e)) λ c.
-      if_all D (ltb op 6)
-      (λ e. if_all (λ (i : Instr). D (decode_fact x y z w i)) (eqb op 4) (λ f. fact_own (Sender x) 4 (eqb-true op 4 f) tt (λ r. r) refl)
-      (λ f. fact_own (Value x) 5 (omega (arith, ltb-true, ltb-false, apart)) tt (λ r. r) refl)) λ d.
-      if_all D (ltb op 10) (λ e. arith_own (ltb-false op 6 d) (ltb-true op 10 e)) λ e.
-      if_all D (ltb op 12) (λ f. cell_own (ltb-false op 10 e) (ltb-true op 12 f)) λ f.
-      if_all D (eqb op 12) (λ g. fact_own (Bal x) 12 (eqb-true op 12 g) tt (λ r. r) refl) λ g.
-      if_all D (eqb op 13) (λ h. pay_own (eqb-true op 13 h)) λ h.
-      if_all D (ltb op 16) (λ k. jump_own (omega (arith, ltb-false, apart)) (ltb-true op 16 k)) (λ k. tt)
-
--- ---- what a decoded instruction keeps to
-
-abbrev pub OwnOf : (size : ℕ) → List ℕ → Instr → Type 0
-OwnOf size s = Own size (number 1 s) (number 1 (drop 1 s)) (number 1 (drop 2 s)) (number 1 (drop 3 s)) (number 4 (drop 4 s))
-
-pub decode_own : (size : ℕ) (s : List ℕ) → Decodes (OwnOf size s) (decode size s)
-decode_own size s = parts_own size (number 1 s) (number 1 (drop 1 s)) (number 1 (drop 2 s)) (number 1 (drop 3 s)) (number 4 (drop 4 s))
-
-source_fits : (c : ℕ) (s : Source) → c < 2 ^ 16 → SourceKeeps c s → SourceFits (2 ^ 16) s
-source_fits c source.Zero h k = tt
-source_fits c (source.Argument n) h k = tt
-source_fits c source.Sender h k = tt
-source_fits c (source.Constant n) h k = omega arith
-
-cell_fits : (x field : ℕ) (a b : Source) → CellPartsKeep x field a b → CellSourcesFit (2 ^ 16) field a b
-cell_fits x field a b k =
-    record {
-      above = k.named.0;
-      below = k.named.1;
-      first = source_fits (cell_constant a b) a k.constant k.first;
-      second = source_fits (cell_constant a b) b k.constant k.second;
-    }
-
-keeps_fits : (size : ℕ) (i : Instr) → InstrKeeps size i → InstrFits (2 ^ 16) i
-keeps_fits size Stop k = tt
-keeps_fits size Throw k = tt
-keeps_fits size (Set x value) k = k.1
-keeps_fits size (Arg x n) k = tt
-keeps_fits size (Sender x) k = tt
-keeps_fits size (Value x) k = tt
-keeps_fits size (Add x y z) k = tt
-keeps_fits size (Sub x y z) k = tt
-keeps_fits size (Mul x y z) k = tt
-keeps_fits size (Div x y z) k = tt
-keeps_fits size (Get x field a b) k = cell_fits x field a b k
-keeps_fits size (Put x field a b) k = cell_fits x field a b k
-keeps_fits size (Bal x) k = tt
-keeps_fits size (Pay x target) k = tt
-keeps_fits size (Jeq x y to) k = tt
-keeps_fits size (Jlt x y to) k = tt
-
-pub decode_lawful : (size : ℕ) (s : List ℕ) → number 4 (drop 4 s) < 2 ^ 32 → Decodes (InstrLawful (2 ^ 16) size) (decode size s)
-decode_lawful size s h =
-    decodes_map (OwnOf size s) (InstrLawful (2 ^ 16) size) (λ i own. (keeps_fits size i (own.1 h).0, own.0)) (decode size s) (decode_own size s)
-
--- Jumps need no bound on the bytes.
-pub decode_within : (size : ℕ) (s : List ℕ) → Decodes (JumpsWithin size) (decode size s)
-decode_within size s = decodes_map (OwnOf size s) (JumpsWithin size) (λ i own. own.0) (decode size s) (decode_own size s)

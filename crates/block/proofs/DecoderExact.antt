@@ -25,7 +25,8 @@ use Rattle.block.specs.declared.Instr.{Instr}
 use Rattle.block.specs.declared.Instr.TheVariants.{Stop, Throw, Set, Arg, Sender, Value, Add, Sub, Mul, Div, Get, Put, Bal, Pay, Jeq, Jlt}
 use Rattle.block.specs.declared.Decoded.{Decoded}
 use Rattle.block.specs.declared.Decoded.TheVariants.{Valid, Invalid}
-use Rattle.block.proofs.DecodeLaws.{Decodes, OwnOf, decode_own}
+use Rattle.block.proofs.DecodeLaws.{Decodes}
+use Rattle.block.proofs.DecodeOwn.{OwnOf, decode_own}
 
 -- ---- an instruction's own bytes
 

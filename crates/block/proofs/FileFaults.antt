@@ -19,9 +19,11 @@ use Rattle.block.specs.Faults.{records_of, Stands, behind_kind, last_kind, Fault
 use Rattle.block.proofs.EncodingLaws.{function_body, cell_body, call_body, bytes_drop}
 use Rattle.block.proofs.ContentsLaws.{record_length, holding, sent, sent_none, sent_length}
 use Rattle.block.proofs.ReadsWhole.{records_count, function_step, cell_step, call_step, from_ended}
-use Rattle.block.proofs.ReadsOnly.{Standing, Held, Right, right_record, nothing_stands}
+use Rattle.block.proofs.ReadsOnly.{Standing, Held, Right}
+use Rattle.block.proofs.ReadsRight.{right_record, nothing_stands}
 use Rattle.block.proofs.FaultLaws.{first_one, into_one}
-use Rattle.block.proofs.RecordFaults.{Fails, Told, told_record}
+use Rattle.block.proofs.RecordFaults.{Fails, Told}
+use Rattle.block.proofs.RecordTold.{told_record}
 use Rattle.block.specs.declared.Call.{Call}
 use Rattle.block.specs.declared.Refusal.{Refusal}
 use Rattle.block.specs.declared.Refusal.TheVariants.{InputTooLong}

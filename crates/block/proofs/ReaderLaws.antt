@@ -1,7 +1,7 @@
 -- What holds of the block in an accepted file, for the crates above: where its cells and calls stand, that its codes are valid, that
 -- its ids and keys rise, and its limits. Every record that the reader takes keeps it.
-use mathlib.Core.Path.{◌≡◌, refl, sym, ◌∙◌, ap, subst, subst⁻¹}
-use mathlib.Core.Bool.{Bool, true, false, not, ◌||◌, ◌&&◌}
+use mathlib.Core.Path.{◌≡◌, refl, sym, ◌∙◌, ap, subst⁻¹}
+use mathlib.Core.Bool.{Bool, true, false, not, ◌&&◌}
 use mathlib.Core.List.{List, [], ◌∷◌, ◌++◌, map, map-append}
 use Prim.Native.Nat.{ℕ, zero, suc, ◌+◌, ◌*◌, ◌-◌, ◌/◌, ◌%◌, ◌^◌, ◌<◌, ◌≤◌}
 use native.Mathlib.Omega.{arith}
@@ -13,7 +13,7 @@ use lib.IntN.{ℤ, pos, negsuc}
 use lib.Seq.{drop-drop, get_or-drop, get_or-append_seam}
 use lib.Signed.{le_z, lt_z, non_neg}
 use borrow.Author.Tests.{ltb-true, ltb-false, leb-true, leb-false, eqb-true, eqb-false, not-false, eq-eqb}
-use Rattle.arith.proofs.ChoiceLaws.{if_all, both, neither}
+use Rattle.arith.proofs.ChoiceLaws.{if_all, both}
 use Rattle.arith.specs.Balance.{total, largest, none_below_zero, within_limit}
 use Rattle.wire.specs.Bytes.{number, read_le}
 use Rattle.wire.proofs.BytesLaws.{number_lt}
@@ -21,7 +21,7 @@ use Rattle.block.specs.Key.{address_of, field_in, is_balance, key_allowed}
 use Rattle.block.proofs.KeyLaws.{field_of}
 use Rattle.block.specs.Instruction.{decode, is_valid, first_invalid}
 use Rattle.block.specs.Record.{Function, Cell, Block, function_id, call_bytes, call_record_bytes, length_allowed, cell_of, cell_allowed, call_of}
-use Rattle.block.specs.Reader.{Read, Reading, accepted, refused, due, ended, empty_block, rises, balances, read_function, read_cell, withCall, read_call, read_end, read_body, read_record, read_from, read_block}
+use Rattle.block.specs.Reader.{Reading, accepted, refused, due, ended, empty_block, rises, balances, read_function, read_cell, withCall, read_call, read_end}
 use Rattle.block.specs.declared.Call.{Call}
 use Rattle.block.specs.declared.CallBody.{CallBody}
 use Rattle.block.specs.declared.CallBody.TheVariants.{InRange, OutOfRange}
@@ -125,11 +125,11 @@ function_length_range kind len e k =
     let h : (leb 4 len ≡ true) × (leb len 516 ≡ true) = both _ _ g.0 in
     (leb-true 4 len h.0, leb-true len 516 h.1)
 
-cell_length_lem : (kind len : ℕ) → length_allowed kind len ≡ true → kind ≡ 2 → len ≡ 20
+pub cell_length_lem : (kind len : ℕ) → length_allowed kind len ≡ true → kind ≡ 2 → len ≡ 20
 unfolding length_allowed
 cell_length_lem kind len e k = eqb-true len 20 (simp k at e)
 
-call_length : (kind len : ℕ) → length_allowed kind len ≡ true → kind ≡ 3 → len ≡ call_bytes
+pub call_length : (kind len : ℕ) → length_allowed kind len ≡ true → kind ≡ 3 → len ≡ call_bytes
 unfolding length_allowed
 call_length kind len e k = eqb-true len call_bytes (simp k at e)
 
@@ -180,7 +180,7 @@ module _ (file : List ℕ) (kind at : ℕ) (rest : List ℕ) (b : Block) (r : Re
         no_calls = λ h. calls;
       }
 
-  right_function : kind < 2 → 4 ≤ len → len ≤ 516 → Right file (read_function at len (drop 4 rest) b)
+  pub right_function : kind < 2 → 4 ≤ len → len ≤ 516 → Right file (read_function at len (drop 4 rest) b)
   unfolding read_function
   right_function k low high =
       if_all (Right file) (leb 64 (length b.functions)) (λ e. tt) λ room.
@@ -232,7 +232,7 @@ module _ (file : List ℕ) (kind at : ℕ) (rest : List ℕ) (b : Block) (r : Re
         no_calls = λ h. calls;
       }
 
-  right_cell : kind < 3 → len ≡ 20 → Right file (read_cell at len (drop 4 rest) b)
+  pub right_cell : kind < 3 → len ≡ 20 → Right file (read_cell at len (drop 4 rest) b)
   unfolding read_cell
   right_cell k size =
       if_all (Right file) (leb 1024 (length b.cells)) (λ e. tt) λ room.
@@ -270,7 +270,7 @@ module _ (file : List ℕ) (kind at : ℕ) (rest : List ℕ) (b : Block) (r : Re
         no_calls = λ h. absurd (omega arith);
       }
 
-  right_call : len ≡ call_bytes → Right file (read_call at len (drop 4 rest) b)
+  pub right_call : len ≡ call_bytes → Right file (read_call at len (drop 4 rest) b)
   unfolding read_call withCall
   right_call size = if_all (Right file) (leb 256 (length b.calls)) (λ e. tt) λ room. go (leb-false 256 (length b.calls) room) (call_of (drop 4 rest)) refl
     where
@@ -279,7 +279,7 @@ module _ (file : List ℕ) (kind at : ℕ) (rest : List ℕ) (b : Block) (r : Re
       go room (InRange c) e =
           if_all (Right file) (eqb c.fuel 0) (λ f. tt) (λ f. with_call c size room e (let some = eqb-false c.fuel 0 f in omega (arith, some)))
 
-  right_end : Right file (read_end (length file) at b)
+  pub right_end : Right file (read_end (length file) at b)
   unfolding read_end
   right_end =
       if_all (Right file) (ltb (at + 4) (length file)) (λ e. tt) λ e.
@@ -287,40 +287,9 @@ module _ (file : List ℕ) (kind at : ℕ) (rest : List ℕ) (b : Block) (r : Re
       let to : b.first_call + call_record_bytes * length b.calls ≡ at = r.place in
       record { laws = r.laws; end = omega arith }
 
-  right_body : (k : ℕ) → kind ≤ k → length_allowed k len ≡ true → Right file (read_body (length file) k at len (drop 4 rest) b)
-  unfolding read_body
-  right_body k up size =
-      if_all (Right file) (eqb k 1)
-      (λ e. let one : k ≡ 1 = eqb-true k 1 e in right_function (omega arith) (function_length_range k len size one).0 (function_length_range k len size one).1)
-      λ e₁.
-      if_all (Right file) (eqb k 2) (λ e. let two : k ≡ 2 = eqb-true k 2 e in right_cell (omega arith) (cell_length_lem k len size two)) λ e₂.
-      if_all (Right file) (eqb k 3) (λ e. right_call (call_length k len size (eqb-true k 3 e))) λ e₃. right_end
+-- ---- the start
 
--- A record that the reader takes keeps what holds.
-pub right_record : (file : List ℕ) (kind at : ℕ) (rest : List ℕ) (b : Block) → Reached file kind at rest b → Right file (read_record (length file) kind at rest b)
-unfolding read_record
-right_record file kind at rest b r =
-    if_all (Right file) (ltb (length file - at) 4) (λ e. tt) λ head.
-    if_all (Right file) (ltb (read_le 2 rest 2) 1 || ltb 4 (read_le 2 rest 2) || ltb (read_le 2 rest 2) kind) (λ e. tt) λ known.
-    if_all (Right file) (not (length_allowed (read_le 2 rest 2) (number 2 rest))) (λ e. tt) λ size.
-    if_all (Right file) (ltb (length file - (at + 4)) (number 2 rest)) (λ e. tt) λ whole.
-    let there : 4 ≤ length file - at = ltb-false (length file - at) 4 head in
-    let fits : number 2 rest ≤ length file - (at + 4) = ltb-false (length file - (at + 4)) (number 2 rest) whole in
-    right_body file kind at rest b r (number 2 rest) (omega arith) (read_le 2 rest 2)
-    (ltb-false (read_le 2 rest 2) kind (neither (ltb (read_le 2 rest 2) 1 || ltb 4 (read_le 2 rest 2)) (ltb (read_le 2 rest 2) kind) known).1)
-    (not-false (length_allowed (read_le 2 rest 2) (number 2 rest)) size)
-
--- ---- the whole file
-
-right_from : (file : List ℕ) (turns : ℕ) (g : Reading) → Right file g → Right file (ended (read_from turns (length file) g))
-unfolding read_from
-right_from file zero (due kind at rest b) r = tt
-right_from file zero (ended g) r = r
-right_from file (suc turns) (due kind at rest b) r =
-    right_from file turns (read_record (length file) kind at rest b) (right_record file kind at rest b r)
-right_from file (suc turns) (ended g) r = r
-
--- At the start there is nothing.
+-- There is nothing yet.
 pub reached_start : (file : List ℕ) → Reached file 0 0 file empty_block
 unfolding total balances
 reached_start file =
@@ -346,16 +315,6 @@ reached_start file =
       no_cells = λ h. refl;
       no_calls = λ h. refl;
     }
-
-right_block : (file : List ℕ) → Right file (ended (read_block file))
-unfolding read_block
-right_block file =
-    if_all (λ (g : Read). Right file (ended g)) (ltb 65536 (length file)) (λ e. tt) λ e.
-    right_from file (length file + 1) (due 0 0 file empty_block) (reached_start file)
-
--- What holds of an accepted file.
-pub accepted_laws : (file : List ℕ) (b : Block) → read_block file ≡ accepted b → EndsFile file b
-accepted_laws file b e = subst (λ (g : Read). Right file (ended g)) e (right_block file)
 
 -- ---- balances
 

@@ -1,21 +1,21 @@
 -- A file of bytes that is accepted is the file of contents that keep document 01's ranges, orders and limits, and is read as those: every
 -- record that the reader takes adds one to them.
 use mathlib.Core.Path.{◌≡◌, refl, sym, ap, subst, subst⁻¹, ◌∙◌}
-use mathlib.Core.Bool.{true, not, ◌&&◌, ◌||◌}
+use mathlib.Core.Bool.{true, not, ◌&&◌}
 use mathlib.Core.List.{List, [], ◌∷◌, ◌++◌, map, map-append, append_assoc, append-nil}
-use Prim.Native.Nat.{ℕ, zero, suc, ◌+◌, ◌-◌, ◌*◌, ◌/◌, ◌%◌, ◌≤◌, ◌<◌}
+use Prim.Native.Nat.{ℕ, ◌+◌, ◌-◌, ◌*◌, ◌/◌, ◌%◌, ◌≤◌, ◌<◌}
 use native.Mathlib.Omega.{arith}
 use borrow.Author.Tests.{ltb-false, leb-true, leb-false, eqb-true, eqb-false, not-false}
 use lib.Dec.{eqb, leb, ltb}
 use lib.ListN.{length, drop, length-append, length-drop, drop_of_length-le}
 use lib.Signed.{le_z}
-use Rattle.arith.proofs.ChoiceLaws.{if_all, both, neither}
+use Rattle.arith.proofs.ChoiceLaws.{if_all, both}
 use Rattle.arith.specs.Balance.{total, largest}
 use Rattle.wire.specs.Bytes.{number, read_le, bytes_of}
 use Rattle.block.specs.Instruction.{first_invalid}
 use Rattle.block.specs.Record.{Cell, Block, function_id, function_kind, cell_kind, call_kind, end_kind, call_bytes, recordOf, length_allowed, cell_of, cell_allowed, call_of}
-use Rattle.block.specs.Reader.{Read, Reading, accepted, refused, due, ended, empty_block, rises, balances, read_function, read_cell, withCall, read_call, read_end, read_body, read_record, read_from, read_block}
-use Rattle.block.specs.Encoding.{Routine, Contents, function_record, cell_record, call_record, records, file_of, AreBytes, Ascending, size_of, FunctionKeeps, CellKeeps, CallKeeps, routine_id, FunctionsKeep, CellsKeep, CallsKeep, HoldsContents, placed, block_for}
+use Rattle.block.specs.Reader.{Reading, accepted, refused, due, ended, rises, balances, read_function, read_cell, withCall, read_call, read_end}
+use Rattle.block.specs.Encoding.{Routine, Contents, function_record, cell_record, call_record, records, file_of, AreBytes, size_of, FunctionKeeps, CellKeeps, CallKeeps, routine_id, FunctionsKeep, CellsKeep, CallsKeep, HoldsContents, placed, block_for}
 use Rattle.block.specs.Faults.{behind_kind, last_kind}
 use Rattle.block.proofs.EncodingLaws.{function_body, cell_body, call_body, bytes_drop, bytes_split, routine_in, function_size, function_split, function_length_in, function_keeps}
 use Rattle.block.proofs.BodyLaws.{cell_split, cell_keeps, call_split, call_keeps}
@@ -127,7 +127,7 @@ module _ (file : List ℕ) (kind at : ℕ) (rest : List ℕ) (len : ℕ) (own : 
         block = sym (block_function fs f at len ((len - 4) / 8) r.place (sym long) sizes);
       }
 
-  right_function : (fs : List Routine) (cs : List Cell) (ks : List Call) → Standing file kind at rest fs cs ks → read_le 2 rest 2 ≡ 1 → kind < 2
+  pub right_function : (fs : List Routine) (cs : List Cell) (ks : List Call) → Standing file kind at rest fs cs ks → read_le 2 rest 2 ≡ 1 → kind < 2
       → 4 ≤ len → len ≤ 516 → (len - 4) % 8 ≡ 0 → Right file (read_function at len (drop 4 rest) (block_for (holding fs cs ks)))
   unfolding read_function block_for
   right_function fs (c ∷ cs) ks r is early low high eight = let none : length (c ∷ cs) ≡ 0 = no_cells_lem fs (c ∷ cs) ks (omega (arith, r.last)) in absurd (omega arith)
@@ -180,7 +180,7 @@ module _ (file : List ℕ) (kind at : ℕ) (rest : List ℕ) (len : ℕ) (own : 
             ∙ sym (block_cell fs cs c at r.place);
       }
 
-  right_cell : (fs : List Routine) (cs : List Cell) (ks : List Call) → Standing file kind at rest fs cs ks → read_le 2 rest 2 ≡ 2 → kind < 3 → len ≡ 20
+  pub right_cell : (fs : List Routine) (cs : List Cell) (ks : List Call) → Standing file kind at rest fs cs ks → read_le 2 rest 2 ≡ 2 → kind < 3 → len ≡ 20
       → Right file (read_cell at len (drop 4 rest) (block_for (holding fs cs ks)))
   unfolding read_cell block_for
   right_cell fs cs (k ∷ ks) r is early twenty = let none : length (k ∷ ks) ≡ 0 = no_calls_lem fs cs (k ∷ ks) (omega (arith, r.last)) in absurd (omega arith)
@@ -219,7 +219,7 @@ module _ (file : List ℕ) (kind at : ℕ) (rest : List ℕ) (len : ℕ) (own : 
         block = refl;
       }
 
-  right_call : (fs : List Routine) (cs : List Cell) (ks : List Call) → Standing file kind at rest fs cs ks → read_le 2 rest 2 ≡ 3 → len ≡ call_bytes
+  pub right_call : (fs : List Routine) (cs : List Cell) (ks : List Call) → Standing file kind at rest fs cs ks → read_le 2 rest 2 ≡ 3 → len ≡ call_bytes
       → Right file (read_call at len (drop 4 rest) (block_for (holding fs cs ks)))
   unfolding read_call withCall block_for
   right_call fs cs ks r is sized =
@@ -231,7 +231,7 @@ module _ (file : List ℕ) (kind at : ℕ) (rest : List ℕ) (len : ℕ) (own : 
           if_all (Right file) (eqb c.fuel 0) (λ f. tt)
           (λ f. with_call fs cs ks r is sized room c e (let some = eqb-false c.fuel 0 f in omega (arith, some)))
 
-  right_end : length file ≤ 65536 → (fs : List Routine) (cs : List Cell) (ks : List Call) → Standing file kind at rest fs cs ks → read_le 2 rest 2 ≡ 4 → len ≡ 0
+  pub right_end : length file ≤ 65536 → (fs : List Routine) (cs : List Cell) (ks : List Call) → Standing file kind at rest fs cs ks → read_le 2 rest 2 ≡ 4 → len ≡ 0
       → Right file (read_end (length file) at (block_for (holding fs cs ks)))
   unfolding read_end
   right_end short fs cs ks r is none =
@@ -254,7 +254,7 @@ module _ (file : List ℕ) (kind at : ℕ) (rest : List ℕ) (len : ℕ) (own : 
             refl,
           )
 
--- ---- the whole file
+-- ---- lengths
 
 pub function_lengths : (len : ℕ) → length_allowed 1 len ≡ true → (4 ≤ len) × (len ≤ 516) × ((len - 4) % 8 ≡ 0)
 unfolding length_allowed
@@ -266,83 +266,3 @@ function_lengths len e =
 pub other_lengths : (len : ℕ) → (length_allowed 2 len ≡ true → len ≡ 20) × (length_allowed 3 len ≡ true → len ≡ call_bytes) × (length_allowed 4 len ≡ true → len ≡ 0)
 unfolding length_allowed
 other_lengths len = (eqb-true len 20, eqb-true len call_bytes, eqb-true len 0)
-
-module _ (file : List ℕ) (short : length file ≤ 65536) where
-  right_body : (kind at : ℕ) (rest : List ℕ) (fs : List Routine) (cs : List Cell) (ks : List Call) → Standing file kind at rest fs cs ks
-      → 4 + number 2 rest ≤ length rest → (k : ℕ) → read_le 2 rest 2 ≡ k → 1 ≤ k → k ≤ 4 → kind ≤ k → length_allowed k (number 2 rest) ≡ true
-      → Right file (read_body (length file) k at (number 2 rest) (drop 4 rest) (block_for (holding fs cs ks)))
-  unfolding read_body
-  right_body kind at rest fs cs ks r fit k is low high up size =
-      if_all (Right file) (eqb k 1)
-      (λ e. let one : k ≡ 1 = eqb-true k 1 e in
-      let o = function_lengths len (subst (λ (j : ℕ). length_allowed j len ≡ true) one size) in
-      right_function file kind at rest len refl (omega arith) fit fs cs ks r (is ∙ one) (omega arith) o.0 o.1 o.2) λ e₁.
-      if_all (Right file) (eqb k 2)
-      (λ e. let two : k ≡ 2 = eqb-true k 2 e in
-      right_cell file kind at rest len refl (omega arith) fit fs cs ks r (is ∙ two) (omega arith) ((other_lengths len).0 (subst (λ (j : ℕ). length_allowed j len ≡ true) two size))) λ e₂.
-      if_all (Right file) (eqb k 3)
-      (λ e. let three : k ≡ 3 = eqb-true k 3 e in
-      right_call file kind at rest len refl (omega arith) fit fs cs ks r (is ∙ three) ((other_lengths len).1 (subst (λ (j : ℕ). length_allowed j len ≡ true) three size))) λ e₃.
-      let n₁ : k ≡ 1 → ⊥ = eqb-false k 1 e₁ in
-      let n₂ : k ≡ 2 → ⊥ = eqb-false k 2 e₂ in
-      let n₃ : k ≡ 3 → ⊥ = eqb-false k 3 e₃ in
-      let four : k ≡ 4 = omega arith in
-      right_end file kind at rest len refl (omega arith) fit short fs cs ks r (is ∙ four) ((other_lengths len).2 (subst (λ (j : ℕ). length_allowed j len ≡ true) four size))
-    where
-      len : ℕ
-      len = number 2 rest
-
-  pub right_record : (kind at : ℕ) (rest : List ℕ) (b : Block) → Held file kind at rest b → Right file (read_record (length file) kind at rest b)
-  unfolding read_record
-  right_record kind at rest b h =
-      let r : Standing file kind at rest h.fs h.cs h.ks = h.stands in
-      let all : length file ≡ length (sent h.fs h.cs h.ks) + length rest = ap length r.parts ∙ length-append (sent h.fs h.cs h.ks) rest in
-      let here : at ≡ length (sent h.fs h.cs h.ks) = r.place in
-      if_all (Right file) (ltb (length file - at) 4) (λ e. tt) λ head.
-      if_all (Right file) (ltb (read_le 2 rest 2) 1 || ltb 4 (read_le 2 rest 2) || ltb (read_le 2 rest 2) kind) (λ e. tt) λ known.
-      if_all (Right file) (not (length_allowed (read_le 2 rest 2) (number 2 rest))) (λ e. tt) λ size.
-      if_all (Right file) (ltb (length file - (at + 4)) (number 2 rest)) (λ e. tt) λ whole.
-      let there : 4 ≤ length file - at = ltb-false (length file - at) 4 head in
-      let fits : number 2 rest ≤ length file - (at + 4) = ltb-false (length file - (at + 4)) (number 2 rest) whole in
-      let o = neither (ltb (read_le 2 rest 2) 1 || ltb 4 (read_le 2 rest 2)) (ltb (read_le 2 rest 2) kind) known in
-      let p = neither (ltb (read_le 2 rest 2) 1) (ltb 4 (read_le 2 rest 2)) o.0 in
-      subst⁻¹ (λ (c : Block). Right file (read_body (length file) (read_le 2 rest 2) at (number 2 rest) (drop 4 rest) c)) h.block
-      (right_body kind at rest h.fs h.cs h.ks r (omega arith) (read_le 2 rest 2) refl (ltb-false (read_le 2 rest 2) 1 p.0) (ltb-false 4 (read_le 2 rest 2) p.1)
-      (ltb-false (read_le 2 rest 2) kind o.1) (not-false (length_allowed (read_le 2 rest 2) (number 2 rest)) size))
-
-  right_from : (turns : ℕ) (g : Reading) → Right file g → Right file (ended (read_from turns (length file) g))
-  unfolding read_from
-  right_from zero (due kind at rest b) r = tt
-  right_from zero (ended g) r = r
-  right_from (suc turns) (due kind at rest b) r = right_from turns (read_record (length file) kind at rest b) (right_record kind at rest b r)
-  right_from (suc turns) (ended g) r = r
-
-pub nothing_stands : (file : List ℕ) → AreBytes file → Held file 0 0 file empty_block
-unfolding total balances Ascending block_for placed records sent
-nothing_stands file bytes =
-    record {
-      fs = [];
-      cs = [];
-      ks = [];
-      stands =
-          record {
-            functions = record { each = tt; rising = tt; few = omega arith };
-            cells = record { each = tt; rising = tt; few = omega arith; sum = refl };
-            calls = record { each = tt; few = omega arith };
-            parts = refl;
-            place = refl;
-            bytes = bytes;
-            last = refl;
-          };
-      block = refl;
-    }
-
-right_block : (file : List ℕ) → AreBytes file → Right file (ended (read_block file))
-unfolding read_block
-right_block file bytes =
-    if_all (λ (g : Read). Right file (ended g)) (ltb 65536 (length file)) (λ e. tt) λ e.
-    right_from file (ltb-false 65536 (length file) e) (length file + 1) (due 0 0 file empty_block) (nothing_stands file bytes)
-
--- Nothing else is accepted.
-pub reads_only : (file : List ℕ) → AreBytes file → (b : Block) → read_block file ≡ accepted b → (t : Contents) × HoldsContents file t × (b ≡ block_for t)
-reads_only file bytes b e = subst (λ (g : Read). Right file (ended g)) e (right_block file bytes)

@@ -1,28 +1,28 @@
 -- What the reader makes of one record, by its faults: it refuses by the first of them, and takes a record that has none.
 use mathlib.Core.Path.{◌≡◌, refl, sym, ap, subst, subst⁻¹, ◌∙◌}
-use mathlib.Core.Bool.{Bool, true, false, not, ◌&&◌, ◌||◌, false≢true}
+use mathlib.Core.Bool.{Bool, true, false, not, ◌&&◌, false≢true}
 use mathlib.Core.List.{List, [], ◌∷◌, ◌++◌, map, map-append}
 use Prim.Native.Nat.{ℕ, ◌+◌, ◌-◌, ◌*◌, ◌/◌, ◌%◌, ◌≤◌, ◌<◌}
 use native.Mathlib.Omega.{arith}
-use borrow.Author.Tests.{ltb-true, ltb-false, leb-true, leb-false, eqb-true, eqb-false, not-true, not-false, le-ltb, le-leb, eq-eqb}
+use borrow.Author.Tests.{ltb-true, ltb-false, leb-true, leb-false, eqb-true, eqb-false, not-true, not-false, le-leb, eq-eqb}
 use lib.Dec.{eqb, leb, ltb}
 use lib.ListN.{length, take, drop, length-drop, length-append}
 use lib.Signed.{le_z}
-use Rattle.arith.proofs.ChoiceLaws.{if_all, neither}
+use Rattle.arith.proofs.ChoiceLaws.{if_all}
 use Rattle.arith.specs.Balance.{total, largest}
 use Rattle.wire.specs.Bytes.{number, read_le}
 use Rattle.block.specs.Instruction.{decode, is_valid, first_invalid}
 use Rattle.block.specs.Record.{Cell, function_id, end_kind, call_bytes, recordOf, length_allowed, cell_of, cell_allowed, call_of}
-use Rattle.block.specs.Reader.{Reading, accepted, refused, due, ended, rises, balances, read_function, read_cell, withCall, read_call, read_end, read_body, read_record}
+use Rattle.block.specs.Reader.{Reading, accepted, refused, due, ended, rises, balances, read_function, read_cell, withCall, read_call, read_end}
 use Rattle.block.specs.Refusal.{number_of, offset_of}
 use Rattle.block.specs.Encoding.{Routine, Contents, AreBytes, Ascending, size_of, FunctionKeeps, CellKeeps, CallKeeps, routine_id, FunctionsKeep, CellsKeep, placed, block_for}
-use Rattle.block.specs.Faults.{last_kind, length_in, kind_in, Element, a_function, a_cell, a_call, the_end, Holds, KindRight, LengthRight, FieldsRight, FirstWrong, CodeWrong, RisesWith, SumWithin, Fault, head_cut, kind_wrong, length_wrong, body_cut, limit_passed, field_wrong, code_wrong, not_rising, sum_passed, bytes_behind, fault_number, fault_place, HasFault, NoneBefore}
+use Rattle.block.specs.Faults.{length_in, kind_in, Element, a_function, a_cell, a_call, the_end, Holds, LengthRight, FieldsRight, FirstWrong, CodeWrong, RisesWith, SumWithin, Fault, limit_passed, field_wrong, code_wrong, not_rising, sum_passed, bytes_behind, fault_number, fault_place, HasFault, NoneBefore}
 use Rattle.block.proofs.DecoderExact.{holds_valid, valid_holds}
 use Rattle.block.proofs.EncodingLaws.{function_body, cell_body, call_body, bytes_drop, bytes_take, decode_code, routine_in, code_split, function_size, function_split, function_length_in, function_keeps}
 use Rattle.block.proofs.BodyLaws.{cell_split, cell_keeps, cell_allowed_lem, call_in_body, call_back, call_in_lem, call_keeps, in_split, below_16, below_32, value_fits}
 use Rattle.block.proofs.ContentsLaws.{ascending_snoc, ascending_rises, record_length, cell_length_lem, call_length, placed_length, placed_ids}
 use Rattle.block.proofs.ReadsOnly.{record_split, function_lengths, other_lengths}
-use Rattle.block.proofs.FaultLaws.{front, only_function, only_cell, only_call, only_end, Invalid, first_invalid_lem, none_first, none_next}
+use Rattle.block.proofs.FaultLaws.{front, only_function, only_cell, only_call, only_end, Invalid, first_invalid_lem, none_next}
 use Rattle.block.specs.declared.Call.{Call}
 use Rattle.block.specs.declared.CallBody.{CallBody}
 use Rattle.block.specs.declared.CallBody.TheVariants.{InRange, OutOfRange}
@@ -46,7 +46,7 @@ Told t rest at (ended (refused why)) = Fails t rest at why
 
 -- ---- lengths
 
-length_allowed_lem : (kind len : ℕ) → 1 ≤ kind → kind ≤ 4 → LengthRight kind len → length_allowed kind len ≡ true
+pub length_allowed_lem : (kind len : ℕ) → 1 ≤ kind → kind ≤ 4 → LengthRight kind len → length_allowed kind len ≡ true
 unfolding length_allowed
 length_allowed_lem kind len low high r =
     if_all (λ (b : Bool). b ≡ true) (eqb kind 1) (λ e. let o = r.function (eqb-true kind 1 e) in function o.0 o.1 o.2) λ e₁.
@@ -61,7 +61,7 @@ length_allowed_lem kind len low high r =
     function : (n : ℕ) → n ≤ 64 → len ≡ 4 + 8 * n → (leb 4 len && leb len 516 && eqb ((len - 4) % 8) 0) ≡ true
     function n few e = rw (le-leb 4 len (omega arith), le-leb len 516 (omega arith), eq-eqb ((len - 4) % 8) 0 (omega arith))
 
-length_right : (kind len : ℕ) → length_allowed kind len ≡ true → LengthRight kind len
+pub length_right : (kind len : ℕ) → length_allowed kind len ≡ true → LengthRight kind len
 length_right kind len e =
     record {
       function = λ k. let o = function_lengths len (of 1 k) in ((len - 4) / 8, omega (arith, o), omega (arith, o));
@@ -151,7 +151,7 @@ module _ (t : Contents) (functions : FunctionsKeep t.functions) (cells : CellsKe
                 (record_split rest bytes (omega arith) (function_body f) (drop (length_in rest) body) (sym long) split);
           }
 
-      told_function : Told t rest at (read_function at (length_in rest) (drop 4 rest) (block_for t))
+      pub told_function : Told t rest at (read_function at (length_in rest) (drop 4 rest) (block_for t))
       unfolding read_function block_for HasFault fault_place fault_number number_of offset_of
       told_function =
           if_all (Told t rest at) (leb 64 (length (placed 0 t.functions)))
@@ -244,7 +244,7 @@ module _ (t : Contents) (functions : FunctionsKeep t.functions) (cells : CellsKe
           let fit : 20 ≤ length (drop 4 rest) = omega (arith, body_fits) in
           ap cell_allowed (cell_split body body_bytes fit) ∙ cell_allowed_lem c (drop 20 body) keeps
 
-      told_cell : Told t rest at (read_cell at (length_in rest) (drop 4 rest) (block_for t))
+      pub told_cell : Told t rest at (read_cell at (length_in rest) (drop 4 rest) (block_for t))
       unfolding read_cell block_for HasFault fault_place fault_number number_of offset_of
       told_cell =
           if_all (Told t rest at) (leb 1024 (length t.cells))
@@ -358,7 +358,7 @@ module _ (t : Contents) (functions : FunctionsKeep t.functions) (cells : CellsKe
           let none_9 : None 9 = none_next t rest sum_passed 8 refl none-8 (lacks (SumWithin t) (only_call rest short (SumWithin t) is tt)) in
           told_last (at + 4 + length_in rest) (λ n. omega (arith, is, n)) (omega arith) none_9
 
-      told_call : Told t rest at (read_call at (length_in rest) (drop 4 rest) (block_for t))
+      pub told_call : Told t rest at (read_call at (length_in rest) (drop 4 rest) (block_for t))
       unfolding read_call block_for HasFault fault_place fault_number number_of offset_of
       told_call =
           if_all (Told t rest at) (leb 256 (length t.calls))
@@ -401,7 +401,7 @@ module _ (t : Contents) (functions : FunctionsKeep t.functions) (cells : CellsKe
           let none-8 : None 8 = none_next t rest not_rising 7 refl none-7 (lacks (RisesWith t) (only_end rest short (RisesWith t) is tt)) in
           none_next t rest sum_passed 8 refl none-8 (lacks (SumWithin t) (only_end rest short (SumWithin t) is tt))
 
-      told_end : (size : ℕ) → size ≡ at + length rest → Told t rest at (read_end size at (block_for t))
+      pub told_end : (size : ℕ) → size ≡ at + length rest → Told t rest at (read_end size at (block_for t))
       unfolding read_end HasFault fault_place fault_number number_of offset_of
       told_end size all =
           if_all (Told t rest at) (ltb (at + 4) size)
@@ -414,77 +414,3 @@ module _ (t : Contents) (functions : FunctionsKeep t.functions) (cells : CellsKe
             place = refl;
           })
           λ e. none_next t rest bytes_behind 9 refl none_9 (λ into h. omega (arith, ltb-false (at + 4) size e, end_more h.1.0, h.1.1))
-
-    told_body : (size : ℕ) → size ≡ at + length rest → 1 ≤ kind_in rest → kind_in rest ≤ 4 → length_allowed (kind_in rest) (length_in rest) ≡ true
-        → Told t rest at (read_body size (kind_in rest) at (length_in rest) (drop 4 rest) (block_for t))
-    unfolding read_body
-    told_body size all low high sized =
-        if_all (Told t rest at) (eqb (kind_in rest) 1)
-        (λ e. let one : kind_in rest ≡ 1 = eqb-true (kind_in rest) 1 e in
-        let o = function_lengths (length_in rest) (of 1 one) in told_function one o.0 o.1 o.2) λ e₁.
-        if_all (Told t rest at) (eqb (kind_in rest) 2)
-        (λ e. let two : kind_in rest ≡ 2 = eqb-true (kind_in rest) 2 e in told_cell two ((other_lengths (length_in rest)).0 (of 2 two))) λ e₂.
-        if_all (Told t rest at) (eqb (kind_in rest) 3)
-        (λ e. let three : kind_in rest ≡ 3 = eqb-true (kind_in rest) 3 e in told_call three ((other_lengths (length_in rest)).1 (of 3 three))) λ e₃.
-        let n₁ : kind_in rest ≡ 1 → ⊥ = eqb-false (kind_in rest) 1 e₁ in
-        let n₂ : kind_in rest ≡ 2 → ⊥ = eqb-false (kind_in rest) 2 e₂ in
-        let n₃ : kind_in rest ≡ 3 → ⊥ = eqb-false (kind_in rest) 3 e₃ in
-        let four : kind_in rest ≡ 4 = omega arith in
-        told_end four ((other_lengths (length_in rest)).2 (of 4 four)) size all
-      where
-        of : (n : ℕ) → kind_in rest ≡ n → length_allowed n (length_in rest) ≡ true
-        of n k = subst (λ (j : ℕ). length_allowed j (length_in rest) ≡ true) k sized
-
-  -- The reader, at what stands behind contents that keep the rules.
-  pub told_record : (size : ℕ) → size ≡ at + length rest → Told t rest at (read_record size (last_kind t) at rest (block_for t))
-  unfolding read_record HasFault fault_place fault_number number_of offset_of
-  told_record size all =
-      if_all (Told t rest at) (ltb (size - at) 4)
-      (λ e. record {
-        fault = head_cut;
-        into = 0;
-        has = (refl, omega (arith, ltb-true (size - at) 4 e));
-        none = none_first t rest;
-        number = refl;
-        place = omega arith;
-      }) λ head.
-      let none_1 : None 1 = none_next t rest head_cut 0 refl (none_first t rest) (λ into h. omega (arith, ltb-false (size - at) 4 head, h.1)) in
-      if_all (Told t rest at) (ltb (kind_in rest) 1 || ltb 4 (kind_in rest) || ltb (kind_in rest) (last_kind t))
-      (λ e. record {
-        fault = kind_wrong;
-        into = 0;
-        has = (refl, λ k. false≢true (sym (right k) ∙ e));
-        none = none_1;
-        number = refl;
-        place = omega arith;
-      }) λ known.
-      let o = neither (ltb (kind_in rest) 1 || ltb 4 (kind_in rest)) (ltb (kind_in rest) (last_kind t)) known in
-      let p = neither (ltb (kind_in rest) 1) (ltb 4 (kind_in rest)) o.0 in
-      let low : 1 ≤ kind_in rest = ltb-false (kind_in rest) 1 p.0 in
-      let high : kind_in rest ≤ 4 = ltb-false 4 (kind_in rest) p.1 in
-      let none_2 : None 2 = none_next t rest kind_wrong 1 refl none_1
-      (λ into h. h.1 (record { known = (low, high); falling = ltb-false (kind_in rest) (last_kind t) o.1 })) in
-      if_all (Told t rest at) (not (length_allowed (kind_in rest) (length_in rest)))
-      (λ e. record {
-        fault = length_wrong;
-        into = 0;
-        has = (refl, λ r. false≢true (sym (not-true _ e) ∙ length_allowed_lem (kind_in rest) (length_in rest) low high r));
-        none = none_2;
-        number = refl;
-        place = omega arith;
-      }) λ sized.
-      let none-3 : None 3 = none_next t rest length_wrong 2 refl none_2 (λ into h. h.1 (length_right (kind_in rest) (length_in rest) (not-false _ sized))) in
-      if_all (Told t rest at) (ltb (size - (at + 4)) (length_in rest))
-      (λ e. record {
-        fault = body_cut;
-        into = 0;
-        has = (refl, omega (arith, ltb-true (size - (at + 4)) (length_in rest) e, ltb-false (size - at) 4 head));
-        none = none-3;
-        number = refl;
-        place = omega arith;
-      }) λ cut.
-      let whole : 4 + length_in rest ≤ length rest = omega (arith, ltb-false (size - (at + 4)) (length_in rest) cut, ltb-false (size - at) 4 head) in
-      told_body whole (none_next t rest body_cut 3 refl none-3 (λ into h. omega (arith, whole, h.1))) size all low high (not-false _ sized)
-    where
-      right : KindRight t (kind_in rest) → (ltb (kind_in rest) 1 || ltb 4 (kind_in rest) || ltb (kind_in rest) (last_kind t)) ≡ false
-      right k = rw (le-ltb (kind_in rest) 1 k.known.0, le-ltb 4 (kind_in rest) k.known.1, le-ltb (kind_in rest) (last_kind t) k.falling)

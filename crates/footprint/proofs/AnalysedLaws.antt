@@ -15,6 +15,7 @@ use Rattle.block.specs.Limits.{max_call_keys, max_keys}
 use Rattle.block.specs.Record.{Function, Block, call_record_bytes}
 use Rattle.block.specs.Reader.{accepted, read_block}
 use Rattle.block.proofs.ReaderLaws as reading
+use Rattle.block.proofs.ReaderRight.{accepted_laws}
 use Rattle.block.specs.declared.Call.{Call}
 use Rattle.block.specs.declared.Refusal.{Refusal}
 use Rattle.block.specs.declared.Refusal.TheVariants.{CallKeys, AllKeys}
@@ -175,7 +176,7 @@ opening_sound file b laws =
 pub analysed_complete : (file : List ℕ) (b : Block) (sets : List (List Access)) (table : List ℕ)
     → read_block file ≡ accepted b → analysis_of file b ≡ analysed sets table → Complete file b sets table
 analysed_complete file b sets table read e =
-    let laws : reading.BlockLaws file b = (reading.accepted_laws file b read).laws in
+    let laws : reading.BlockLaws file b = (accepted_laws file b read).laws in
     let whole : CollectedAll [] (opening_keys b) (all_sets file b) sets table =
     ends file b.functions b.calls b.first_call [] (opening_keys b) sets table (opening_sound file b laws) e in
     record {

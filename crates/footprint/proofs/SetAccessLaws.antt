@@ -18,7 +18,8 @@ use Rattle.wire.proofs.BytesLaws.{number_lt}
 use Rattle.block.specs.Key.{first_contract, account_balance, contract_balance, payee_of}
 use Rattle.block.proofs.KeyLaws.{payee_all}
 use Rattle.block.specs.Instruction.{decode}
-use Rattle.block.proofs.DecodeLaws.{SourceFits, InstrFits, InstrLawful, Decodes, decodes_map, decode_lawful}
+use Rattle.block.proofs.DecodeLaws.{SourceFits, InstrFits, InstrLawful, Decodes, decodes_map}
+use Rattle.block.proofs.DecodeOwn.{decode_lawful}
 use Rattle.block.specs.Record.{Function, argument, code_at}
 use Rattle.block.specs.declared.Call.{Call}
 use Rattle.block.specs.declared.Payee.{Payee}

@@ -20,7 +20,8 @@ use Rattle.arith.specs.declared.Checked.TheVariants as checked
 use Rattle.block.specs.Key.{account_balance, contract_balance, is_balance}
 use Rattle.block.specs.Limits.{max_code, max_fuel}
 use Rattle.block.specs.Instruction.{instr_bytes}
-use Rattle.block.proofs.DecodeLaws.{JumpsWithin, Decodes, decode_within}
+use Rattle.block.proofs.DecodeLaws.{JumpsWithin, Decodes}
+use Rattle.block.proofs.DecodeOwn.{decode_within}
 use Rattle.block.specs.Outcomes.{balance_too_low, thrown, out_of_fuel, last_outcome, max_count}
 use Rattle.block.specs.declared.Call.{Call}
 use Rattle.block.specs.declared.Payee.{Payee}

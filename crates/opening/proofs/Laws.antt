@@ -16,7 +16,7 @@ use Rattle.block.specs.Refusal.{verdict_number, verdict_offset}
 use Rattle.block.specs.Reader as reading
 use Rattle.block.specs.Reader.{Read, read_block}
 use Rattle.block.specs.Record.{Block}
-use Rattle.block.proofs.ReaderLaws.{accepted_laws}
+use Rattle.block.proofs.ReaderRight.{accepted_laws}
 use Rattle.block.specs.declared.Refusal.{Refusal}
 use Rattle.block.specs.declared.Refusal.TheVariants.{Workers, Buffers}
 use Rattle.block.specs.declared.Verdict.{Verdict}

@@ -10,7 +10,8 @@ use Rattle.arith.specs.Balance.{total}
 use Rattle.wire.specs.Bytes.{repeated, padded}
 use Rattle.block.specs.Record.{Function, Block, function_id}
 use Rattle.block.specs.Reader.{Read, Reading, accepted, refused, due, ended, empty_block, balances, read_record, read_from, read_block}
-use Rattle.block.proofs.ReaderLaws.{Reached, Right, right_record, reached_start}
+use Rattle.block.proofs.ReaderLaws.{Reached, Right, reached_start}
+use Rattle.block.proofs.ReaderRight.{right_record}
 use Rattle.reader.specs.Layout.{table, layout_of}
 use Rattle.reader.specs.Standing.{floor_of, NumbersOfBlock, MovedOn, TurnFollows, layout_left, progress_start}
 use Rattle.block.specs.declared.Refusal.TheVariants.{InputTooLong}

@@ -13,7 +13,8 @@ use Rattle.wire.proofs.BytesLaws.{padded_length}
 use Rattle.block.specs.Limits.{max_calls, max_keys, max_workers}
 use Rattle.block.specs.Record.{Block}
 use Rattle.block.specs.Reader.{accepted, read_block}
-use Rattle.block.proofs.ReaderLaws.{EndsFile, accepted_laws, opening_within}
+use Rattle.block.proofs.ReaderLaws.{EndsFile, opening_within}
+use Rattle.block.proofs.ReaderRight.{accepted_laws}
 use Rattle.block.specs.declared.Call.{Call}
 use Rattle.block.specs.declared.Verdict.TheVariants.{Accepted}
 use Rattle.footprint.specs.Access.{Access}

@@ -14,7 +14,7 @@ use Rattle.block.specs.Reader.{Read, accepted, refused, read_block}
 use Rattle.block.specs.Refusal.{number_of, offset_of, verdict_number, verdict_offset}
 use Rattle.block.specs.Encoding.{AreBytes, Contents, HoldsContents, block_for}
 use Rattle.block.specs.Faults.{Faulty, RefusedBy}
-use Rattle.block.proofs.ReaderLaws.{accepted_laws}
+use Rattle.block.proofs.ReaderRight.{accepted_laws}
 use Rattle.block.proofs.ReaderExact.{reader_exact}
 use Rattle.block.proofs.FileFaults.{fault_range, long_refused_lem, refusals_exact}
 use Rattle.block.specs.declared.Call.{Call}
