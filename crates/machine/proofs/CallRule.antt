@@ -26,7 +26,7 @@ use Rattle.block.specs.declared.Call.{Call}
 use Rattle.block.specs.declared.Decoded.TheVariants.{Valid}
 use Rattle.block.specs.declared.Instr.{Instr}
 use Rattle.footprint.specs.Access.{Access, changing, writing, entry_accesses}
-use Rattle.footprint.proofs.SetAccessLaws.{drop_bytes, decode_sound}
+use Rattle.footprint.proofs.SetAccessLaws.{drop_bytes, decode_sound, sets_used}
 use Rattle.block.specs.Encoding.{AreBytes}
 use Rattle.footprint.specs.Sets.{function_sets, sets_of, write_set}
 use Rattle.block.specs.Naming.{function_of}
@@ -43,11 +43,12 @@ use Rattle.machine.specs.Step.{View, Local, Stepped, damaged, more, done, saved_
 use Rattle.machine.specs.CallInRun.{InstrOf, made_view, begun_local, step_times, steps_taken, Hold, LeavesAsRule}
 use Rattle.machine.specs.Serial.{step_limit}
 use Rattle.machine.proofs.CodeLaws.{instr_of, function_end}
-use Rattle.machine.proofs.LookupLaws.{Covered, entry_covered, instr_covered, KeysInTable}
+use Rattle.machine.proofs.LookupLaws.{Covered, entry_covered, instr_covered, sets_distinct, lookup_covered, KeysInTable}
+use Rattle.machine.proofs.RestoreLaws.{made_restorable}
 use Rattle.machine.proofs.HoldLaws.{Now, moved_cells, hold_alike}
 use Rattle.machine.proofs.StepLaws.{FuelInRange, Ranged, begun_ranged, Lowers, entry_leads, StepLowers}
 use Rattle.machine.proofs.PlaceLaws.{step_lowers}
-use Rattle.machine.proofs.CallStep.{made_of, view_in, body_step, step_instr_lem}
+use Rattle.machine.proofs.CallStep.{view_in, body_step, step_instr_lem}
 use Rattle.machine.proofs.StepRule.{Completes, MadeOf, rule_local, Match, transfer_short, transfer_moves, transfer_now, fails_match, instr_match}
 
 -- ---- nothing moves
@@ -84,6 +85,20 @@ by_entry : (table : List ℕ) (left : Left) (v : View) (cells : List ℤ)
     → CallCompletes table left v cells
 unfolding step_times steps_taken
 by_entry table left v cells h = record { leaves = h.leaves; steps = omega (arith, h.steps) }
+
+-- A view with the entries and the keys of a call's sets and table finds and restores its cells.
+made_of : (file : List ℕ) (c : Call) (o : Option Function) (table : List ℕ) (room : ℕ) (v : View) → length table ≤ max_keys
+    → KeysInTable table (function_sets file c o) → v.count ≤ max_call_keys
+    → v.entries ≡ map (entry_word table) (function_sets file c o) → v.keys ≡ padded room 0 (table_words table)
+    → MadeOf v table (function_sets file c o)
+made_of file c o table room v few known small entries keys =
+    record {
+      few = few;
+      known = known;
+      found = λ a covered. lookup_covered v room table (function_sets file c o) a small keys entries few (sets_distinct file c o) known covered;
+      able = rw entries (made_restorable table few (function_sets file c o) v.count small (sets_used file c o) known);
+      entries = entries;
+    }
 
 -- A call of the function f, begun at a state that the old cells hold.
 module _ (file : List ℕ) (bytes : AreBytes file) (c : Call) (fits : CallBounded c) (fuelled : FuelInRange c.fuel) (f : Function) (sound : FunctionSound file f) (table : List ℕ)

@@ -1,8 +1,8 @@
 -- A step of a call of a made run from behind its entry: the test of its place, that of its fuel, and the instruction.
-use mathlib.Core.Path.{◌≡◌, refl, ◌∙◌}
+use mathlib.Core.Path.{◌≡◌, ◌∙◌}
 use mathlib.Core.Bool.{true}
 use mathlib.Core.List.{List, map}
-use mathlib.Core.Option.{Option, some}
+use mathlib.Core.Option.{some}
 use Prim.Native.Nat.{ℕ, ◌+◌, ◌-◌, ◌*◌, ◌≤◌, ◌<◌}
 use native.Mathlib.Omega.{arith}
 use borrow.Author.Tests.{ne_eqb, le-leb, le-ltb}
@@ -14,40 +14,23 @@ use Rattle.wire.specs.Bytes.{padded}
 use Rattle.block.specs.Limits.{max_call_keys, max_keys}
 use Rattle.block.specs.Outcomes.{ended, out_of_fuel}
 use Rattle.block.specs.Instruction.{instr_bytes, decode}
-use Rattle.block.specs.Record.{Function, code_at}
+use Rattle.block.specs.Record.{Function}
 use Rattle.block.proofs.ReaderLaws.{FunctionSound}
 use Rattle.block.specs.declared.Call.{Call}
 use Rattle.block.specs.declared.Decoded.TheVariants.{Valid}
 use Rattle.block.specs.declared.Instr.{Instr}
 use Rattle.footprint.specs.Access.{Access, accesses}
-use Rattle.footprint.proofs.SetAccessLaws.{sets_used}
 use Rattle.block.specs.Encoding.{AreBytes}
-use Rattle.footprint.specs.Sets.{function_sets, write_set}
+use Rattle.footprint.specs.Sets.{function_sets}
 use Rattle.footprint.specs.Plan.{entry_word, table_words}
-use Rattle.rule.specs.Rule.{State, state_within_limit, Course, body_of}
+use Rattle.rule.specs.Rule.{State, state_within_limit}
 use Rattle.footprint.specs.SafeSets.{CallBounded}
 use Rattle.machine.specs.Action.{instr_action}
-use Rattle.machine.specs.Step.{View, Local, ending, Stepped, saved_of, concluded, perform_action, step_decoded, step_instr, step_body, step_place, step_call}
+use Rattle.machine.specs.Step.{View, Local, ending, saved_of, concluded, perform_action, step_decoded, step_instr, step_body, step_place, step_call}
 use Rattle.machine.specs.CallInRun.{Hold}
-use Rattle.machine.proofs.LookupLaws.{sets_distinct, lookup_covered, KeysInTable}
-use Rattle.machine.proofs.RestoreLaws.{made_restorable}
-use Rattle.machine.proofs.HoldLaws.{Now}
+use Rattle.machine.proofs.LookupLaws.{KeysInTable}
 use Rattle.machine.proofs.StepLaws.{FuelInRange}
-use Rattle.machine.proofs.StepRule.{MadeOf, rule_local, Match}
-
--- A view with the entries and the keys of a call's sets and table finds and restores its cells.
-pub made_of : (file : List ℕ) (c : Call) (o : Option Function) (table : List ℕ) (room : ℕ) (v : View) → length table ≤ max_keys
-    → KeysInTable table (function_sets file c o) → v.count ≤ max_call_keys
-    → v.entries ≡ map (entry_word table) (function_sets file c o) → v.keys ≡ padded room 0 (table_words table)
-    → MadeOf v table (function_sets file c o)
-made_of file c o table room v few known small entries keys =
-    record {
-      few = few;
-      known = known;
-      found = λ a covered. lookup_covered v room table (function_sets file c o) a small keys entries few (sets_distinct file c o) known covered;
-      able = rw entries (made_restorable table few (function_sets file c o) v.count small (sets_used file c o) known);
-      entries = entries;
-    }
+use Rattle.machine.proofs.StepRule.{rule_local}
 
 -- The view of a call whose function is f.
 abbrev pub view_in : (file : List ℕ) (room : ℕ) (table : List ℕ) → Call → Function → View
@@ -72,23 +55,11 @@ module _ (file : List ℕ) (bytes : AreBytes file) (c : Call) (fits : CallBounde
   abbrev view : View
   view = view_in file room table c f
 
-  abbrev body : List Instr
-  body = body_of f.size f.size (code_at file f.start f.size)
-
-  made : MadeOf view table es
-  made = made_of file c (some f) table room view few known small refl refl
-
   abbrev at : ℕ → List ℤ → ℕ → Local
   at place ρ n = rule_local view table es start old place ρ n
 
   abbrev kept : List ℤ
   kept = saved_of view.entries old
-
-  abbrev Matches : Course → Stepped → Type 0
-  Matches = Match view table es start old
-
-  abbrev Here : State → List ℤ → Type 0
-  Here σ cells = Now table (write_set es) start σ cells
 
   -- Behind the entry, at a count within the fuel.
   pub body_step : (p : ℕ) (ρ : List ℤ) (n : ℕ) (cells : List ℤ) → n ≤ c.fuel

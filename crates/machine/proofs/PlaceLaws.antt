@@ -86,9 +86,12 @@ place_all v place count regs P breaks ends spends acts =
 -- ---- a step from a place in range
 
 module _ (v : View) (place count : ℕ) (regs : List ℤ) (range : Ranged v place count) (cells : List ℤ) where
-  place_lowers : PlaceLowers v place count regs (step_place v place count regs cells)
+  abbrev Low : Performed → Type 0
+  Low = PlaceLowers v place count regs
+
+  place_lowers : Low (step_place v place count regs cells)
   place_lowers =
-      place_all v place count regs (λ f. PlaceLowers v place count regs (f cells)) tt (λ outcome n few less. (omega (arith, few), omega (arith, less, ranged_count range)))
+      place_all v place count regs (λ f. Low (f cells)) tt (λ outcome n few less. (omega (arith, few), omega (arith, less, ranged_count range)))
       (λ some inside spent. (omega arith, ranged_count range))
       (λ n as' a f. perform_lowers v place count regs range cells n (f.behind range) a.regs f.registers as' a.next f.next)
 
