@@ -40,7 +40,8 @@ use Rattle.machine.specs.declared.Next.{Next}
 use Rattle.machine.specs.declared.Next.TheVariants.{Go, End, Load, Store, Transfer}
 use Rattle.machine.specs.declared.Lookup.{Lookup}
 use Rattle.machine.specs.declared.Lookup.TheVariants.{Cell, NoCell}
-use Rattle.machine.proofs.StepLaws.{NextFits, place_all}
+use Rattle.machine.proofs.StepLaws.{NextFits}
+use Rattle.machine.proofs.PlaceLaws.{place_all}
 use Rattle.guarantees.specs.Turns.{turned, entered, failed_with}
 use Rattle.guarantees.specs.Fuel.{Runs, Stands, Due, Ended, RuleFuel, StepFuel, with_fuel, FuelHolds}
 use Rattle.guarantees.proofs.TurnedLaws.{run_turned, StandsAfter, OverOrStands, over_or_stands, end_any, transaction_runs, turn_below, FailsAt, SpentAt, failed_at}

@@ -4,10 +4,10 @@ use mathlib.Core.Path.{◌≡◌, refl, sym, ◌∙◌, subst}
 use mathlib.Core.Bool.{Bool, true, false}
 use mathlib.Core.List.{List, [], ◌∷◌, map}
 use mathlib.Core.Option.{Option, none, some}
-use Prim.Native.Nat.{ℕ, zero, suc, ◌+◌, ◌-◌, ◌*◌, ◌^◌, ◌≤◌, ◌<◌, suc-le-suc}
+use Prim.Native.Nat.{ℕ, zero, suc, ◌+◌, ◌*◌, ◌^◌, ◌≤◌, ◌<◌, suc-le-suc}
 use native.Mathlib.Decide.{dec_lt, ℕ_discrete}
 use native.Mathlib.Omega.{arith}
-use borrow.Author.Tests.{eq-eqb, ne_eqb, le-leb, le-ltb}
+use borrow.Author.Tests.{eq-eqb, ne_eqb}
 use lib.Dec.{eqb}
 use lib.IntN.{ℤ, pos, ◌+ℤ◌, ◌-ℤ◌}
 use lib.ListN.{length, get_or, get_elem?, drop}
@@ -16,7 +16,7 @@ use Rattle.std.specs.Prelude.{if◌then◌else◌}
 use Rattle.arith.proofs.IntegerLaws.{equal, sum, diff, lt_z_true, lt_z_false, non_neg_true}
 use Rattle.wire.specs.Bytes.{padded}
 use Rattle.block.specs.Limits.{max_call_keys, max_keys}
-use Rattle.block.specs.Outcomes.{ended, out_of_fuel}
+use Rattle.block.specs.Outcomes.{out_of_fuel}
 use Rattle.block.specs.Instruction.{instr_bytes, decode}
 use Rattle.block.proofs.DecodeLaws.{InstrLawful, Decodes}
 use Rattle.block.specs.Record.{Function, function_id, call_id, code_at}
@@ -25,7 +25,7 @@ use Rattle.block.proofs.ReaderLaws.{FunctionSound}
 use Rattle.block.specs.declared.Call.{Call}
 use Rattle.block.specs.declared.Decoded.TheVariants.{Valid}
 use Rattle.block.specs.declared.Instr.{Instr}
-use Rattle.footprint.specs.Access.{Access, changing, writing, accesses, entry_accesses}
+use Rattle.footprint.specs.Access.{Access, changing, writing, entry_accesses}
 use Rattle.footprint.proofs.SetAccessLaws.{drop_bytes, decode_sound, sets_used}
 use Rattle.block.specs.Encoding.{AreBytes}
 use Rattle.footprint.specs.Sets.{function_sets, sets_of, write_set}
@@ -38,15 +38,17 @@ use Rattle.footprint.specs.SafeSets.{CallBounded}
 use Rattle.footprint.proofs.SafeSetsProof.{no_amount}
 use Rattle.rule.proofs.TurnLaws.{body_steps, OneMore, turn_one, last_one, body_over}
 use Rattle.machine.specs.Run.{zero_registers}
-use Rattle.machine.specs.Action.{instr_action, entry_action}
-use Rattle.machine.specs.Step.{View, Local, ending, Stepped, damaged, more, done, saved_of, finish, concluded, perform, perform_action, step_entry, step_decoded, step_instr, step_body, step_place, step_call}
+use Rattle.machine.specs.Action.{entry_action}
+use Rattle.machine.specs.Step.{View, Local, Stepped, damaged, more, done, saved_of, finish, concluded, perform, perform_action, step_entry, step_place, step_call}
 use Rattle.machine.specs.CallInRun.{InstrOf, made_view, begun_local, step_times, steps_taken, Hold, LeavesAsRule}
 use Rattle.machine.specs.Serial.{step_limit}
 use Rattle.machine.proofs.CodeLaws.{instr_of, function_end}
 use Rattle.machine.proofs.LookupLaws.{Covered, entry_covered, instr_covered, sets_distinct, lookup_covered, KeysInTable}
 use Rattle.machine.proofs.RestoreLaws.{made_restorable}
 use Rattle.machine.proofs.HoldLaws.{Now, moved_cells, hold_alike}
-use Rattle.machine.proofs.StepLaws.{FuelInRange, Ranged, begun_ranged, Lowers, entry_leads, StepLowers, step_lowers}
+use Rattle.machine.proofs.StepLaws.{FuelInRange, Ranged, begun_ranged, Lowers, entry_leads, StepLowers}
+use Rattle.machine.proofs.PlaceLaws.{step_lowers}
+use Rattle.machine.proofs.CallStep.{view_in, body_step, step_instr_lem}
 use Rattle.machine.proofs.StepRule.{Completes, MadeOf, rule_local, Match, transfer_short, transfer_moves, transfer_now, fails_match, instr_match}
 
 -- ---- nothing moves
@@ -98,19 +100,6 @@ made_of file c o table room v few known small entries keys =
       entries = entries;
     }
 
--- The view of a call whose function is f.
-abbrev view_in : (file : List ℕ) (room : ℕ) (table : List ℕ) → Call → Function → View
-view_in file room table c f =
-    record {
-      block = file;
-      call = c;
-      start = f.start;
-      code = f.size + 1;
-      count = length (function_sets file c (some f));
-      entries = map (entry_word table) (function_sets file c (some f));
-      keys = padded room 0 (table_words table);
-    }
-
 -- A call of the function f, begun at a state that the old cells hold.
 module _ (file : List ℕ) (bytes : AreBytes file) (c : Call) (fits : CallBounded c) (fuelled : FuelInRange c.fuel) (f : Function) (sound : FunctionSound file f) (table : List ℕ)
     (few : length table ≤ max_keys) (known : KeysInTable table (function_sets file c (some f))) (small : length (function_sets file c (some f)) ≤ max_call_keys)
@@ -146,37 +135,12 @@ module _ (file : List ℕ) (bytes : AreBytes file) (c : Call) (fits : CallBounde
       subst (Decodes (InstrLawful (2 ^ 16) f.size)) e
       (decode_sound f.size (drop (f.start + instr_bytes * p) file) (drop_bytes (f.start + instr_bytes * p) file bytes))
 
-  -- Behind the entry, at a count within the fuel.
-  body_step : (p : ℕ) (ρ : List ℤ) (n : ℕ) (cells : List ℤ) → n ≤ c.fuel
-      → step_call view (at (p + 1) ρ n) cells
-      ≡ concluded view kept cells
-      (if eqb (p + 1) (f.size + 1) then ending ended n else if eqb n c.fuel then ending out_of_fuel n else step_instr view (p + 1) n ρ cells)
-  unfolding step_call step_place step_body
-  body_step p ρ n cells within =
-      rw (ne_eqb (p + 1) 0 (omega arith), ne_eqb c.fuel 0 (λ e. omega (arith, e, fuelled.0)), le-ltb c.fuel n within)
-
-  step_instr_lem : (p : ℕ) (ρ : List ℤ) (n : ℕ) (cells : List ℤ) (i : Instr) → p < f.size → n < c.fuel → decode f.size (drop (f.start + instr_bytes * p) file) ≡ Valid i
-      → step_call view (at (p + 1) ρ n) cells ≡ concluded view kept cells (perform_action view (p + 1) (n + 1) (accesses c i) (instr_action c (p + 1) ρ i) cells)
-  unfolding step_instr step_decoded
-  step_instr_lem p ρ n cells i l m e =
-      let index : p + 1 - 1 ≡ p = omega arith in
-      let length' : f.size + 1 - 1 ≡ f.size = omega arith in
-      body_step p ρ n cells (omega arith)
-      ∙ rw (
-        ne_eqb (p + 1) (f.size + 1) (omega arith),
-        ne_eqb n c.fuel (omega arith),
-        index,
-        length',
-        le-leb (f.start + instr_bytes * f.size) (length file) sound.within,
-        e,
-      )
-
   instr_step : (p : ℕ) (ρ : List ℤ) (n : ℕ) (σ : State) (cells : List ℤ) → p < f.size → n < c.fuel → Here σ cells
       → Matches (execute_at c p ρ n σ (get_elem? body p)) (step_call view (at (p + 1) ρ n) cells)
   unfolding execute_at
   instr_step p ρ n σ cells l m now =
       let this : InstrOf file f p = instr_of file f sound p l in
-      rw (this.listed, step_instr_lem p ρ n cells this.instr l m this.decoded)
+      rw (this.listed, step_instr_lem file bytes c fits fuelled f sound table few known small room start within old first p ρ n cells this.instr l m this.decoded)
       (instr_match view table es made start old first p σ cells now ρ (n + 1) c fits this.instr
       (lawful_file p this.instr this.decoded).0 (instr_covered file c f p l this.instr this.decoded))
 
@@ -185,7 +149,7 @@ module _ (file : List ℕ) (bytes : AreBytes file) (c : Call) (fits : CallBounde
       → Matches (over (ends σ n true)) (step_call view (at (f.size + 1) ρ n) cells)
   unfolding concluded finish settle
   end_step ρ n σ cells m now =
-      rw (body_step f.size ρ n cells m, eq-eqb (f.size + 1) (f.size + 1) refl)
+      rw (body_step file bytes c fits fuelled f sound table few known small room start within old first f.size ρ n cells m, eq-eqb (f.size + 1) (f.size + 1) refl)
       (record { same_outcome = refl; same_count = refl; hold = now.hold })
 
   any_step : (p : ℕ) (ρ : List ℤ) (n : ℕ) (σ : State) (cells : List ℤ) → p ≤ f.size → n < c.fuel → Here σ cells
@@ -207,7 +171,7 @@ module _ (file : List ℕ) (bytes : AreBytes file) (c : Call) (fits : CallBounde
       go (yes less) =
           rw (
             (instr_of file f sound p less).listed,
-            body_step p ρ c.fuel cells (omega arith),
+            body_step file bytes c fits fuelled f sound table few known small room start within old first p ρ c.fuel cells (omega arith),
             ne_eqb (p + 1) (f.size + 1) (omega arith),
             eq-eqb c.fuel c.fuel refl,
           )

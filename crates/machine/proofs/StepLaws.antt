@@ -1,15 +1,12 @@
--- One step of a call: what its place can come to; its range, how many steps it can still take at most, and the law that a step which goes on
--- stays in range with fewer steps left.
-use mathlib.Core.Path.{◌≡◌, refl, sym, subst, ◌∙◌}
-use mathlib.Core.Bool.{Bool, true, false, ◌&&◌, not}
+-- One step of a call: its range, how many steps it can still take at most, what an action that fits its place is, and what that leaves.
+use mathlib.Core.Path.{◌≡◌, refl, subst, ◌∙◌}
+use mathlib.Core.Bool.{Bool, true, ◌&&◌, not}
 use mathlib.Core.List.{List, [], ◌∷◌}
-use Prim.Native.Nat.{ℕ, ◌+◌, ◌-◌, ◌*◌, ◌≤◌, ◌<◌}
+use Prim.Native.Nat.{ℕ, ◌+◌, ◌-◌, ◌≤◌, ◌<◌}
 use native.Mathlib.Omega.{arith}
-use borrow.Author.Tests.{eqb-true, eqb-false}
 use lib.IntN.{ℤ, pos, ◌+ℤ◌}
 use lib.Signed.{lt_z, le_z, non_neg}
-use lib.Dec.{eqb, leb, ltb}
-use lib.ListN.{length, drop, length-set}
+use lib.ListN.{length, length-set}
 use Rattle.arith.specs.Balance.{largest}
 use Rattle.std.specs.Prelude.{if◌then◌else◌}
 use Rattle.arith.proofs.ChoiceLaws.{if_all, by_test}
@@ -19,22 +16,18 @@ use Rattle.arith.specs.declared.Checked.{Checked}
 use Rattle.arith.specs.declared.Checked.TheVariants as checked
 use Rattle.block.specs.Key.{account_balance, contract_balance, is_balance}
 use Rattle.block.specs.Limits.{max_code, max_fuel}
-use Rattle.block.specs.Instruction.{instr_bytes}
-use Rattle.block.proofs.DecodeLaws.{JumpsWithin, Decodes}
-use Rattle.block.proofs.DecodeOwn.{decode_within}
-use Rattle.block.specs.Outcomes.{balance_too_low, thrown, out_of_fuel, last_outcome, max_count}
+use Rattle.block.proofs.DecodeLaws.{JumpsWithin}
+use Rattle.block.specs.Outcomes.{balance_too_low, out_of_fuel, last_outcome, max_count}
 use Rattle.block.specs.declared.Call.{Call}
 use Rattle.block.specs.declared.Payee.{Payee}
 use Rattle.block.specs.declared.Payee.TheVariants.{To, Nobody}
-use Rattle.block.specs.declared.Decoded.{Decoded}
-use Rattle.block.specs.declared.Decoded.TheVariants.{Valid, Invalid}
 use Rattle.block.specs.declared.Instr.{Instr}
 use Rattle.block.specs.declared.Instr.TheVariants.{Stop, Throw, Set, Arg, Sender, Value, Add, Sub, Mul, Div, Get, Put, Bal, Pay, Jeq, Jlt}
 use Rattle.block.specs.Record.{argument}
 use Rattle.footprint.specs.Access.{Access, changing, writing, entry_accesses, pay_accesses, accesses}
 use Rattle.block.specs.Naming.{target_of}
 use Rattle.machine.specs.Action.{place_of, register, assign, doing, jump, checked_action, pay_action, instr_action, entry_action}
-use Rattle.machine.specs.Step.{View, Local, Performed, broken, onward, ending, Stepped, damaged, more, done, cell_at, lookup, restorable, finish, concluded, load_cell, store_cell, deposit_cell, transfer_cells, access_at, perform, perform_action, fuel_broken, step_entry, step_decoded, step_instr, step_body, step_place, step_call}
+use Rattle.machine.specs.Step.{View, Local, Performed, broken, onward, ending, Stepped, damaged, more, done, cell_at, lookup, load_cell, store_cell, deposit_cell, transfer_cells, access_at, perform}
 use Rattle.machine.specs.Serial.{step_limit}
 use Rattle.machine.specs.declared.Action.{Action}
 use Rattle.machine.specs.declared.Next.{Next}
@@ -107,13 +100,13 @@ module _ (v : View) (place count : ℕ) (inside : ¬ (place ≡ v.code)) where
   entry_leads e = leads v place count (place + 1) 0 (λ r. omega (arith, e, inside, r.within, r.entry e))
 
   module _ (some : ¬ (place ≡ 0)) (fuelled : ¬ (count ≡ v.call.fuel)) where
-    next_leads : Leads v place count (place + 1) (count + 1)
+    pub next_leads : Leads v place count (place + 1) (count + 1)
     next_leads =
         leads v place count (place + 1) (count + 1) λ r.
         let less : count < v.call.fuel = omega (arith, fuelled, r.counted) in
         (omega arith, omega (arith, inside, r.within), omega arith, one_fewer v.call.fuel count place (place + 1) (omega (arith, some)) (omega arith) less)
 
-    jump_leads : (to : ℕ) → to ≤ v.code - 1 → Leads v place count (place_of to) (count + 1)
+    pub jump_leads : (to : ℕ) → to ≤ v.code - 1 → Leads v place count (place_of to) (count + 1)
     jump_leads to high =
         leads v place count (place_of to) (count + 1) λ r.
         let less : count < v.call.fuel = omega (arith, fuelled, r.counted) in
@@ -159,7 +152,7 @@ module _ (v : View) (place count n : ℕ) (regs : List ℤ) (behind : Leads v pl
       (if_all (NextFits v place count n (pay_accesses c (To account))) (non_neg amount) (λ e. (refl, refl, refl, omega arith)) (λ e. omega arith))
   pay_fits c amount Nobody = does_fit (pay_accesses c Nobody) _ (omega arith)
 
-  entry_fits : (c : Call) → place ≡ 0 → Fits (entry_accesses c) (entry_action c regs)
+  pub entry_fits : (c : Call) → place ≡ 0 → Fits (entry_accesses c) (entry_action c regs)
   unfolding entry_accesses entry_action
   entry_fits c e =
       by_test
@@ -174,7 +167,7 @@ module _ (v : View) (place count n : ℕ) (regs : List ℤ) (behind : Leads v pl
     jump_fits to t high =
         does_fit [] _ (if_all (λ (q : ℕ). Leads v place count q n) t (λ e. jumps to high) (λ e. behind))
 
-    instr_fits : (c : Call) (i : Instr) → JumpsWithin (v.code - 1) i → Fits (accesses c i) (instr_action c place regs i)
+    pub instr_fits : (c : Call) (i : Instr) → JumpsWithin (v.code - 1) i → Fits (accesses c i) (instr_action c place regs i)
     unfolding accesses instr_action
     instr_fits c Stop j = does_fit [] _ (omega arith)
     instr_fits c Throw j = does_fit [] _ (omega arith)
@@ -193,66 +186,6 @@ module _ (v : View) (place count n : ℕ) (regs : List ℤ) (behind : Leads v pl
     instr_fits c (Jeq x y to) j = jump_fits to (eq_z (register regs x) (register regs y)) j
     instr_fits c (Jlt x y to) j = jump_fits to (lt_z (register regs x) (register regs y)) j
 
--- ---- every place
-
--- What holds of a broken place, of an end, of one for want of fuel, of the entry's action and of that of each instruction that may stand there, holds of what each
--- place comes to.
-module _ (v : View) (place count : ℕ) (regs : List ℤ) (P : (List ℤ → Performed) → Type 0) (breaks : P (λ cells. broken))
-    (ends : (outcome n : ℕ) → outcome < out_of_fuel → n ≤ count → P (λ cells. ending outcome n))
-    (spends : ¬ (place ≡ 0) → ¬ (place ≡ v.code) → count ≡ v.call.fuel → P (λ cells. ending out_of_fuel count))
-    (enters : place ≡ 0 → ¬ (place ≡ v.code)
-    → P (λ cells. perform_action v place 0 (entry_accesses v.call) (entry_action v.call regs) cells))
-    (executes : ¬ (place ≡ 0) → ¬ (place ≡ v.code) → ¬ (count ≡ v.call.fuel) → (i : Instr) → JumpsWithin (v.code - 1) i
-    → P (λ cells. perform_action v place (count + 1) (accesses v.call i) (instr_action v.call place regs i) cells)) where
-  -- A test that looks at no cell.
-  tested : (t : Bool) (x y : List ℤ → Performed) → (t ≡ true → P x) → (t ≡ false → P y) → P (λ cells. if t then x cells else y cells)
-  tested true x y f g = f refl
-  tested false x y f g = g refl
-
-  entry_each : place ≡ 0 → P (λ cells. step_entry v place regs cells)
-  unfolding step_entry
-  entry_each e =
-      tested (eqb v.code 0) _ _ (λ h. ends _ _ (omega arith) (omega arith)) (λ h. enters e (λ q. eqb-false v.code 0 h (sym q ∙ e)))
-
-  module _ (some : ¬ (place ≡ 0)) (inside : ¬ (place ≡ v.code)) (fuelled : ¬ (count ≡ v.call.fuel)) where
-    decoded_each : (d : Decoded) → Decodes (JumpsWithin (v.code - 1)) d → P (λ cells. step_decoded v place count regs cells d)
-    unfolding step_decoded
-    decoded_each (Valid i) j = executes some inside fuelled i j
-    decoded_each Invalid j = breaks
-
-    instr_each : P (λ cells. step_instr v place count regs cells)
-    unfolding step_instr
-    instr_each =
-        tested (leb (v.start + instr_bytes * (v.code - 1)) (length v.block)) _ _
-        (λ h. decoded_each _ (decode_within (v.code - 1) (drop (v.start + instr_bytes * (place - 1)) v.block))) (λ h. breaks)
-
-  body_each : ¬ (place ≡ 0) → P (λ cells. step_body v place count regs cells)
-  unfolding step_body
-  body_each some =
-      tested (fuel_broken v.call.fuel count) _ _ (λ e. breaks) λ e.
-      tested (eqb place v.code) _ _ (λ f. ends _ _ (omega arith) (omega arith)) λ f.
-      tested (eqb count _) _ _ (λ g. spends some (eqb-false place v.code f) (eqb-true count _ g))
-      (λ g. instr_each some (eqb-false place v.code f) (eqb-false count _ g))
-
-  pub place_each : P (λ cells. step_place v place count regs cells)
-  unfolding step_place
-  place_each = tested (eqb place 0) _ _ (λ e. entry_each (eqb-true place 0 e)) (λ e. body_each (eqb-false place 0 e))
-
--- The same of every action that fits.
-pub place_all : (v : View) (place count : ℕ) (regs : List ℤ) (P : (List ℤ → Performed) → Type 0) → P (λ cells. broken)
-    → ((outcome n : ℕ) → outcome < out_of_fuel → n ≤ count → P (λ cells. ending outcome n))
-    → (¬ (place ≡ 0) → ¬ (place ≡ v.code) → count ≡ v.call.fuel → P (λ cells. ending out_of_fuel count))
-    → ((n : ℕ) (as' : List Access) (a : Action) → ActionFits v place count n as' regs a → P (λ cells. perform_action v place n as' a cells))
-    → P (λ cells. step_place v place count regs cells)
-place_all v place count regs P breaks ends spends acts =
-    place_each v place count regs P breaks ends spends
-    (λ e inside.
-    acts 0 (entry_accesses v.call) (entry_action v.call regs)
-    (entry_fits v place count 0 regs (entry_leads v place count inside e) v.call e))
-    (λ some inside fuelled i j.
-    acts _ (accesses v.call i) (instr_action v.call place regs i)
-    (instr_fits v place count _ regs (next_leads v place count inside some fuelled) (jump_leads v place count inside some fuelled) v.call i j))
-
 -- ---- a step from a place in range
 
 -- What it leaves: a call that goes on, in range with fewer steps left and as many registers; or one that ends with an outcome and a count in
@@ -264,7 +197,7 @@ pub record GoesLower (v : View) (place count : ℕ) (regs : List ℤ) (to n : �
 abbrev pub ReceiptBounded : (outcome count : ℕ) → Type 0
 ReceiptBounded outcome count = (outcome ≤ last_outcome) × (count ≤ max_count)
 
-abbrev PlaceLowers : View → (place count : ℕ) → List ℤ → Performed → Type 0
+abbrev pub PlaceLowers : View → (place count : ℕ) → List ℤ → Performed → Type 0
 PlaceLowers v place count regs broken = Unit {0}
 PlaceLowers v place count regs (onward to n regs' cells) = GoesLower v place count regs to n regs'
 PlaceLowers v place count regs (ending outcome n) = ReceiptBounded outcome n
@@ -305,28 +238,10 @@ module _ (v : View) (place count : ℕ) (regs : List ℤ) (range : Ranged v plac
         if_all Low (not (non_neg (cell_at cells m))) (λ h. tt) λ h.
         if_all Low (lt_z (cell_at cells m) amount) (λ h. (omega (arith, few), ranged_count on.range)) (λ h. deposit_lowers amount m (lookup v to))
 
-    perform_lowers : (as' : List Access) (next : Next) → NextFits v place count n as' next → Low (perform v place n as' regs' next cells)
+    pub perform_lowers : (as' : List Access) (next : Next) → NextFits v place count n as' next → Low (perform v place n as' regs' next cells)
     unfolding perform
     perform_lowers as' (Go to) f = record { lowers = f range; registers = same }
     perform_lowers as' (End outcome) f = (omega (arith, f), ranged_count on.range)
     perform_lowers as' (Load x) f = load_lowers x (access_at as' 0) (lookup v (access_at as' 0))
     perform_lowers as' (Store z) f = store_lowers z (lookup v (access_at as' 0))
     perform_lowers as' (Transfer amount short) f = transfer_lowers amount short f.3 (access_at as' 1) (lookup v (access_at as' 0))
-
-  place_lowers : Low (step_place v place count regs cells)
-  place_lowers =
-      place_all v place count regs (λ f. Low (f cells)) tt (λ outcome n few less. (omega (arith, few), omega (arith, less, ranged_count range)))
-      (λ some inside spent. (omega arith, ranged_count range))
-      (λ n as' a f. perform_lowers n (f.behind range) a.regs f.registers as' a.next f.next)
-
--- A step that goes on from a place in range stays in range, with fewer steps left.
-pub step_lowers : (v : View) (l : Local) (cells : List ℤ) → Ranged v l.place l.count → StepLowers v l (step_call v l cells)
-unfolding step_call concluded finish
-step_lowers v l cells range =
-    go (step_place v l.place l.count l.regs cells) (place_lowers v l.place l.count l.regs range cells)
-  where
-    go : (x : Performed) → PlaceLowers v l.place l.count l.regs x → StepLowers v l (concluded v l.saved cells x)
-    go broken h = tt
-    go (onward to n regs after) h = h
-    go (ending outcome n) h =
-        if_all (StepLowers v l) (ltb outcome thrown) (λ e. h) λ e. if_all (StepLowers v l) (restorable v.count v.entries) (λ f. h) (λ f. tt)

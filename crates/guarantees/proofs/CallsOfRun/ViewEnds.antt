@@ -10,7 +10,8 @@ use Rattle.block.specs.Limits.{max_code}
 use Rattle.machine.specs.Step as machine
 use Rattle.machine.specs.Step.{View, Local, Stepped, saved_of, step_call}
 use Rattle.machine.specs.Serial.{step_limit}
-use Rattle.machine.proofs.StepLaws.{FuelInRange, Ranged, steps_left, ranged_left, begun_ranged, begun_left, ReceiptBounded, StepLowers, step_lowers}
+use Rattle.machine.proofs.StepLaws.{FuelInRange, Ranged, steps_left, ranged_left, begun_ranged, begun_left, ReceiptBounded, StepLowers}
+use Rattle.machine.proofs.PlaceLaws.{step_lowers}
 use Rattle.guarantees.proofs.CallsOfRun.ViewCalls.{Place, place_with_saved, Receipt, broken, receipt, point_of, view_calls}
 
 -- After k steps the call has ended, with a receipt in its range, or it is in range and can take at most the steps that are left of its bound.

@@ -17,7 +17,8 @@ use Rattle.footprint.specs.Plan.{entry_reads, entry_writes}
 use Rattle.block.specs.Outcomes.{thrown, out_of_fuel}
 use Rattle.machine.proofs.RestoreLaws.{restored_length}
 use Rattle.machine.specs.Step.{View, Local, Performed, broken, onward, ending, Stepped, damaged, done, cell_at, lookup, restorable, restored, finish, concluded, load_cell, store_cell, deposit_cell, transfer_cells, access_at, perform, step_call}
-use Rattle.machine.proofs.StepLaws.{NextFits, place_all}
+use Rattle.machine.proofs.StepLaws.{NextFits}
+use Rattle.machine.proofs.PlaceLaws.{place_all}
 use Rattle.machine.specs.declared.Next.{Next}
 use Rattle.machine.specs.declared.Next.TheVariants.{Go, End, Load, Store, Transfer}
 use Rattle.machine.specs.declared.Lookup.{Lookup}

@@ -18,7 +18,8 @@ use Rattle.machine.specs.declared.Next.{Next}
 use Rattle.machine.specs.declared.Next.TheVariants.{Go, End, Load, Store, Transfer}
 use Rattle.machine.specs.declared.Lookup.{Lookup}
 use Rattle.machine.specs.declared.Lookup.TheVariants.{Cell, NoCell}
-use Rattle.machine.proofs.StepLaws.{NextFits, place_each, place_all}
+use Rattle.machine.proofs.StepLaws.{NextFits}
+use Rattle.machine.proofs.PlaceLaws.{place_each, place_all}
 use Rattle.guarantees.proofs.CallsOfRun.ViewCalls.{point_of}
 
 -- It holds of the cells s with a value stored in the cell that was found, and with an amount moved from one to another.

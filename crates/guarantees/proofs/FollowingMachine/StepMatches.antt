@@ -27,7 +27,8 @@ use Rattle.machine.specs.Moves.{call_key_count, own_entries, view_of, local_of, 
 use Rattle.machine.specs.Answer.{answer_number}
 use Rattle.machine.specs.declared.Head.{Head}
 use Rattle.machine.proofs.WaitLaws.{each_length, each_word}
-use Rattle.machine.proofs.StepLaws.{Ranged, StepLowers, step_lowers}
+use Rattle.machine.proofs.StepLaws.{Ranged, StepLowers}
+use Rattle.machine.proofs.PlaceLaws.{step_lowers}
 use Rattle.guarantees.proofs.CallsOfRun.ViewCalls.{place_with_saved, receipt, point_of, run_view}
 use Rattle.guarantees.proofs.FollowingMachine.RunMatches.{StatusSays, Base, calls_in, StepWhole, HoldsRunning, Matches}
 use Rattle.guarantees.proofs.FollowingMachine.BufferLaws.{receipt_here, receipt_there, receipt_wait, status_length_lem, seat_stays, seat_length_lem, seat_own, regs_length, regs_own, regs_leave_old, step_elsewhere}
