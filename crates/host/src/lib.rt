@@ -69,11 +69,6 @@ fn keep(transcript: &mut [u8], from: usize, text: &[u8])
     }
 }
 
-// Tells on standard error that standard output took no more.
-fn fail_output(rt: &impl Eprint, why: io::Error) {
-    fail(rt, "standard output", why);
-}
-
 // Tells on standard error, in one line, what failed and the system's words for it; after it nothing more is written.
 pub fn stop(rt: &impl Eprint, what: &str, why: io::Error, x: Exchange) -> Exchange
     ensures { result ≡ record { ok = false; received = x.received; sent = x.sent } }
@@ -112,12 +107,7 @@ pub fn print(
         };
     }
     if let Err(why) = rt.write_all(text) {
-        fail_output(rt, why);
-        return Exchange {
-            ok: false,
-            received,
-            sent,
-        };
+        return stop(rt, "standard output", why, x);
     }
     keep(transcript, sent, text);
     Exchange {

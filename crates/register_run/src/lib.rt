@@ -4,7 +4,7 @@
 // transcript that the caller lends, as far as it fits; its length changes nothing else.
 #![tactic(auto)]
 
-ghost use Rattle.std.specs.Prelude.{◌≡◌, false, ◌*◌, ◌≤◌, ◌<◌, length};
+ghost use Rattle.std.specs.Prelude.{◌≡◌, ◌*◌, ◌≤◌, ◌<◌, length};
 ghost use Rattle.moves.specs.Lent.{lent};
 ghost use Rattle.console.specs.declared.Line.TheVariants.{Empty};
 ghost use Rattle.play.specs.Shown.{fresh_session};
@@ -76,13 +76,6 @@ pub struct Registered {
     pub exchange: Exchange,
 }
 
-// Tells on standard error that standard input cannot be read.
-fn fail_input(rt: &impl Eprint, why: io::Error, x: Exchange) -> Exchange
-    ensures { result ≡ record { ok = false; received = x.received; sent = x.sent } }
-{
-    host::stop(rt, "standard input", why, x)
-}
-
 // One read of standard input into the buffer's first bytes, `limit` at most.
 fn read_some(rt: &(impl io::Input + Eprint), x: Exchange, chunk: &mut [u8], limit: usize) -> Got
     requires limit_in_bounds { limit ≤ length chunk.old }
@@ -97,7 +90,7 @@ fn read_some(rt: &(impl io::Input + Eprint), x: Exchange, chunk: &mut [u8], limi
     let sent = x.sent;
     match input.read(part) {
         Err(why) => Got {
-            exchange: fail_input(rt, why, x),
+            exchange: host::stop(rt, "standard input", why, x),
             count: 0,
         },
         Ok(n) => Got {

@@ -1,6 +1,7 @@
 -- `host::print` meets its contract: all of the text is written and kept, or nothing is kept of it.
-use mathlib.Core.Path.{refl}
+use mathlib.Core.Path.{refl, ap}
 use borrow.Author.Tests.{not-true, not-false}
+use Rattle.host.specs.declared.Exchange.{Exchange}
 use Rattle.host.proofs.Laws.{handed_none, handed_all}
 use Rattle.host.proofs.print.Goals as goal
 
@@ -11,7 +12,11 @@ pub returns-then-sent-text : goal.returns-then-sent-text
 returns-then-sent-text g c = record { text = handed_none _ _ _ _ refl refl; received = refl }
 
 pub returns-in-Err : goal.returns-in-Err
-returns-in-Err g c = record { text = handed_none _ _ _ _ refl refl; received = refl }
+returns-in-Err g c =
+    record {
+      text = handed_none _ _ _ _ (ap (λ (y : Exchange). y.ok) c.stop.ensures) (ap (λ (y : Exchange). y.sent) c.stop.ensures);
+      received = ap (λ (y : Exchange). y.received) c.stop.ensures;
+    }
 
 pub returns : goal.returns
 returns g c =
