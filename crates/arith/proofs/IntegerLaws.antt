@@ -1,4 +1,5 @@
 -- Laws of ℤ for linear arithmetic: an integer z is posPart z - negPart z, so that each fact of sums, orders and ranges becomes one of ℕ, which `omega` proves.
+use Rattle.arith.specs.declared.NoResult.TheVariants.{Overflow}
 use mathlib.Core.Path.{◌≡◌, refl, sym, ◌∙◌, ap}
 use mathlib.Core.Bool.{Bool, true, false, cond}
 use Prim.Native.Nat.{ℕ, zero, suc, ◌+◌, ◌*◌, ◌-◌, ◌/◌, ◌%◌, ◌^◌, ◌<◌, ◌≤◌}
@@ -12,10 +13,9 @@ use lib.Signed.{mag, lt_z, le_z, non_neg}
 use mir.Syntax.{Width, w8, w16, w32, w64, w128}
 use mir.Val.{SFits, bits, hbits, to_z, of_z, sel}
 use borrow.Author.Tests.{ltb-true, ltb-false, leb-true, leb-false, eqb-true, lt-ltb, le-ltb, eq-eqb}
-use Rattle.std.specs.Prelude.{if◌then◌else◌}
+use Rattle.std.specs.Prelude.{if◌then◌else◌, Err, Ok}
 use Rattle.arith.specs.Compare.{eq_z}
 use Rattle.arith.specs.Exact.{fits64, checked, floor_by, div_of, signed, unsigned}
-use Rattle.arith.specs.declared.Checked.TheVariants.{Value, Overflow}
 
 -- What z has above zero, and what below.
 abbrev pub pos_part : ℤ → ℕ
@@ -171,11 +171,11 @@ sfits_fits {z} f = lt-ltb (mag z) (2 ^ 63) f.sfits
 
 -- ---- what `checked` gives within the range and outside
 
-pub checked_value : (z : ℤ) → fits64 z ≡ true → checked z ≡ Value z
+pub checked_value : (z : ℤ) → fits64 z ≡ true → checked z ≡ Ok z
 unfolding checked
 checked_value z e = rw e
 
-pub checked_overflow : (z : ℤ) → fits64 z ≡ false → checked z ≡ Overflow
+pub checked_overflow : (z : ℤ) → fits64 z ≡ false → checked z ≡ Err Overflow
 unfolding checked
 checked_overflow z e = rw e
 

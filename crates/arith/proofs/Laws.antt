@@ -1,4 +1,5 @@
 -- What the proofs of this crate cite: how the machine reads a signed number back from its bits, and the arithmetic of each operation over plain integers.
+use Rattle.arith.specs.declared.NoResult.TheVariants.{Overflow, ZeroDivisor}
 use mathlib.Core.Path.{◌≡◌, refl, sym, ◌∙◌, ap, ap₂, subst}
 use mathlib.Core.Bool.{Bool, true, false, not}
 use Prim.Native.Nat.{ℕ, zero, suc, ◌+◌, ◌*◌, ◌-◌, ◌/◌, ◌%◌, ◌^◌, ◌<◌, ◌≤◌, min}
@@ -13,11 +14,10 @@ use mir.Syntax.{w64}
 use mir.Val.{Fits, SFits, to_z, of_z}
 use mir.ValLaws.{to_z-of_z, to_z_pos}
 use borrow.Author.Tests.{eq-eqb, ne_eqb, lt-ltb, ltb-true, ltb-false}
-use Rattle.std.specs.Prelude.{if◌then◌else◌}
+use Rattle.std.specs.Prelude.{if◌then◌else◌, Err, Ok}
 use Rattle.arith.specs.Compare.{eq_z}
 use Rattle.arith.specs.Exact.{checked, sub_of, mul_of, floor_by, div_of}
 use Rattle.arith.proofs.IntegerLaws.{pos_part, neg_part, equal, sum, diff, P-neg, N-neg, lt_z_true, lt_z_false, eq_z_true, eq_z_false, sfits_parts, parts_sfits, sfits_fits, small_fits, large_fits, checked_value, checked_overflow}
-use Rattle.arith.specs.declared.Checked.TheVariants.{Value, Overflow, ZeroDivisor}
 
 -- ---- a signed number as the machine reads it back
 
@@ -31,8 +31,8 @@ pub read_fits : {z : ℤ} → SFits w64 z → SFits w64 (read z)
 read_fits f = subst (SFits w64) (sym (read_back f)) f
 
 -- A value that was stored is the checked one.
-pub value : {s z : ℤ} → SFits w64 s → s ≡ z → Value (read s) ≡ checked z
-value {s} {z} f e = ap Value (read_back f) ∙ sym (checked_value s (sfits_fits f)) ∙ ap checked e
+pub value : {s z : ℤ} → SFits w64 s → s ≡ z → Ok (read s) ≡ checked z
+value {s} {z} f e = ap Ok (read_back f) ∙ sym (checked_value s (sfits_fits f)) ∙ ap checked e
 
 -- A number is the one that its bits name.
 pub bits_name : {z : ℤ} {n : ℕ} → SFits w64 z → of_z w64 z ≡ n → z ≡ to_z w64 n
@@ -93,20 +93,20 @@ magnitude_told e h = rw e (refl, h)
 
 -- ---- the two values of a magnitude
 
-pub checked_above : {p : ℕ} → p < 2 ^ 63 → Value (to_z w64 p) ≡ checked (pos p)
-checked_above {p} h = ap Value (to_z_pos w64 p h) ∙ sym (checked_value (pos p) (lt-ltb p (2 ^ 63) h))
+pub checked_above : {p : ℕ} → p < 2 ^ 63 → Ok (to_z w64 p) ≡ checked (pos p)
+checked_above {p} h = ap Ok (to_z_pos w64 p h) ∙ sym (checked_value (pos p) (lt-ltb p (2 ^ 63) h))
 
-pub overflow_above : {p : ℕ} → 2 ^ 63 ≤ p → Overflow ≡ checked (pos p)
+pub overflow_above : {p : ℕ} → 2 ^ 63 ≤ p → (Err Overflow) ≡ checked (pos p)
 overflow_above {p} h = sym (checked_overflow (pos p) (large_fits (pos p) (omega arith)))
 
-pub overflow_below : {p : ℕ} → 2 ^ 63 < p → Overflow ≡ checked (neg_ℤ (pos p))
+pub overflow_below : {p : ℕ} → 2 ^ 63 < p → (Err Overflow) ≡ checked (neg_ℤ (pos p))
 overflow_below {p} h =
     sym (checked_overflow (neg_ℤ (pos p)) (small_fits (neg_ℤ (pos p)) (omega (arith, P-neg (pos p), N-neg (pos p)))))
 
-pub overflow_beneath : {n : ℕ} → 2 ^ 63 ≤ n → Overflow ≡ checked (negsuc n)
+pub overflow_beneath : {n : ℕ} → 2 ^ 63 ≤ n → (Err Overflow) ≡ checked (negsuc n)
 overflow_beneath {n} h = sym (checked_overflow (negsuc n) (small_fits (negsuc n) (omega arith)))
 
-pub value_zero : {p : ℕ} → p ≡ 0 → Value (pos 0) ≡ checked (neg_ℤ (pos p))
+pub value_zero : {p : ℕ} → p ≡ 0 → Ok (pos 0) ≡ checked (neg_ℤ (pos p))
 value_zero e = rw e (sym (checked_value (pos 0) refl))
 
 pub negated : {p : ℕ} → (p ≡ 0 → ⊥) → negsuc (p - 1) ≡ neg_ℤ (pos p)
@@ -168,7 +168,7 @@ module _ {a b : ℤ} (f : SFits w64 a) (g : SFits w64 b) {x y : ℕ} (e : x ≡ 
 pub small_product : {m n : ℕ} → m < 2 ^ 31 → n < 2 ^ 31 → m * n ≤ 2 ^ 62
 small_product h k = mul-le-mul (le_of_lt h) (le_of_lt k)
 
-module _ (s : ℕ → ℤ) (over : (p : ℕ) → 2 ^ 63 < p → Overflow ≡ checked (s p)) where
+module _ (s : ℕ → ℤ) (over : (p : ℕ) → 2 ^ 63 < p → (Err Overflow) ≡ checked (s p)) where
   pub capped : (p : ℕ) → checked (s (min p (2 ^ 63 + 1))) ≡ checked (s p)
   capped p = go (dec_le p (2 ^ 63))
     where
@@ -258,7 +258,7 @@ floor_fits f h = record { sfits = lt_of_le_of_lt h.small f.sfits }
 pub rem_fits : (a b : ℤ) → SFits w64 a → SFits w64 (rem_z a b)
 rem_fits a b f = record { sfits = lt_of_le_of_lt (mag_rem a b) f.sfits }
 
-pub by_zero_lem : (a : ℤ) {b : ℤ} → b ≡ pos 0 → ZeroDivisor ≡ div_of a b
+pub by_zero_lem : (a : ℤ) {b : ℤ} → b ≡ pos 0 → (Err ZeroDivisor) ≡ div_of a b
 unfolding div_of
 by_zero_lem a e = rw e
 
@@ -275,7 +275,7 @@ by_minus_one a e = rw e (ap checked (+ℤ_idl (neg_ℤ a) ∙ sym (floor_one (ne
 pub less_fits : {q : ℤ} {a b : ℤ} → SFits w64 q → SFits w64 a → Floor a b (q -ℤ pos 1) → SFits w64 (read q -ℤ pos 1)
 less_fits f g h = subst (λ (x : ℤ). SFits w64 (x -ℤ pos 1)) (sym (read_back f)) (floor_fits g h)
 
-pub less_value : {q : ℤ} {a b : ℤ} → SFits w64 q → SFits w64 a → Floor a b (q -ℤ pos 1) → Value (read (read q -ℤ pos 1)) ≡ div_of a b
+pub less_value : {q : ℤ} {a b : ℤ} → SFits w64 q → SFits w64 a → Floor a b (q -ℤ pos 1) → Ok (read (read q -ℤ pos 1)) ≡ div_of a b
 less_value f g h = value (less_fits f g h) (ap (λ (x : ℤ). x -ℤ pos 1) (read_back f)) ∙ sym h.is
 
 -- The remainder has the other sign: one less than the truncated quotient.

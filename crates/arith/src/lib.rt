@@ -25,10 +25,9 @@ const MAX32: u64 = 4294967295;
 // Two factors below this have a product of at most 62 bits.
 const SMALL: u64 = 2147483648;
 
-// What an exact operation gives: the result, or why 64 signed bits hold none.
+// Why 64 signed bits hold no result.
 #[derive(Clone, Copy)]
-pub enum Checked {
-    Value(i64),
+pub enum NoResult {
     Overflow,
     ZeroDivisor,
 }
@@ -57,58 +56,58 @@ pub fn magnitude(z: i64) -> u64
 }
 
 // The value p, or Overflow where p is above the range.
-fn above(p: u64) -> Checked
+fn above(p: u64) -> Result<i64, NoResult>
     ensures { result ≡ checked (pos p) }
 {
     if p < HALF64 {
-        Checked::Value(p as i64)
+        Ok(p as i64)
     } else {
-        Checked::Overflow
+        Err(NoResult::Overflow)
     }
 }
 
 // The value -(n + 1), or Overflow where it is below the range.
-fn beneath(n: u64) -> Checked
+fn beneath(n: u64) -> Result<i64, NoResult>
     ensures { result ≡ checked (negsuc n) }
 {
     if n < HALF64 {
-        Checked::Value(under(n))
+        Ok(under(n))
     } else {
-        Checked::Overflow
+        Err(NoResult::Overflow)
     }
 }
 
 // The sum a + b, or Overflow where it is outside the range. Of unlike signs it always fits.
-pub fn add(a: i64, b: i64) -> Checked
+pub fn add(a: i64, b: i64) -> Result<i64, NoResult>
     ensures { result ≡ add_of a b }
 {
     if a < 0 {
         if b < 0 {
             beneath(mag(a) + mag(b) + 1)
         } else {
-            Checked::Value(a + b)
+            Ok(a + b)
         }
     } else if b < 0 {
-        Checked::Value(a + b)
+        Ok(a + b)
     } else {
         above(mag(a) + mag(b))
     }
 }
 
 // The difference a - b, or Overflow where it is outside the range. Of like signs it always fits.
-pub fn sub(a: i64, b: i64) -> Checked
+pub fn sub(a: i64, b: i64) -> Result<i64, NoResult>
     ensures { result ≡ sub_of a b }
 {
     if a < 0 {
         if b < 0 {
-            Checked::Value(a - b)
+            Ok(a - b)
         } else {
             beneath(mag(a) + mag(b))
         }
     } else if b < 0 {
         above(mag(a) + mag(b) + 1)
     } else {
-        Checked::Value(a - b)
+        Ok(a - b)
     }
 }
 
@@ -132,18 +131,18 @@ fn product(m: u64, n: u64) -> u64
 }
 
 // The value -p, or Overflow where it is below the range.
-fn below(p: u64) -> Checked
+fn below(p: u64) -> Result<i64, NoResult>
     ensures { result ≡ checked (neg_ℤ (pos p)) }
 {
     if p == 0 {
-        Checked::Value(0)
+        Ok(0)
     } else {
         beneath(p - 1)
     }
 }
 
 // The product a b, or Overflow where it is outside the range.
-pub fn mul(a: i64, b: i64) -> Checked
+pub fn mul(a: i64, b: i64) -> Result<i64, NoResult>
     ensures { result ≡ mul_of a b }
 {
     let p = product(magnitude(a), magnitude(b));
@@ -165,11 +164,11 @@ fn opposed(rest: i64, b: i64) -> bool
 
 // The quotient of a by b, rounded toward minus infinity: one less than the truncated one where the
 // rest is on the other side of 0 than b. ZeroDivisor for b = 0, and Overflow for -2^63 by -1.
-pub fn div(a: i64, b: i64) -> Checked
+pub fn div(a: i64, b: i64) -> Result<i64, NoResult>
     ensures { result ≡ div_of a b }
 {
     if b == 0 {
-        return Checked::ZeroDivisor;
+        return Err(NoResult::ZeroDivisor);
     }
     // By -1 the quotient is -a, the one that may not fit.
     if b == -1 {
@@ -177,9 +176,9 @@ pub fn div(a: i64, b: i64) -> Checked
     }
     let q = a / b;
     if opposed(a % b, b) {
-        Checked::Value(q - 1)
+        Ok(q - 1)
     } else {
-        Checked::Value(q)
+        Ok(q)
     }
 }
 

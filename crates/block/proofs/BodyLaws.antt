@@ -9,7 +9,7 @@ use lib.Dec.{eqb, leb, ltb, lit<}
 use lib.IntN.{pos}
 use lib.ListN.{length, drop}
 use lib.Signed.{mag, lt_z, non_neg}
-use Rattle.std.specs.Prelude.{if◌then◌else◌}
+use Rattle.std.specs.Prelude.{if◌then◌else◌, None, Some}
 use Rattle.arith.proofs.ChoiceLaws.{both}
 use Rattle.arith.specs.Exact.{signed, unsigned}
 use Rattle.arith.proofs.IntegerLaws.{pos_part, clash, lt_z_true, signed_unsigned, unsigned_signed, signed_range, unsigned_range}
@@ -22,7 +22,6 @@ use Rattle.block.specs.Record.{Cell, call_bytes, cell_of, cell_allowed, call_of}
 use Rattle.block.specs.Encoding.{AreBytes, CellKeeps, CallKeeps, CallFits}
 use Rattle.block.proofs.EncodingLaws.{cell_body, call_body, bytes_drop, bytes_split}
 use Rattle.block.specs.declared.Call.{Call}
-use Rattle.block.specs.declared.CallBody.TheVariants.{InRange, OutOfRange}
 
 -- ---- a cell
 
@@ -220,21 +219,21 @@ module _ (c : Call) (more : List ℕ) where
   unfolding bytes_of
   call_long = omega arith
 
-  pub call_back : CallKeeps c → call_of call ≡ InRange c
+  pub call_back : CallKeeps c → call_of call ≡ Some c
   unfolding call_of
   call_back keeps =
       let is : call_in_body call ≡ c = call_same (call_fits c keeps) in
-      subst⁻¹ (λ (d : Call). (if leb call_bytes (length call) && ltb d.sender.0 first_contract && leb first_contract d.contract.0 && non_neg d.value then InRange d else OutOfRange) ≡ InRange c) is
+      subst⁻¹ (λ (d : Call). (if leb call_bytes (length call) && ltb d.sender.0 first_contract && leb first_contract d.contract.0 && non_neg d.value then Some d else None) ≡ Some c) is
       (rw (le-leb call_bytes (length call) call_long, lt-ltb c.sender.0 first_contract keeps.sender, le-leb first_contract c.contract.0 keeps.contract.0, keeps.value.0))
 
 -- What its range asks, and that it is the one.
-pub call_in_lem : (s : List ℕ) (c : Call) → call_of s ≡ InRange c
+pub call_in_lem : (s : List ℕ) (c : Call) → call_of s ≡ Some c
     → (number 2 s < first_contract) × (first_contract ≤ read_le 2 s 2) × (non_neg (signed 64 (read_le 8 s 6)) ≡ true) × (c ≡ call_in_body s)
 unfolding call_of
 call_in_lem s c e = go (leb call_bytes (length s) && ltb (number 2 s) first_contract && leb first_contract (read_le 2 s 2) && non_neg (signed 64 (read_le 8 s 6))) refl e
   where
     go : (t : Bool) → (leb call_bytes (length s) && ltb (number 2 s) first_contract && leb first_contract (read_le 2 s 2) && non_neg (signed 64 (read_le 8 s 6))) ≡ t
-        → (if t then InRange (call_in_body s) else OutOfRange) ≡ InRange c
+        → (if t then Some (call_in_body s) else None) ≡ Some c
         → (number 2 s < first_contract) × (first_contract ≤ read_le 2 s 2) × (non_neg (signed 64 (read_le 8 s 6)) ≡ true) × (c ≡ call_in_body s)
     go false f h = let z : ◌≡◌ {A = ℕ} 0 1 = cc in absurd (omega arith)
     go true f h =
@@ -267,14 +266,14 @@ module _ (s : List ℕ) (bytes : AreBytes s) where
         fuel = (fuel, omega (arith, below_16 s bytes 30));
       }
 
-  pub call_split : (c : Call) → call_of s ≡ InRange c → call_bytes ≤ length s → s ≡ call_body c ++ drop call_bytes s
+  pub call_split : (c : Call) → call_of s ≡ Some c → call_bytes ≤ length s → s ≡ call_body c ++ drop call_bytes s
   call_split c e fit = rw (call_in_lem s c e).3 (in_split fit)
 
-  pub call_keeps : (c : Call) → call_of s ≡ InRange c → 0 < c.fuel → CallKeeps c
+  pub call_keeps : (c : Call) → call_of s ≡ Some c → 0 < c.fuel → CallKeeps c
   call_keeps c e fuel =
       let o = call_in_lem s c e in
       rw o.3 (in_keeps o.0 o.1 o.2 (subst (λ (d : Call). 0 < d.fuel) o.3 fuel))
 
   -- Its fuel is in 16 bits.
-  pub call_fuel_most : (c : Call) → call_of s ≡ InRange c → c.fuel ≤ max_fuel
+  pub call_fuel_most : (c : Call) → call_of s ≡ Some c → c.fuel ≤ max_fuel
   call_fuel_most c e = rw (call_in_lem s c e).3 (omega (arith, below_16 s bytes 30))

@@ -7,7 +7,7 @@ use native.Mathlib.Omega.{arith}
 use borrow.Author.Tests.{leb-true, eqb-true, eqb-false, not-true}
 use lib.Dec.{eqb, leb, lit<}
 use lib.Signed.{mag}
-use Rattle.std.specs.Prelude.{if◌then◌else◌}
+use Rattle.std.specs.Prelude.{if◌then◌else◌, None, Option, Some}
 use Rattle.arith.specs.Exact.{signed, unsigned}
 use Rattle.arith.proofs.ChoiceLaws.{if_all, both}
 use Rattle.arith.proofs.IntegerLaws.{unsigned_signed, signed_range}
@@ -17,8 +17,6 @@ use Rattle.block.specs.declared.Source.{Source}
 use Rattle.block.specs.declared.Source.TheVariants as source
 use Rattle.block.specs.declared.Instr.{Instr}
 use Rattle.block.specs.declared.Instr.TheVariants.{Stop, Throw, Set, Arg, Sender, Value, Add, Sub, Mul, Div, Get, Put, Bal, Pay, Jeq, Jlt}
-use Rattle.block.specs.declared.Decoded.{Decoded}
-use Rattle.block.specs.declared.Decoded.TheVariants.{Valid, Invalid}
 
 -- ---- what is kept
 
@@ -79,13 +77,13 @@ abbrev pub InstrLawful : (bound size : ℕ) → Instr → Type 0
 InstrLawful bound size i = InstrFits bound i × JumpsWithin size i
 
 -- What holds of the instruction that bytes decode to, if they do.
-abbrev pub Decodes : (Instr → Type 0) → Decoded → Type 0
-Decodes P (Valid i) = P i
-Decodes P Invalid = Unit {0}
+abbrev pub Decodes : (Instr → Type 0) → Option Instr → Type 0
+Decodes P (Some i) = P i
+Decodes P None = Unit {0}
 
-pub decodes_map : (P Q : Instr → Type 0) → ((i : Instr) → P i → Q i) → (d : Decoded) → Decodes P d → Decodes Q d
-decodes_map P Q f (Valid i) h = f i h
-decodes_map P Q f Invalid h = tt
+pub decodes_map : (P Q : Instr → Type 0) → ((i : Instr) → P i → Q i) → (d : Option Instr) → Decodes P d → Decodes Q d
+decodes_map P Q f (Some i) h = f i h
+decodes_map P Q f None h = tt
 
 -- ---- along the tests of the decoder
 
@@ -137,7 +135,7 @@ module _ (size op x y z w : ℕ) where
   abbrev pub Own : Instr → Type 0
   Own i = JumpsWithin size i × (w < 2 ^ 32 → InstrKeeps size i × (instr op x y z w ≡ instruction_bytes i))
 
-  abbrev D : Decoded → Type 0
+  abbrev D : Option Instr → Type 0
   D = Decodes Own
 
   -- An instruction with its parts, of which the tests say what they are.

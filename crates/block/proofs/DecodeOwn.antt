@@ -1,4 +1,5 @@
 -- What bytes decode to, behind all of the decoder's tests: each kind of instruction by its own law (DecodeLaws).
+use Rattle.std.specs.Prelude.{Option}
 use mathlib.Core.Path.{refl}
 use mathlib.Core.List.{List}
 use Prim.Native.Nat.{ℕ, ◌^◌, ◌<◌}
@@ -14,11 +15,10 @@ use Rattle.block.specs.declared.Source.{Source}
 use Rattle.block.specs.declared.Source.TheVariants as source
 use Rattle.block.specs.declared.Instr.{Instr}
 use Rattle.block.specs.declared.Instr.TheVariants.{Stop, Throw, Set, Arg, Sender, Value, Add, Sub, Mul, Div, Get, Put, Bal, Pay, Jeq, Jlt}
-use Rattle.block.specs.declared.Decoded.{Decoded}
 use Rattle.block.proofs.DecodeLaws.{SourceFits, CellSourcesFit, InstrFits, JumpsWithin, InstrLawful, Decodes, decodes_map, Own, apart, end_own, set_own, arg_own, fact_own, arith_own, cell_own, pay_own, jump_own}
 
 module _ (size op x y z w : ℕ) where
-  abbrev D : Decoded → Type 0
+  abbrev D : Option Instr → Type 0
   D = Decodes (Own size op x y z w)
 
   pub parts_own : D (decode_parts size op x y z w)

@@ -9,7 +9,7 @@ use borrow.Author.Tests.{le-leb, ne_eqb}
 use lib.Dec.{eqb, lit<}
 use lib.ListN.{length, take, drop, take-append-drop}
 use Rattle.arith.specs.Exact.{unsigned}
-use Rattle.std.specs.Prelude.{if◌then◌else◌}
+use Rattle.std.specs.Prelude.{if◌then◌else◌, None, Option, Some}
 use Rattle.arith.proofs.ChoiceLaws.{or_right}
 use Rattle.arith.proofs.IntegerLaws.{unsigned_range, signed_unsigned}
 use Rattle.wire.specs.Bytes.{number}
@@ -23,8 +23,6 @@ use Rattle.block.specs.declared.Source.{Source}
 use Rattle.block.specs.declared.Source.TheVariants as source
 use Rattle.block.specs.declared.Instr.{Instr}
 use Rattle.block.specs.declared.Instr.TheVariants.{Stop, Throw, Set, Arg, Sender, Value, Add, Sub, Mul, Div, Get, Put, Bal, Pay, Jeq, Jlt}
-use Rattle.block.specs.declared.Decoded.{Decoded}
-use Rattle.block.specs.declared.Decoded.TheVariants.{Valid, Invalid}
 use Rattle.block.proofs.DecodeLaws.{Decodes}
 use Rattle.block.proofs.DecodeOwn.{OwnOf, decode_own}
 
@@ -68,7 +66,7 @@ parts_read size op x y z w more h = simp add-zero (ap (decode_parts size op x y 
 
 -- GET and PUT.
 cell_parts : (op x field : ℕ) (a b : Source) → CellPartsKeep x field a b
-    → decode_cell op x (source_number a) (source_number b) (cell_bits field a b) ≡ Valid (if eqb op 10 then Get x field a b else Put x field a b)
+    → decode_cell op x (source_number a) (source_number b) (cell_bits field a b) ≡ Some (if eqb op 10 then Get x field a b else Put x field a b)
 unfolding decode_cell
 cell_parts op x field a b k =
     let c : ℕ = cell_constant a b in
@@ -82,7 +80,7 @@ cell_parts op x field a b k =
     let some = ne_eqb field 0 (λ q. omega (arith, k.named.0)) in
     rw (first, second, low, high, le-leb x 7 k.register, known, known', some, cell_zero a b)
 
-pay_parts : (x : ℕ) (target : Source) → PayPartsKeep x target → decode_pay x (source_number target) 0 (65536 * pay_constant target) ≡ Valid (Pay x target)
+pay_parts : (x : ℕ) (target : Source) → PayPartsKeep x target → decode_pay x (source_number target) 0 (65536 * pay_constant target) ≡ Some (Pay x target)
 unfolding decode_pay
 pay_parts x target k =
     let c : ℕ = pay_constant target in
@@ -94,23 +92,23 @@ pay_parts x target k =
 
 module _ (x : ℕ) where
   -- SENDER, VALUE and BAL.
-  fact_parts : (i : Instr) → Register x → decode_fact x 0 0 0 i ≡ Valid i
+  fact_parts : (i : Instr) → Register x → decode_fact x 0 0 0 i ≡ Some i
   unfolding decode_fact
   fact_parts i k = rw (le-leb x 7 k)
 
   -- ADD, SUB, MUL and DIV.
   arith_parts : (op y z : ℕ) → Register x × Register y × Register z
-      → decode_arith op x y z 0 ≡ Valid (if eqb op 6 then Add x y z else if eqb op 7 then Sub x y z else if eqb op 8 then Mul x y z else Div x y z)
+      → decode_arith op x y z 0 ≡ Some (if eqb op 6 then Add x y z else if eqb op 7 then Sub x y z else if eqb op 8 then Mul x y z else Div x y z)
   unfolding decode_arith
   arith_parts op y z k = rw (le-leb x 7 k.0, le-leb y 7 k.1, le-leb z 7 k.2)
 
   -- JEQ and JLT.
   jump_parts : (size op y to : ℕ) → Register x × Register y × (to ≤ size)
-      → decode_jump size op x y 0 to ≡ Valid (if eqb op 14 then Jeq x y to else Jlt x y to)
+      → decode_jump size op x y 0 to ≡ Some (if eqb op 14 then Jeq x y to else Jlt x y to)
   unfolding decode_jump
   jump_parts size op y to k = rw (le-leb x 7 k.0, le-leb y 7 k.1, le-leb to size k.2)
 
-own_decoded : (size : ℕ) → size ≤ max_code → (i : Instr) → InstrKeeps size i → (more : List ℕ) → decode size (instruction_bytes i ++ more) ≡ Valid i
+own_decoded : (size : ℕ) → size ≤ max_code → (i : Instr) → InstrKeeps size i → (more : List ℕ) → decode size (instruction_bytes i ++ more) ≡ Some i
 unfolding decode_parts decode_end decode_set decode_arg
 own_decoded size few Stop k more = parts_read size 0 0 0 0 0 more (lit< tt)
 own_decoded size few Throw k more = parts_read size 1 0 0 0 0 more (lit< tt)
@@ -148,16 +146,16 @@ first_eight (a ∷ b ∷ c ∷ []) h l = absurd (omega arith)
 first_eight (a ∷ b ∷ c ∷ d ∷ s) h l =
     simp add-zero (ap (λ (t : List ℕ). a ∷ b ∷ c ∷ d ∷ t) (sym (bytes_of_read 4 s 0 (λ i. h (suc (suc (suc (suc i))))) (omega arith))))
 
-decoded_own : (size : ℕ) (s : List ℕ) → AreBytes s → 8 ≤ length s → (i : Instr) → decode size s ≡ Valid i
+decoded_own : (size : ℕ) (s : List ℕ) → AreBytes s → 8 ≤ length s → (i : Instr) → decode size s ≡ Some i
     → InstrKeeps size i × (take 8 s ≡ instruction_bytes i)
 decoded_own size s h l i e =
     let own : OwnOf size s i = subst (Decodes (OwnOf size s)) e (decode_own size s) in
     let kept = own.1 (read_lt 4 s h 4) in
     (kept.0, first_eight s h l ∙ kept.1)
 
-abbrev held_by : Instr → Decoded → Instr
-held_by other (Valid i) = i
-held_by other Invalid = other
+abbrev held_by : Instr → Option Instr → Instr
+held_by other (Some i) = i
+held_by other None = other
 
 pub decoder_exact : DecoderExact
 decoder_exact =
@@ -180,6 +178,6 @@ holds_valid size s few h =
 pub valid_holds : (size : ℕ) (s : List ℕ) → AreBytes s → 8 ≤ length s → is_valid (decode size s) ≡ true → HoldsInstr size s
 valid_holds size s h l e = go (decode size s) refl e
   where
-    go : (d : Decoded) → decode size s ≡ d → is_valid d ≡ true → HoldsInstr size s
-    go (Valid i) q t = let own = decoder_exact.only size s h l i q in record { instruction = i; keeps = own.0; bytes = own.1 }
-    go Invalid q t = absurd (false≢true t)
+    go : (d : Option Instr) → decode size s ≡ d → is_valid d ≡ true → HoldsInstr size s
+    go (Some i) q t = let own = decoder_exact.only size s h l i q in record { instruction = i; keeps = own.0; bytes = own.1 }
+    go None q t = absurd (false≢true t)

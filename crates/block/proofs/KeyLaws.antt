@@ -6,14 +6,12 @@ use Prim.Native.Nat.{ℕ, ◌^◌, ◌<◌, ◌≤◌}
 use native.Mathlib.Omega.{arith}
 use lib.Dec.{eqb, ltb}
 use borrow.Author.Tests.{ltb-true, ltb-false, eqb-false}
-use Rattle.std.specs.Prelude.{if◌then◌else◌}
+use Rattle.std.specs.Prelude.{if◌then◌else◌, None, Option, Some}
 use Rattle.arith.proofs.ChoiceLaws.{if_all}
 use Rattle.block.specs.Key.{first_contract, withdrawn, address_of, address_number, payee_of, key_of, address_in, field_in, a_in, b_in}
 use Rattle.block.specs.declared.address.Account.{Account}
 use Rattle.block.specs.declared.address.Contract.{Contract}
 use Rattle.block.specs.declared.address.Address.TheVariants.{OfAccount, OfContract}
-use Rattle.block.specs.declared.Payee.{Payee}
-use Rattle.block.specs.declared.Payee.TheVariants.{To, Nobody}
 
 -- What a number names has that number.
 pub number_named : (n : ℕ) → address_number (address_of n) ≡ n
@@ -44,7 +42,7 @@ contract_above n contract = go (ltb n first_contract) refl
     go false t e = let same : n ≡ contract.0 = ap address_number e in (sym same, omega (arith, ltb-false n first_contract t))
 
 -- What holds of nobody, and of each account that a number below the contracts names but that of withdrawn warrants, holds of whom PAY pays.
-pub payee_all : (P : Payee → Type 0) (n : ℕ) → ((n ≡ withdrawn → ⊥) → n < first_contract → P (To (record { 0 = n }))) → P Nobody → P (payee_of n)
+pub payee_all : (P : Option Account → Type 0) (n : ℕ) → ((n ≡ withdrawn → ⊥) → n < first_contract → P (Some (record { 0 = n }))) → P None → P (payee_of n)
 unfolding payee_of
 payee_all P n to nobody =
     if_all P (eqb n withdrawn) (λ e. nobody)

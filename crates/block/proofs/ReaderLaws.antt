@@ -1,5 +1,6 @@
 -- What holds of the block in an accepted file, for the crates above: where its cells and calls stand, that its codes are valid, that
 -- its ids and keys rise, and its limits. Every record that the reader takes keeps it.
+use Rattle.std.specs.Prelude.{None, Option, Some}
 use mathlib.Core.Path.{◌≡◌, refl, sym, ◌∙◌, ap, subst⁻¹}
 use mathlib.Core.Bool.{Bool, true, false, not, ◌&&◌}
 use mathlib.Core.List.{List, [], ◌∷◌, ◌++◌, map, map-append}
@@ -23,8 +24,6 @@ use Rattle.block.specs.Instruction.{decode, is_valid, first_invalid}
 use Rattle.block.specs.Record.{Function, Cell, Block, function_id, call_bytes, call_record_bytes, length_allowed, cell_of, cell_allowed, call_of}
 use Rattle.block.specs.Reader.{Reading, accepted, refused, due, ended, empty_block, rises, balances, read_function, read_cell, withCall, read_call, read_end}
 use Rattle.block.specs.declared.Call.{Call}
-use Rattle.block.specs.declared.CallBody.{CallBody}
-use Rattle.block.specs.declared.CallBody.TheVariants.{InRange, OutOfRange}
 
 -- What holds of each element of a list and its index; the default is never asked.
 abbrev pub EachAt : {A : Type 0} → (ℕ → A → Type 0) → List A → Type 0
@@ -44,7 +43,7 @@ pub record BlockLaws (file : List ℕ) (b : Block) : Type 0 where
   pub codes : EachAt (λ i f. FunctionSound file f) b.functions
   pub cells : EachAt (λ i c. c ≡ cell_of (drop (b.opening + 24 * i + 4) file)) b.cells
   pub allowed : EachAt (λ i c. cell_allowed (drop (b.opening + 24 * i + 4) file) ≡ true) b.cells
-  pub calls : EachAt (λ i c. call_of (drop (b.first_call + call_record_bytes * i + 4) file) ≡ InRange c) b.calls
+  pub calls : EachAt (λ i c. call_of (drop (b.first_call + call_record_bytes * i + 4) file) ≡ Some c) b.calls
   pub fuelled : EachAt (λ i c. 0 < c.fuel) b.calls
   pub first_call : b.opening + 24 * length b.cells ≡ b.first_call
   pub ids : Rising (map function_id b.functions)
@@ -163,7 +162,7 @@ module _ (file : List ℕ) (kind at : ℕ) (rest : List ℕ) (b : Block) (r : Re
               codes = each_snoc (λ i g. FunctionSound file g) b.functions f r.laws.codes good;
               cells = each_none (λ i c. c ≡ cell_of (drop (at + 4 + len + 24 * i + 4) file)) b.cells cells;
               allowed = each_none (λ i c. cell_allowed (drop (at + 4 + len + 24 * i + 4) file) ≡ true) b.cells cells;
-              calls = each_none (λ i c. call_of (drop (at + 4 + len + call_record_bytes * i + 4) file) ≡ InRange c) b.calls calls;
+              calls = each_none (λ i c. call_of (drop (at + 4 + len + call_record_bytes * i + 4) file) ≡ Some c) b.calls calls;
               fuelled = r.laws.fuelled;
               first_call = omega arith;
               ids = rw (map-append function_id b.functions (f ∷ [])) (rising_snoc (map function_id b.functions) (function_id f) r.laws.ids up);
@@ -215,7 +214,7 @@ module _ (file : List ℕ) (kind at : ℕ) (rest : List ℕ) (b : Block) (r : Re
               codes = r.laws.codes;
               cells = each_snoc (λ i c. c ≡ cell_of (drop (b.opening + 24 * i + 4) file)) b.cells (cell_of (drop 4 rest)) r.laws.cells (ap (λ (s : List ℕ). cell_of s) body);
               allowed = each_snoc (λ i c. cell_allowed (drop (b.opening + 24 * i + 4) file) ≡ true) b.cells (cell_of (drop 4 rest)) r.laws.allowed (rw (← body) good);
-              calls = each_none (λ i c. call_of (drop (at + 4 + len + call_record_bytes * i + 4) file) ≡ InRange c) b.calls calls;
+              calls = each_none (λ i c. call_of (drop (at + 4 + len + call_record_bytes * i + 4) file) ≡ Some c) b.calls calls;
               fuelled = r.laws.fuelled;
               first_call = omega (arith, length_snoc b.cells (cell_of (drop 4 rest)));
               ids = r.laws.ids;
@@ -241,7 +240,7 @@ module _ (file : List ℕ) (kind at : ℕ) (rest : List ℕ) (b : Block) (r : Re
       if_all (Right file) (not (le_z (total (balances (b.cells ++ (cell_of (drop 4 rest) ∷ [])))) largest)) (λ e. tt) λ sum.
       with_cell k size (leb-false 1024 (length b.cells) room) (not-false _ good) (not-false _ up) (not-false _ sum)
 
-  with_call : (c : Call) → len ≡ call_bytes → length b.calls < 256 → call_of (drop 4 rest) ≡ InRange c → 0 < c.fuel
+  with_call : (c : Call) → len ≡ call_bytes → length b.calls < 256 → call_of (drop 4 rest) ≡ Some c → 0 < c.fuel
       → Reached file 3 (at + 4 + len) (drop len (drop 4 rest)) (record { functions = b.functions; cells = b.cells; calls = b.calls ++ (c ∷ []); opening = b.opening; first_call = b.first_call })
   with_call c size room good fuel =
       let to : b.first_call + call_record_bytes * length b.calls ≡ at = r.place in
@@ -253,7 +252,7 @@ module _ (file : List ℕ) (kind at : ℕ) (rest : List ℕ) (b : Block) (r : Re
               codes = r.laws.codes;
               cells = r.laws.cells;
               allowed = r.laws.allowed;
-              calls = each_snoc (λ i c'. call_of (drop (b.first_call + call_record_bytes * i + 4) file) ≡ InRange c') b.calls c r.laws.calls (rw (← body) good);
+              calls = each_snoc (λ i c'. call_of (drop (b.first_call + call_record_bytes * i + 4) file) ≡ Some c') b.calls c r.laws.calls (rw (← body) good);
               fuelled = each_snoc (λ i c'. 0 < c'.fuel) b.calls c r.laws.fuelled fuel;
               first_call = r.laws.first_call;
               ids = r.laws.ids;
@@ -274,9 +273,9 @@ module _ (file : List ℕ) (kind at : ℕ) (rest : List ℕ) (b : Block) (r : Re
   unfolding read_call withCall
   right_call size = if_all (Right file) (leb 256 (length b.calls)) (λ e. tt) λ room. go (leb-false 256 (length b.calls) room) (call_of (drop 4 rest)) refl
     where
-      go : length b.calls < 256 → (c : CallBody) → call_of (drop 4 rest) ≡ c → Right file (withCall at len (drop 4 rest) b c)
-      go room OutOfRange e = tt
-      go room (InRange c) e =
+      go : length b.calls < 256 → (c : Option Call) → call_of (drop 4 rest) ≡ c → Right file (withCall at len (drop 4 rest) b c)
+      go room None e = tt
+      go room (Some c) e =
           if_all (Right file) (eqb c.fuel 0) (λ f. tt) (λ f. with_call c size room e (let some = eqb-false c.fuel 0 f in omega (arith, some)))
 
   pub right_end : Right file (read_end (length file) at b)
@@ -299,7 +298,7 @@ reached_start file =
             codes = each_none (λ i f. FunctionSound file f) [] refl;
             cells = each_none (λ i c. c ≡ cell_of (drop (0 + 24 * i + 4) file)) [] refl;
             allowed = each_none (λ i c. cell_allowed (drop (0 + 24 * i + 4) file) ≡ true) [] refl;
-            calls = each_none (λ i c. call_of (drop (0 + call_record_bytes * i + 4) file) ≡ InRange c) [] refl;
+            calls = each_none (λ i c. call_of (drop (0 + call_record_bytes * i + 4) file) ≡ Some c) [] refl;
             fuelled = each_none (λ i c. 0 < c.fuel) [] refl;
             first_call = refl;
             ids = λ i j h k. absurd (omega arith);

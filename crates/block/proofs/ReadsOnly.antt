@@ -1,5 +1,6 @@
 -- A file of bytes that is accepted is the file of contents that keep document 01's ranges, orders and limits, and is read as those: every
 -- record that the reader takes adds one to them.
+use Rattle.std.specs.Prelude.{None, Option, Some}
 use mathlib.Core.Path.{◌≡◌, refl, sym, ap, subst, subst⁻¹, ◌∙◌}
 use mathlib.Core.Bool.{true, not, ◌&&◌}
 use mathlib.Core.List.{List, [], ◌∷◌, ◌++◌, map, map-append, append_assoc, append-nil}
@@ -21,8 +22,6 @@ use Rattle.block.proofs.EncodingLaws.{function_body, cell_body, call_body, bytes
 use Rattle.block.proofs.BodyLaws.{cell_split, cell_keeps, call_split, call_keeps}
 use Rattle.block.proofs.ContentsLaws.{all_snoc, ascending_snoc, record_length, cell_length_lem, call_length, placed_length, placed_ids, holding, sent, sent_file, sent_function, sent_cell, sent_call, block_function, block_cell}
 use Rattle.block.specs.declared.Call.{Call}
-use Rattle.block.specs.declared.CallBody.{CallBody}
-use Rattle.block.specs.declared.CallBody.TheVariants.{InRange, OutOfRange}
 
 -- Before a record, behind one of the given kind: the file so far is the records of contents that keep the rules.
 pub record Standing (file : List ℕ) (kind at : ℕ) (rest : List ℕ) (fs : List Routine) (cs : List Cell) (ks : List Call) : Type 0 where
@@ -192,7 +191,7 @@ module _ (file : List ℕ) (kind at : ℕ) (rest : List ℕ) (len : ℕ) (own : 
       with_cell fs cs r is twenty (cell_keeps body (bytes_drop 4 rest r.bytes) (not-false _ good)) (leb-false 1024 (length cs) room) (not-false _ up) (not-false _ sum)
 
   with_call : (fs : List Routine) (cs : List Cell) (ks : List Call) → Standing file kind at rest fs cs ks → read_le 2 rest 2 ≡ 3 → len ≡ call_bytes
-      → length ks < 256 → (c : Call) → call_of body ≡ InRange c → 0 < c.fuel → Held file 3 (at + 4 + len) (drop len (drop 4 rest)) (block_for (holding fs cs (ks ++ (c ∷ []))))
+      → length ks < 256 → (c : Call) → call_of body ≡ Some c → 0 < c.fuel → Held file 3 (at + 4 + len) (drop len (drop 4 rest)) (block_for (holding fs cs (ks ++ (c ∷ []))))
   with_call fs cs ks r is sized room c e fuel =
       let fits : len ≤ length (drop 4 rest) = body_fits in
       let split : drop 4 rest ≡ call_body c ++ drop len (drop 4 rest) =
@@ -225,9 +224,9 @@ module _ (file : List ℕ) (kind at : ℕ) (rest : List ℕ) (len : ℕ) (own : 
   right_call fs cs ks r is sized =
       if_all (Right file) (leb 256 (length ks)) (λ e. tt) λ room. go (leb-false 256 (length ks) room) (call_of body) refl
     where
-      go : length ks < 256 → (c : CallBody) → call_of body ≡ c → Right file (withCall at len body (block_for (holding fs cs ks)) c)
-      go room OutOfRange e = tt
-      go room (InRange c) e =
+      go : length ks < 256 → (c : Option Call) → call_of body ≡ c → Right file (withCall at len body (block_for (holding fs cs ks)) c)
+      go room None e = tt
+      go room (Some c) e =
           if_all (Right file) (eqb c.fuel 0) (λ f. tt)
           (λ f. with_call fs cs ks r is sized room c e (let some = eqb-false c.fuel 0 f in omega (arith, some)))
 

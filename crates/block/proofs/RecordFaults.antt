@@ -1,4 +1,5 @@
 -- What the reader makes of one record, by its faults: it refuses by the first of them, and takes a record that has none.
+use Rattle.std.specs.Prelude.{None, Option, Some}
 use mathlib.Core.Path.{◌≡◌, refl, sym, ap, subst, subst⁻¹, ◌∙◌}
 use mathlib.Core.Bool.{Bool, true, false, not, ◌&&◌, false≢true}
 use mathlib.Core.List.{List, [], ◌∷◌, ◌++◌, map, map-append}
@@ -24,8 +25,6 @@ use Rattle.block.proofs.ContentsLaws.{ascending_snoc, ascending_rises, record_le
 use Rattle.block.proofs.ReadsOnly.{record_split, function_lengths, other_lengths}
 use Rattle.block.proofs.FaultLaws.{front, only_function, only_cell, only_call, only_end, Invalid, first_invalid_lem, none_next}
 use Rattle.block.specs.declared.Call.{Call}
-use Rattle.block.specs.declared.CallBody.{CallBody}
-use Rattle.block.specs.declared.CallBody.TheVariants.{InRange, OutOfRange}
 use Rattle.block.specs.declared.Refusal.{Refusal}
 use Rattle.block.specs.declared.Refusal.TheVariants.{Field}
 
@@ -117,14 +116,14 @@ module _ (t : Contents) (functions : FunctionsKeep t.functions) (cells : CellsKe
   abbrev body : List ℕ
   body = drop 4 rest
 
-  abbrev None : ℕ → Type 0
-  None n = NoneBefore t rest n
+  abbrev NoneTo : ℕ → Type 0
+  NoneTo n = NoneBefore t rest n
 
   -- No element that stands there lacks what the one that is read has.
   lacks : (P : Element → Type 0) → ((e : Element) → Holds rest e → P e) → (into : ℕ) → (into ≡ 0) × ((e : Element) × Holds rest e × (P e → ⊥)) → ⊥
   lacks P all into h = h.1.2 (all h.1.0 h.1.1)
 
-  module _ (whole : 4 + length_in rest ≤ length rest) (none : None 4) where
+  module _ (whole : 4 + length_in rest ≤ length rest) (none : NoneTo 4) where
     body_fits : length_in rest ≤ length (drop 4 rest)
     body_fits = simp length-drop (omega arith)
 
@@ -132,7 +131,7 @@ module _ (t : Contents) (functions : FunctionsKeep t.functions) (cells : CellsKe
     body_bytes = bytes_drop 4 rest bytes
 
     -- Behind a record that is no end.
-    told_last : (next : ℕ) → (kind_in rest ≡ 4 → ⊥) → at < next → None 9 → None 10 × (at < next)
+    told_last : (next : ℕ) → (kind_in rest ≡ 4 → ⊥) → at < next → NoneTo 9 → NoneTo 10 × (at < next)
     unfolding HasFault fault_place
     told_last next other on none = (none_next t rest bytes_behind 9 refl none (λ into h. other (front rest short the_end h.1.0)), on)
 
@@ -163,7 +162,7 @@ module _ (t : Contents) (functions : FunctionsKeep t.functions) (cells : CellsKe
             number = refl;
             place = omega arith;
           }) λ room.
-          let none-5 : None 5 = none_next t rest limit_passed 4 refl none (λ into h. h.1
+          let none-5 : NoneTo 5 = none_next t rest limit_passed 4 refl none (λ into h. h.1
           (record {
             function = λ k. omega (arith, leb-false 64 (length (placed 0 t.functions)) room, placed_length 0 t.functions);
             cell = λ k. absurd (omega (arith, is, k));
@@ -178,7 +177,7 @@ module _ (t : Contents) (functions : FunctionsKeep t.functions) (cells : CellsKe
             number = refl;
             place = omega arith;
           }) λ contract.
-          let none-6 : None 6 = none_next t rest field_wrong 5 refl none-5
+          let none-6 : NoneTo 6 = none_next t rest field_wrong 5 refl none-5
           (lacks FieldsRight (only_function rest short FieldsRight is (ltb-false (number 2 body) 32768 contract))) in
           if_all (Told t rest at) (ltb (first_invalid ((length_in rest - 4) / 8) 0 ((length_in rest - 4) / 8) (drop 4 body)) ((length_in rest - 4) / 8))
           (λ e. let o = first_invalid_lem ((length_in rest - 4) / 8) 0 ((length_in rest - 4) / 8) (drop 4 body)
@@ -193,7 +192,7 @@ module _ (t : Contents) (functions : FunctionsKeep t.functions) (cells : CellsKe
           }) λ good.
           let keeps : FunctionKeeps f =
           function_keeps body body_bytes (length_in rest) low body_fits (ltb-false (number 2 body) 32768 contract) high eight (ltb-false _ _ good) in
-          let none-7 : None 7 = none_next t rest code_wrong 6 refl none-6
+          let none-7 : NoneTo 7 = none_next t rest code_wrong 6 refl none-6
           (λ into h. only_function rest short (λ e. CodeWrong e into → ⊥) is (λ w. w.wrong (keeps.valid w.index w.there)) h.0 h.1 h.2) in
           if_all (Told t rest at) (not (rises (map function_id (placed 0 t.functions)) (number 2 body * 65536 + read_le 2 body 2)))
           (λ e. record {
@@ -204,9 +203,9 @@ module _ (t : Contents) (functions : FunctionsKeep t.functions) (cells : CellsKe
             number = refl;
             place = omega arith;
           }) λ up.
-          let none-8 : None 8 = none_next t rest not_rising 7 refl none-7
+          let none-8 : NoneTo 8 = none_next t rest not_rising 7 refl none-7
           (lacks (RisesWith t) (only_function rest short (RisesWith t) is (goes_up (not-false _ up)))) in
-          let none_9 : None 9 = none_next t rest sum_passed 8 refl none-8 (lacks (SumWithin t) (only_function rest short (SumWithin t) is tt)) in
+          let none_9 : NoneTo 9 = none_next t rest sum_passed 8 refl none-8 (lacks (SumWithin t) (only_function rest short (SumWithin t) is tt)) in
           told_last (at + 4 + length_in rest) (λ k. omega (arith, is, k)) (omega arith) none_9
         where
           falls : rises (map function_id (placed 0 t.functions)) (routine_id f) ≡ false → Ascending (map routine_id (t.functions ++ (f ∷ []))) → ⊥
@@ -256,7 +255,7 @@ module _ (t : Contents) (functions : FunctionsKeep t.functions) (cells : CellsKe
             number = refl;
             place = omega arith;
           }) λ room.
-          let none-5 : None 5 = none_next t rest limit_passed 4 refl none (λ into h. h.1
+          let none-5 : NoneTo 5 = none_next t rest limit_passed 4 refl none (λ into h. h.1
           (record {
             function = λ k. absurd (omega (arith, is, k));
             cell = λ k. leb-false 1024 (length t.cells) room;
@@ -271,9 +270,9 @@ module _ (t : Contents) (functions : FunctionsKeep t.functions) (cells : CellsKe
             number = refl;
             place = omega arith;
           }) λ good.
-          let none-6 : None 6 = none_next t rest field_wrong 5 refl none-5
+          let none-6 : NoneTo 6 = none_next t rest field_wrong 5 refl none-5
           (lacks FieldsRight (only_cell rest short FieldsRight is (cell_keeps body body_bytes (not-false _ good)))) in
-          let none-7 : None 7 = none_next t rest code_wrong 6 refl none-6
+          let none-7 : NoneTo 7 = none_next t rest code_wrong 6 refl none-6
           (λ into h. only_cell rest short (λ e. CodeWrong e into → ⊥) is (λ w. w) h.0 h.1 h.2) in
           if_all (Told t rest at) (not (rises (map (λ d. d.key) t.cells) c.key))
           (λ e. record {
@@ -284,7 +283,7 @@ module _ (t : Contents) (functions : FunctionsKeep t.functions) (cells : CellsKe
             number = refl;
             place = omega arith;
           }) λ up.
-          let none-8 : None 8 = none_next t rest not_rising 7 refl none-7
+          let none-8 : NoneTo 8 = none_next t rest not_rising 7 refl none-7
           (lacks (RisesWith t) (only_cell rest short (RisesWith t) is (goes_up (not-false _ up)))) in
           if_all (Told t rest at) (not (le_z (total (balances (t.cells ++ (c ∷ [])))) largest))
           (λ e. record {
@@ -295,7 +294,7 @@ module _ (t : Contents) (functions : FunctionsKeep t.functions) (cells : CellsKe
             number = refl;
             place = omega arith;
           }) λ sum.
-          let none_9 : None 9 = none_next t rest sum_passed 8 refl none-8 (lacks (SumWithin t) (only_cell rest short (SumWithin t) is (not-false _ sum))) in
+          let none_9 : NoneTo 9 = none_next t rest sum_passed 8 refl none-8 (lacks (SumWithin t) (only_cell rest short (SumWithin t) is (not-false _ sum))) in
           told_last (at + 4 + length_in rest) (λ k. omega (arith, is, k)) (omega arith) none_9
         where
           falls : rises (map (λ d. d.key) t.cells) c.key ≡ false → Ascending (map (λ d. d.key) (t.cells ++ (c ∷ []))) → ⊥
@@ -330,32 +329,32 @@ module _ (t : Contents) (functions : FunctionsKeep t.functions) (cells : CellsKe
                 (record_split rest bytes (omega arith) (call_body k) (drop call_bytes body) (sized ∙ sym long) split);
           }
 
-      call_right : CallKeeps k → call_of body ≡ InRange k
+      call_right : CallKeeps k → call_of body ≡ Some k
       call_right keeps = ap call_of (in_split body body_bytes fit) ∙ call_back k (drop call_bytes body) keeps
 
-      field_fails : None 5 → (CallKeeps k → ⊥) → Fails t rest at (Field at)
+      field_fails : NoneTo 5 → (CallKeeps k → ⊥) → Fails t rest at (Field at)
       unfolding HasFault fault_place fault_number number_of offset_of
       field_fails none-5 h =
           record { fault = field_wrong; into = 0; has = (refl, (a_call k, call_there, h)); none = none-5; number = refl; place = omega arith }
 
-      told_with : None 5 → (c : CallBody) → call_of body ≡ c → Told t rest at (withCall at (length_in rest) body (block_for t) c)
+      told_with : NoneTo 5 → (c : Option Call) → call_of body ≡ c → Told t rest at (withCall at (length_in rest) body (block_for t) c)
       unfolding withCall HasFault fault_place
-      told_with none-5 OutOfRange e = field_fails none-5 (λ keeps. let z : ◌≡◌ {A = ℕ} 0 1 = never (sym e ∙ call_right keeps) in omega arith)
+      told_with none-5 None e = field_fails none-5 (λ keeps. let z : ◌≡◌ {A = ℕ} 0 1 = never (sym e ∙ call_right keeps) in omega arith)
         where
-          never : OutOfRange ≡ InRange k → ◌≡◌ {A = ℕ} 0 1
+          never : None ≡ Some k → ◌≡◌ {A = ℕ} 0 1
           never e = cc
-      told_with none-5 (InRange c) e =
+      told_with none-5 (Some c) e =
           if_all (Told t rest at) (eqb c.fuel 0)
           (λ g. field_fails none-5 (λ keeps. let own : c.fuel ≡ k.fuel = ap (λ (d : Call). d.fuel) (call_in_lem body c e).3 in
           omega (arith, eqb-true c.fuel 0 g, keeps.fuel.0)))
           λ g.
           let some : c.fuel ≡ 0 → ⊥ = eqb-false c.fuel 0 g in
           let keeps : CallKeeps k = subst CallKeeps (call_in_lem body c e).3 (call_keeps body body_bytes c e (omega (arith, some))) in
-          let none-6 : None 6 = none_next t rest field_wrong 5 refl none-5 (lacks FieldsRight (only_call rest short FieldsRight is keeps)) in
-          let none-7 : None 7 = none_next t rest code_wrong 6 refl none-6
+          let none-6 : NoneTo 6 = none_next t rest field_wrong 5 refl none-5 (lacks FieldsRight (only_call rest short FieldsRight is keeps)) in
+          let none-7 : NoneTo 7 = none_next t rest code_wrong 6 refl none-6
           (λ into h. only_call rest short (λ e. CodeWrong e into → ⊥) is (λ w. w) h.0 h.1 h.2) in
-          let none-8 : None 8 = none_next t rest not_rising 7 refl none-7 (lacks (RisesWith t) (only_call rest short (RisesWith t) is tt)) in
-          let none_9 : None 9 = none_next t rest sum_passed 8 refl none-8 (lacks (SumWithin t) (only_call rest short (SumWithin t) is tt)) in
+          let none-8 : NoneTo 8 = none_next t rest not_rising 7 refl none-7 (lacks (RisesWith t) (only_call rest short (RisesWith t) is tt)) in
+          let none_9 : NoneTo 9 = none_next t rest sum_passed 8 refl none-8 (lacks (SumWithin t) (only_call rest short (SumWithin t) is tt)) in
           told_last (at + 4 + length_in rest) (λ n. omega (arith, is, n)) (omega arith) none_9
 
       pub told_call : Told t rest at (read_call at (length_in rest) (drop 4 rest) (block_for t))
@@ -390,15 +389,15 @@ module _ (t : Contents) (functions : FunctionsKeep t.functions) (cells : CellsKe
       end_more : (h : Holds rest the_end) → length rest ≡ 4 + length h.more
       end_more h = ap length h.bytes ∙ length-append (recordOf end_kind []) h.more ∙ ap (λ (n : ℕ). n + length h.more) (record_length end_kind [])
 
-      none_9 : None 9
+      none_9 : NoneTo 9
       unfolding HasFault fault_place
       none_9 =
-          let none-5 : None 5 = none_next t rest limit_passed 4 refl none (λ into h. h.1
+          let none-5 : NoneTo 5 = none_next t rest limit_passed 4 refl none (λ into h. h.1
           (record { function = λ n. absurd (omega (arith, is, n)); cell = λ n. absurd (omega (arith, is, n)); call = λ n. absurd (omega (arith, is, n)) })) in
-          let none-6 : None 6 = none_next t rest field_wrong 5 refl none-5 (lacks FieldsRight (only_end rest short FieldsRight is tt)) in
-          let none-7 : None 7 = none_next t rest code_wrong 6 refl none-6
+          let none-6 : NoneTo 6 = none_next t rest field_wrong 5 refl none-5 (lacks FieldsRight (only_end rest short FieldsRight is tt)) in
+          let none-7 : NoneTo 7 = none_next t rest code_wrong 6 refl none-6
           (λ into h. only_end rest short (λ e. CodeWrong e into → ⊥) is (λ w. w) h.0 h.1 h.2) in
-          let none-8 : None 8 = none_next t rest not_rising 7 refl none-7 (lacks (RisesWith t) (only_end rest short (RisesWith t) is tt)) in
+          let none-8 : NoneTo 8 = none_next t rest not_rising 7 refl none-7 (lacks (RisesWith t) (only_end rest short (RisesWith t) is tt)) in
           none_next t rest sum_passed 8 refl none-8 (lacks (SumWithin t) (only_end rest short (SumWithin t) is tt))
 
       pub told_end : (size : ℕ) → size ≡ at + length rest → Told t rest at (read_end size at (block_for t))

@@ -1,6 +1,5 @@
 -- The block that a file holds.
-use Rattle.std.specs.Prelude.{List, map, ℕ, length, get_or}
-use Rattle.std.proofs.Math.Option.{Option, none}
+use Rattle.std.specs.Prelude.{List, map, ℕ, length, get_or, None, Option}
 use Rattle.block.specs.Record.{Function, Block}
 use Rattle.block.specs.Reader.{Read, accepted, refused, read_block, empty_block}
 use Rattle.block.specs.Naming.{function_of}
@@ -19,7 +18,7 @@ call_count file = length (block_of file).calls
 
 -- The function that call j names, if the block has it.
 abbrev pub function_at : List ℕ → ℕ → Option Function
-function_at file j = get_or (map (function_of (block_of file).functions) (block_of file).calls) j none
+function_at file j = get_or (map (function_of (block_of file).functions) (block_of file).calls) j None
 
 -- The keys of the opening cells.
 abbrev pub opening_keys : Block → List ℕ

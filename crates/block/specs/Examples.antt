@@ -1,5 +1,5 @@
 -- What the reader makes of block P, and some refusals, computed.
-use Rattle.std.specs.Prelude.{◌≡◌, refl, ℕ, ◌*◌, ◌^◌, pos, length}
+use Rattle.std.specs.Prelude.{◌≡◌, refl, ℕ, ◌*◌, ◌^◌, pos, length, None, Some}
 use mathlib.Core.List.{List, [], ◌∷◌, ◌++◌, map, flatten}
 use Rattle.block.specs.Key.{payee_of}
 use Rattle.wire.specs.Bytes.{bytes_of}
@@ -10,7 +10,6 @@ use Rattle.block.specs.Encoding.{file_of, block_for}
 use Rattle.block.specs.Refusal.{number_of, offset_of}
 use Rattle.block.specs.Assemble.{text, STOP, SET, JEQ, JLT, function, call_fuelled, call, end}
 use Rattle.block.specs.Worked.{P, contents_p, account0}
-use Rattle.block.specs.declared.Payee.TheVariants.{To, Nobody}
 use Rattle.block.specs.Computing.{computing}
 
 -- A block's functions (contract and number), their codes' starts and lengths, its keys, the number of its calls and the first one's
@@ -49,7 +48,7 @@ pub record Read-P : Type 0 where
   pub no_fuel : reads (recordOf 3 (bytes_of 2 5 ++ bytes_of 2 32768 ++ bytes_of 26 0) ∷ end ∷ []) ≡ (4 ∷ 0 ∷ []) ∷ []
   pub behind : reads (end ∷ (0 ∷ []) ∷ []) ≡ (8 ∷ 4 ∷ []) ∷ []
   -- M-101: whom PAY pays by a number; and that neither a PAY to account 0, nor its opening cell, nor a call that it sends is refused.
-  pub payees : map payee_of (0 ∷ 1 ∷ 32767 ∷ 32768 ∷ 65536 ∷ 65537 ∷ []) ≡ Nobody ∷ To (record { 0 = 1 }) ∷ To (record { 0 = 32767 }) ∷ Nobody ∷ Nobody ∷ Nobody ∷ []
+  pub payees : map payee_of (0 ∷ 1 ∷ 32767 ∷ 32768 ∷ 65536 ∷ 65537 ∷ []) ≡ None ∷ Some (record { 0 = 1 }) ∷ Some (record { 0 = 32767 }) ∷ None ∷ None ∷ None ∷ []
   pub account_0 : outline (read_block account0) ≡ (2147483648 ∷ 2147483649 ∷ 2147483650 ∷ 2147483651 ∷ 2621440000 ∷ []) ∷ (8 ∷ 32 ∷ 48 ∷ 72 ∷ 96 ∷ []) ∷ (2 ∷ 1 ∷ 2 ∷ 2 ∷ 3 ∷ []) ∷ (0 ∷ (32768 * 2 ^ 80) ∷ (40000 * 2 ^ 80) ∷ []) ∷ (9 ∷ 192 ∷ []) ∷ []
 
 pub read_p : Read-P

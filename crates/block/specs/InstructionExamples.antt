@@ -1,5 +1,5 @@
 -- What `decode` makes of each kind of instruction in a code of 64, computed: of its own bytes, and of bytes with one unused part not zero.
-use Rattle.std.specs.Prelude.{◌≡◌, refl, List, [], ◌∷◌, map, ℕ, pos, negsuc, length}
+use Rattle.std.specs.Prelude.{◌≡◌, refl, List, [], ◌∷◌, map, ℕ, pos, negsuc, length, None, Some}
 use Rattle.wire.specs.Bytes.{repeated}
 use Rattle.block.specs.Instruction.{decode}
 use Rattle.block.specs.InstructionBytes.{instr, instruction_bytes}
@@ -7,7 +7,6 @@ use Rattle.block.specs.Computing.{computing}
 use Rattle.block.specs.declared.Source.TheVariants as source
 use Rattle.block.specs.declared.Instr.{Instr}
 use Rattle.block.specs.declared.Instr.TheVariants.{Stop, Throw, Set, Arg, Sender, Value, Add, Sub, Mul, Div, Get, Put, Bal, Pay, Jeq, Jlt}
-use Rattle.block.specs.declared.Decoded.TheVariants.{Valid, Invalid}
 
 -- At the ends of its ranges.
 abbrev pub kinds : List Instr
@@ -71,8 +70,8 @@ unused =
     ∷ instr 15 0 0 1 0 ∷ []
 
 pub record Decoded-Kinds : Type 0 where
-  pub own : map (λ i. decode 64 (instruction_bytes i)) kinds ≡ map Valid kinds
-  pub not_zero : map (decode 64) unused ≡ repeated (length unused) Invalid
+  pub own : map (λ i. decode 64 (instruction_bytes i)) kinds ≡ map Some kinds
+  pub not_zero : map (decode 64) unused ≡ repeated (length unused) None
 
 pub decoded_kinds : Decoded-Kinds
 unfolding computing

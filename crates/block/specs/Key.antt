@@ -1,12 +1,10 @@
 -- "Cells and addresses".
-use Rattle.std.specs.Prelude.{Bool, ◌&&◌, ◌||◌, not, ℕ, ◌+◌, ◌*◌, ◌/◌, ◌%◌, ◌^◌, eqb, ltb}
+use Rattle.std.specs.Prelude.{Bool, ◌&&◌, ◌||◌, not, ℕ, ◌+◌, ◌*◌, ◌/◌, ◌%◌, ◌^◌, eqb, ltb, None, Option, Some}
 use Rattle.std.specs.Prelude.{if◌then◌else◌}
 use Rattle.block.specs.declared.address.Account.{Account}
 use Rattle.block.specs.declared.address.Contract.{Contract}
 use Rattle.block.specs.declared.address.Address.{Address}
 use Rattle.block.specs.declared.address.Address.TheVariants.{OfAccount, OfContract}
-use Rattle.block.specs.declared.Payee.{Payee}
-use Rattle.block.specs.declared.Payee.TheVariants.{To, Nobody}
 
 -- "Account addresses are 0 to 32767, contract addresses 32768 to 65535. The two are never taken for each other."
 abbrev pub first_contract : ℕ
@@ -29,8 +27,8 @@ withdrawn = 0
 
 -- Whom PAY pays: all 32 bits name the target, and only 0 to 32767 is an account. M-101: "PAY to account 0 ends with outcome 5, as for a target that is
 -- no account."
-unfoldable pub payee_of : ℕ → Payee
-payee_of n = if eqb n withdrawn then Nobody else if ltb n first_contract then To (record { 0 = n }) else Nobody
+unfoldable pub payee_of : ℕ → Option Account
+payee_of n = if eqb n withdrawn then None else if ltb n first_contract then Some (record { 0 = n }) else None
 
 -- "A key is address (16 bits), field (16), a (32), b (32), all unsigned, compared in that order": one number of 96 bits, so that
 -- keys compare as numbers.

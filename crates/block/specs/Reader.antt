@@ -1,6 +1,7 @@
 -- The reader: a file's bytes to the block it holds, or the first refusal of 1 to 10. The rest of the file is carried along with
 -- its position.
-use Rattle.std.specs.Prelude.{Bool, true, ◌||◌, not, List, [], ◌∷◌, ◌++◌, map, ℕ, zero, suc, ◌+◌, ◌-◌, ◌*◌, ◌/◌, ℤ, eqb, leb, ltb, length, drop}
+use Rattle.block.specs.declared.Call.{Call}
+use Rattle.std.specs.Prelude.{Bool, true, ◌||◌, not, List, [], ◌∷◌, ◌++◌, map, ℕ, zero, suc, ◌+◌, ◌-◌, ◌*◌, ◌/◌, ℤ, eqb, leb, ltb, length, drop, None, Option, Some}
 use Rattle.std.specs.Int.Signed.{le_z}
 use Rattle.std.specs.Prelude.{if◌then◌else◌}
 use Rattle.arith.specs.Balance.{total, largest}
@@ -9,8 +10,6 @@ use Rattle.block.specs.Limits.{max_bytes, max_functions, max_cells, max_calls}
 use Rattle.block.specs.Key.{first_contract, is_balance}
 use Rattle.block.specs.Instruction.{instr_bytes, first_invalid}
 use Rattle.block.specs.Record.{Function, Cell, Block, function_id, head_bytes, function_kind, cell_kind, call_kind, end_kind, length_allowed, cell_of, cell_allowed, call_of, function_bytes}
-use Rattle.block.specs.declared.CallBody.{CallBody}
-use Rattle.block.specs.declared.CallBody.TheVariants.{InRange, OutOfRange}
 use Rattle.block.specs.declared.Refusal.{Refusal}
 use Rattle.block.specs.declared.Refusal.TheVariants.{InputTooLong, Missing, Kind, Length, Field, NotRising, BeyondLimit, Behind, Balances, Code}
 
@@ -86,9 +85,9 @@ read_cell at len body b =
     (record { functions = b.functions; cells = cells; calls = b.calls; opening = b.opening; first_call = at + head_bytes + len })
 
 -- A call's body: 7, 5. "in block order, numbered from 0"; M-104: fuel "zero is refusal 5".
-unfoldable pub withCall : ℕ → ℕ → List ℕ → Block → CallBody → Reading
-withCall at len body b OutOfRange = refuse (Field at)
-withCall at len body b (InRange c) =
+unfoldable pub withCall : ℕ → ℕ → List ℕ → Block → Option Call → Reading
+withCall at len body b None = refuse (Field at)
+withCall at len body b (Some c) =
     if eqb c.fuel 0
     then refuse (Field at)
     else

@@ -1,5 +1,5 @@
 -- "Block file": what the bodies of its records hold, and the block they make.
-use Rattle.std.specs.Prelude.{Bool, ◌&&◌, not, List, ◌++◌, ℕ, ◌+◌, ◌-◌, ◌*◌, ◌%◌, ℤ, pos, eqb, leb, ltb, length, take, drop}
+use Rattle.std.specs.Prelude.{Bool, ◌&&◌, not, List, ◌++◌, ℕ, ◌+◌, ◌-◌, ◌*◌, ◌%◌, ℤ, pos, eqb, leb, ltb, length, take, drop, None, Option, Some}
 use Rattle.std.specs.Int.Signed.{lt_z, non_neg}
 use Rattle.std.specs.Prelude.{if◌then◌else◌}
 use Rattle.arith.specs.Exact.{signed}
@@ -9,8 +9,6 @@ use Rattle.block.specs.Key.{first_contract, address_of, key_of, key_allowed}
 use Rattle.block.specs.Instruction.{instr_bytes}
 use Rattle.block.specs.declared.address.Contract.{Contract}
 use Rattle.block.specs.declared.Call.{Call}
-use Rattle.block.specs.declared.CallBody.{CallBody}
-use Rattle.block.specs.declared.CallBody.TheVariants.{InRange, OutOfRange}
 
 -- "little-endian records: length (2 bytes, of the body), kind (2), body"
 abbrev pub head_bytes : ℕ
@@ -117,11 +115,11 @@ cell_allowed s =
 
 -- A call's body at the front of the bytes, all of it there, with 5 for it: "sender account", "contract", "value 8 (signed, 0 or more)". Its fuel is
 -- not asked here: the reader asks it, and a step behind the entry does.
-unfoldable pub call_of : List ℕ → CallBody
+unfoldable pub call_of : List ℕ → Option Call
 call_of s =
     if leb call_bytes (length s) && ltb (number 2 s) first_contract && leb first_contract (read_le 2 s 2) && non_neg (signed 64 (read_le 8 s 6))
     then
-    InRange
+    Some
     (record {
       sender = record { 0 = number 2 s };
       contract = record { 0 = read_le 2 s 2 };
@@ -133,7 +131,7 @@ call_of s =
       arg4 = read_le 4 s 26;
       fuel = read_le 2 s 30;
     })
-    else OutOfRange
+    else None
 
 -- Argument 1 to 4 of a call.
 unfoldable pub argument : Call → ℕ → ℕ

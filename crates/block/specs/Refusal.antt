@@ -1,7 +1,5 @@
 -- "Stopped by the input. Number and record offset": what each refusal says.
-use Rattle.std.specs.Prelude.{Bool, true, false, ℕ}
-use Rattle.block.specs.declared.Verdict.{Verdict}
-use Rattle.block.specs.declared.Verdict.TheVariants as verdict
+use Rattle.std.specs.Prelude.{Bool, true, false, ℕ, Err, Ok, Result}
 use Rattle.block.specs.declared.Refusal.{Refusal}
 use Rattle.block.specs.declared.Refusal.TheVariants.{InputTooLong, Missing, Kind, Length, Field, NotRising, BeyondLimit, Behind, Balances, Code, CallKeys, AllKeys, Workers, Buffers}
 
@@ -44,15 +42,15 @@ offset_of Workers = 0
 offset_of Buffers = 0
 
 -- The number and offset of a verdict; 0 stands for accepted.
-unfoldable pub verdict_number : Verdict → ℕ
-verdict_number verdict.Accepted = 0
-verdict_number (verdict.Refused why) = number_of why
+unfoldable pub verdict_number : Result (Unit {0}) Refusal → ℕ
+verdict_number (Ok tt) = 0
+verdict_number (Err why) = number_of why
 
-unfoldable pub verdict_offset : Verdict → ℕ
-verdict_offset verdict.Accepted = 0
-verdict_offset (verdict.Refused why) = offset_of why
+unfoldable pub verdict_offset : Result (Unit {0}) Refusal → ℕ
+verdict_offset (Ok tt) = 0
+verdict_offset (Err why) = offset_of why
 
 -- Whether a file is accepted.
-unfoldable pub is_accepted : Verdict → Bool
-is_accepted verdict.Accepted = true
-is_accepted (verdict.Refused why) = false
+unfoldable pub is_accepted : Result (Unit {0}) Refusal → Bool
+is_accepted (Ok tt) = true
+is_accepted (Err why) = false

@@ -8,13 +8,6 @@ pub mod outcomes;
 
 pub use address::{Account, Address, Contract};
 
-// Whom PAY pays.
-#[derive(Clone, Copy)]
-pub enum Payee {
-    To(Account),
-    Nobody,
-}
-
 // Where an instruction takes a part of a key, or a target, from.
 #[derive(Clone, Copy)]
 pub enum Source {
@@ -94,13 +87,6 @@ pub enum Instr {
     },
 }
 
-// What eight bytes of code hold.
-#[derive(Clone, Copy)]
-pub enum Decoded {
-    Valid(Instr),
-    Invalid,
-}
-
 // A call record.
 #[derive(Clone, Copy)]
 pub struct Call {
@@ -113,13 +99,6 @@ pub struct Call {
     pub arg3: u32,
     pub arg4: u32,
     pub fuel: u16,
-}
-
-// What the body of a call record holds.
-#[derive(Clone, Copy)]
-pub enum CallBody {
-    InRange(Call),
-    OutOfRange,
 }
 
 // Why an input is refused, with the offset of the place in the file. specs/Refusal.antt has document 01's numbers.
@@ -139,11 +118,4 @@ pub enum Refusal {
     AllKeys(usize),
     Workers,
     Buffers,
-}
-
-// What an input is answered.
-#[derive(Clone, Copy)]
-pub enum Verdict {
-    Accepted,
-    Refused(Refusal),
 }

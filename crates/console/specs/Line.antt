@@ -1,7 +1,6 @@
 -- The move lines of standard input: `b worker call`, `s worker`, `c worker`. "one space divides its parts, and its numbers are of
 -- decimal digits"; a number has 1 to 5 digits. A line is read byte by byte.
-use Rattle.std.specs.Prelude.{Bool, true, false, ◌&&◌, ℕ, ◌+◌, ◌-◌, ◌*◌, eqb, leb, ltb}
-use Rattle.std.proofs.Math.Option.{Option, none, some}
+use Rattle.std.specs.Prelude.{Bool, true, false, ◌&&◌, ℕ, ◌+◌, ◌-◌, ◌*◌, eqb, leb, ltb, None, Option, Some}
 use Rattle.std.specs.Prelude.{if◌then◌else◌}
 use Rattle.wire.specs.Decimal.{space, zero_digit}
 use Rattle.schedule.specs.declared.Move.{Move}
@@ -60,16 +59,16 @@ is_empty Malformed = false
 
 -- The move of a line with one number.
 unfoldable pub move_for : Letter → ℕ → Option Move
-move_for B n = none
-move_for S n = some (Step n)
-move_for C n = some (Cancel n)
+move_for B n = None
+move_for S n = Some (Step n)
+move_for C n = Some (Cancel n)
 
 -- The move of a whole line, or none where it is "in no such form".
 unfoldable pub line_move : Line → Option Move
-line_move Empty = none
-line_move (Named l) = none
-line_move (Spaced l) = none
+line_move Empty = None
+line_move (Named l) = None
+line_move (Spaced l) = None
 line_move (First l digits n) = move_for l n
-line_move (Between w) = none
-line_move (Second w digits n) = some (Begin w n)
-line_move Malformed = none
+line_move (Between w) = None
+line_move (Second w digits n) = Some (Begin w n)
+line_move Malformed = None

@@ -1,6 +1,7 @@
 -- The program REGISTER as one function from the bytes of block.bin and of standard input to the bytes of standard output.
-use Rattle.std.specs.Prelude.{true, false, List, [], ◌∷◌, ◌++◌, ℕ, zero, suc, ◌+◌, ◌-◌, ◌^◌, eqb, ltb, take}
-use Rattle.std.proofs.Math.Option.{Option, none, some}
+use Rattle.block.specs.declared.Refusal.{Refusal}
+use Rattle.machine.specs.declared.Answer.{Answer}
+use Rattle.std.specs.Prelude.{true, false, List, [], ◌∷◌, ◌++◌, ℕ, zero, suc, ◌+◌, ◌-◌, ◌^◌, eqb, ltb, take, Err, None, Ok, Option, Result, Some}
 use Rattle.std.specs.Prelude.{if◌then◌else◌}
 use Rattle.wire.specs.Bytes.{repeated}
 use Rattle.block.specs.Limits.{max_workers}
@@ -10,11 +11,7 @@ use Rattle.machine.specs.Answer.{answer_number}
 use Rattle.machine.specs.Run.{Run, fixed_sizes}
 use Rattle.machine.specs.Opening.{Opened, opening_of}
 use Rattle.machine.specs.Moves.{Moved, move_of}
-use Rattle.block.specs.declared.Verdict.{Verdict}
-use Rattle.block.specs.declared.Verdict.TheVariants as verdict
 use Rattle.sheet.specs.Sheet.{Closed, max_sheet, sheet_of}
-use Rattle.sheet.specs.declared.Closing.{Closing}
-use Rattle.sheet.specs.declared.Closing.TheVariants.{Written, Refused}
 use Rattle.wire.specs.Decimal.{line_feed}
 use Rattle.console.specs.Line.{read_byte, is_empty, line_move}
 use Rattle.text.specs.Lines.{refused_text, block_refused_text}
@@ -46,8 +43,8 @@ after_move s m = next_line s m.run (answer_text s.number (answer_number m.answer
 
 -- A whole line: its move, or, "in no such form", nothing moved and `r`, its line, 0.
 unfoldable pub play_move : List ℕ → Session → Option Move → Session
-play_move block s none = next_line s s.run (refused_text s.number 0)
-play_move block s (some m) = after_move s (move_of block s.run m)
+play_move block s None = next_line s s.run (refused_text s.number 0)
+play_move block s (Some m) = after_move s (move_of block s.run m)
 
 abbrev pub play_line : List ℕ → Session → Session
 play_line block s = play_move block s (line_move s.line)
@@ -70,9 +67,9 @@ unfoldable pub play_end : List ℕ → Session → Session
 play_end block s = if is_empty s.line then s else play_line block s
 
 -- The sheet as text, or "a refused sheet `r 0 27` in place of the k and t lines".
-unfoldable pub closing_text : Closed → Closing → List ℕ
-closing_text c (Written n) = sheet_text (take n c.output)
-closing_text c (Refused a) = refused_text 0 (answer_number a)
+unfoldable pub closing_text : Closed → Result ℕ Answer → List ℕ
+closing_text c (Ok n) = sheet_text (take n c.output)
+closing_text c (Err a) = refused_text 0 (answer_number a)
 
 abbrev pub close_run : Run → List ℕ
 close_run r = let c : Closed = sheet_of r (repeated max_sheet 0) in closing_text c c.answer
@@ -85,9 +82,9 @@ unfoldable pub play_input : List ℕ → Run → List ℕ → Session
 play_input block r input =
     play_end block (play_bytes block (record { number = 1; line = Empty; run = r; output = [] }) (take max_input input))
 
-unfoldable pub register_opened : List ℕ → List ℕ → Run → Verdict → List ℕ
-register_opened block input r (verdict.Refused why) = block_refused_text (number_of why) (offset_of why)
-register_opened block input r verdict.Accepted = let s : Session = play_input block r input in s.output ++ close_run s.run
+unfoldable pub register_opened : List ℕ → List ℕ → Run → Result (Unit {0}) Refusal → List ℕ
+register_opened block input r (Err why) = block_refused_text (number_of why) (offset_of why)
+register_opened block input r (Ok tt) = let s : Session = play_input block r input in s.output ++ close_run s.run
 
 -- "The program REGISTER reads P from the file block.bin and .. text lines on standard input (.. 8 workers)."
 unfoldable pub register_of : List ℕ → List ℕ → List ℕ

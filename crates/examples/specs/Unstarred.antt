@@ -1,8 +1,8 @@
 -- Document 01's unstarred examples and the rows of its 'Plausible errors', computed from the definitions.
-use Rattle.std.specs.Prelude.{◌≡◌, refl, true, false, ℕ, pos, negsuc}
+use Rattle.arith.specs.declared.NoResult.TheVariants.{Overflow, ZeroDivisor}
+use Rattle.std.specs.Prelude.{◌≡◌, refl, true, false, ℕ, pos, negsuc, Err, Ok}
 use mathlib.Core.List.{List, [], ◌∷◌, flatten}
 use Rattle.arith.specs.Exact.{div_of}
-use Rattle.arith.specs.declared.Checked.TheVariants.{Value, Overflow, ZeroDivisor}
 use Rattle.block.specs.Limits.{max_workers}
 use Rattle.block.specs.Refusal.{verdict_number}
 use Rattle.machine.specs.Opening.{opening_of, opened_for_eight}
@@ -50,12 +50,12 @@ pub record PlausibleErrors : Type 0 where
   -- "Freeing waiters when a call is cancelled."
   pub freed_waiters : register_of P (text "b 0 0\nc 0\nb 1 1\n") ≡ text "r 3 25\nr 0 27\n"
   -- "Truncating division", in all four sign cases; the zero divisor and the overflow are told apart.
-  pub division_1 : div_of (negsuc 6) (pos 2) ≡ Value (negsuc 3)
-  pub division_2 : div_of (pos 7) (negsuc 1) ≡ Value (negsuc 3)
-  pub division_3 : div_of (pos 7) (pos 2) ≡ Value (pos 3)
-  pub division_4 : div_of (negsuc 6) (negsuc 1) ≡ Value (pos 3)
-  pub division_5 : div_of (negsuc 9223372036854775807) (negsuc 0) ≡ Overflow
-  pub division_6 : div_of (negsuc 6) (pos 0) ≡ ZeroDivisor
+  pub division_1 : div_of (negsuc 6) (pos 2) ≡ Ok (negsuc 3)
+  pub division_2 : div_of (pos 7) (negsuc 1) ≡ Ok (negsuc 3)
+  pub division_3 : div_of (pos 7) (pos 2) ≡ Ok (pos 3)
+  pub division_4 : div_of (negsuc 6) (negsuc 1) ≡ Ok (pos 3)
+  pub division_5 : div_of (negsuc 9223372036854775807) (negsuc 0) ≡ Err Overflow
+  pub division_6 : div_of (negsuc 6) (pos 0) ≡ Err ZeroDivisor
 
 pub plausible_errors : PlausibleErrors
 unfolding console.computing text P two_aborts

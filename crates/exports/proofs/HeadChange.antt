@@ -1,4 +1,6 @@
 -- How a move changes the head: not at all, or in what its own worker holds, by a number of 16 bits.
+use Rattle.std.specs.Prelude.{None, Option, Some, Ok, Err, Result}
+use Rattle.block.specs.declared.Call.{Call}
 use mathlib.Core.Path.{◌≡◌, refl, ap, ◌∙◌}
 use mathlib.Core.Bool.{Bool, true, false, ◌||◌, not}
 use mathlib.Core.List.{List, [], ◌∷◌}
@@ -11,13 +13,11 @@ use lib.Seq.{set-set}
 use Rattle.arith.proofs.ChoiceLaws.{if_all, neither}
 use Rattle.block.specs.Limits.{max_calls, max_code, max_workers}
 use Rattle.block.specs.Record.{head_bytes, call_record_bytes, call_of}
-use Rattle.block.specs.declared.CallBody.{CallBody}
-use Rattle.block.specs.declared.CallBody.TheVariants.{InRange, OutOfRange}
 use Rattle.footprint.specs.Plan.{code_length}
 use Rattle.machine.specs.Run.{Run, sizes_of, large_enough, held_at, with_held, place_in, plan_word, state_of, is_state, waiting}
 use Rattle.machine.specs.Waits.{waits_lowerable}
 use Rattle.machine.specs.Step.{Stepped, damaged, more, done, restorable, step_call}
-use Rattle.machine.specs.Moves.{Moved, call_key_count, own_entries, Waits, waits_by_count, begin_call, begin_checked, begin_by, begin_of, view_of, local_of, stepped, step_record, step_held, cancel_held, Held, answered, holds, held_by, step_for, cancel_for, step_of, cancel_of}
+use Rattle.machine.specs.Moves.{Moved, call_key_count, own_entries, Waits, waits_by_count, begin_call, begin_checked, begin_by, begin_of, view_of, local_of, stepped, step_record, step_held, cancel_held, held_by, step_for, cancel_for, step_of, cancel_of}
 use Rattle.machine.specs.Serial.{is_serial_idle, step_to_end, max_steps, run_call, run_calls}
 use Rattle.machine.specs.declared.Answer.{Answer}
 use Rattle.machine.specs.declared.Head.{Head}
@@ -77,7 +77,7 @@ module _ (r : Run) (w : ℕ) where
   -- ---- STEP and CANCEL
 
   -- What holds of each answer, and of each call that one of eight workers holds, holds of what the worker holds.
-  by_held : (P : Held → Type 0) → ((a : Answer) → P (answered a)) → (w < max_workers → (call : ℕ) → P (holds call)) → P (held_by r w)
+  by_held : (P : Result ℕ Answer → Type 0) → ((a : Answer) → P (Err a)) → (w < max_workers → (call : ℕ) → P (Ok call)) → P (held_by r w)
   unfolding held_by
   by_held P refused found =
       if_all P (not (large_enough (sizes_of r)) || eqb r.head.workers 0 || ltb max_workers r.head.workers) (λ _. refused _) λ sized.
@@ -97,10 +97,10 @@ module _ (r : Run) (w : ℕ) where
     stepped_change (done outcome count cells) =
         if_all Changes (not (waits_lowerable r.plan r.status call r.head.calls)) (λ _. kept refl) (λ _. freed)
 
-    record_change : (block : List ℕ) (b : CallBody) → Changes (step_record block r w call b)
+    record_change : (block : List ℕ) (b : Option Call) → Changes (step_record block r w call b)
     unfolding step_record
-    record_change block OutOfRange = kept refl
-    record_change block (InRange body) = stepped_change (step_call (view_of block r call body) (local_of r w call) r.cells)
+    record_change block None = kept refl
+    record_change block (Some body) = stepped_change (step_call (view_of block r call body) (local_of r w call) r.cells)
 
     held_change : (block : List ℕ) → Changes (step_held block r w call)
     unfolding step_held

@@ -1,4 +1,6 @@
 -- The words behind an exported function stand for the run that the definitions leave: a change of what one worker holds is a change of its word.
+use Rattle.std.specs.Prelude.{Err, Ok, Result}
+use Rattle.block.specs.declared.Refusal.{Refusal}
 use mathlib.Core.Path.{◌≡◌, refl, sym, ap, ◌∙◌}
 use mathlib.Core.Bool.{◌||◌, not}
 use mathlib.Core.List.{List, [], ◌∷◌, ◌++◌}
@@ -13,8 +15,6 @@ use Rattle.arith.proofs.ChoiceLaws.{by_test, if_all}
 use Rattle.wire.specs.Bytes.{below, stored, repeated}
 use Rattle.block.specs.Limits.{max_workers}
 use Rattle.block.specs.Reader.{read_block}
-use Rattle.block.specs.declared.Verdict.{Verdict}
-use Rattle.block.specs.declared.Verdict.TheVariants as verdict
 use Rattle.footprint.specs.Plan.{Prepared, prepare_read}
 use Rattle.machine.specs.Run.{Run, Sizes, sizes_of, room_in, large_enough, held_at, with_held}
 use Rattle.machine.specs.Opening.{Opened, refused_run, open_prepared, opening_of}
@@ -108,10 +108,10 @@ serial_change block r =
 abbrev Idle : Opened → Type 0
 Idle o = o.run.head.held ≡ repeated max_workers 0
 
-prepared_idle : (s : Sizes) (workers : ℕ) (p : Prepared) (v : Verdict) → Idle (open_prepared s workers p v)
+prepared_idle : (s : Sizes) (workers : ℕ) (p : Prepared) (v : Result (Unit {0}) Refusal) → Idle (open_prepared s workers p v)
 unfolding open_prepared refused_run
-prepared_idle s workers p (verdict.Refused why) = refl
-prepared_idle s workers p verdict.Accepted = refl
+prepared_idle s workers p (Err why) = refl
+prepared_idle s workers p (Ok tt) = refl
 
 opening_idle : (s : Sizes) (file : List ℕ) (workers : ℕ) → Idle (opening_of s file workers)
 unfolding opening_of refused_run

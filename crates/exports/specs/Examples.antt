@@ -1,7 +1,6 @@
 -- What a held word names, and the lent length behind a sheet, computed.
-use Rattle.std.specs.Prelude.{◌≡◌, refl, [], ◌∷◌, map}
+use Rattle.std.specs.Prelude.{◌≡◌, refl, [], ◌∷◌, map, Err, Ok}
 use Rattle.machine.specs.declared.Answer.TheVariants.{Damaged}
-use Rattle.sheet.specs.declared.Closing.TheVariants.{Written, Refused}
 use Rattle.exports.specs.Words.{held_number}
 use Rattle.exports.specs.Exports.{length_after}
 
@@ -10,6 +9,6 @@ pub held_words : map held_number (0 ∷ 1 ∷ 256 ∷ 65535 ∷ 65536 ∷ 65537 
 held_words = refl
 
 -- A sheet of 4 bytes, and a refused one: 5 was lent.
-pub lent_lengths : length_after (Written 4) 5 ∷ length_after (Refused Damaged) 5 ∷ [] ≡ 4 ∷ 5 ∷ []
+pub lent_lengths : length_after (Ok 4) 5 ∷ length_after (Err Damaged) 5 ∷ [] ≡ 4 ∷ 5 ∷ []
 unfolding length_after
 lent_lengths = refl

@@ -1,5 +1,6 @@
 -- What each exported function answers, and what it leaves in all that it was lent.
-use Rattle.std.specs.Prelude.{Bool, List, [], ◌∷◌, ℕ, ltb, length, get_or}
+use Rattle.machine.specs.declared.Answer.{Answer}
+use Rattle.std.specs.Prelude.{Bool, List, [], ◌∷◌, ℕ, ltb, length, get_or, Err, Ok, Result}
 use Rattle.std.specs.Prelude.{if◌then◌else◌}
 use Rattle.wire.specs.Bytes.{stored, repeated}
 use Rattle.block.specs.Limits.{max_bytes}
@@ -10,10 +11,8 @@ use Rattle.machine.specs.Run.{Run, Sizes, sizes_of, fixed_sizes, large_enough}
 use Rattle.machine.specs.Opening.{Opened, refused_run, opening_of}
 use Rattle.machine.specs.Moves.{Moved, stay}
 use Rattle.machine.specs.Serial.{serial_run}
-use Rattle.machine.specs.declared.Answer.TheVariants.{Accepted, Damaged}
+use Rattle.machine.specs.declared.Answer.TheVariants.{Damaged}
 use Rattle.sheet.specs.Sheet.{Closed, closing_number, max_sheet, unwritten, sheet_of}
-use Rattle.sheet.specs.declared.Closing.{Closing}
-use Rattle.sheet.specs.declared.Closing.TheVariants.{Written, Refused}
 use Rattle.exports.specs.Words.{Words, words, head_words, run_in, words_after}
 
 -- A head of so many words is too short.
@@ -76,7 +75,7 @@ move_words move l worker = moved_words l worker (move_for move l)
 unfoldable pub serial_move : List ℕ → Run → Moved
 serial_move block r =
     if large_enough (sizes_of r)
-    then record { answer = Accepted; run = serial_run block r }
+    then record { answer = Ok tt; run = serial_run block r }
     else stay r Damaged
 
 -- A sheet: its number, 0 if it is written, the lent length, and the output.
@@ -86,9 +85,9 @@ pub record ClosedWords : Type 0 where
   pub output : List ℕ
 
 -- The lent length behind a closing: that of a written sheet; a refusal leaves it as it was, "nothing changes".
-unfoldable pub length_after : Closing → (before : ℕ) → ℕ
-length_after (Written n) before = n
-length_after (Refused a) before = before
+unfoldable pub length_after : Result ℕ Answer → (before : ℕ) → ℕ
+length_after (Ok n) before = n
+length_after (Err a) before = before
 
 unfoldable pub sheet_for : Words → List ℕ → Closed
 sheet_for l output = if too_short (length l.head) then unwritten output Damaged else sheet_of (run_in l) output

@@ -1,32 +1,30 @@
 -- A transaction from two states that are alike on what it reads: one receipt, and states left alike wherever the two were.
+use Rattle.arith.specs.declared.NoResult.TheVariants.{Overflow, ZeroDivisor}
+use Rattle.arith.specs.declared.NoResult.{NoResult}
+use Rattle.block.specs.declared.address.Account.{Account}
 use mathlib.Core.Path.{◌≡◌, refl, sym, ap, subst, ◌∙◌}
 use mathlib.Core.Bool.{Bool, true, false}
 use mathlib.Core.List.{List}
-use mathlib.Core.Option.{Option, none, some}
 use Prim.Native.Nat.{ℕ, zero, suc, ◌+◌}
 use native.Mathlib.Decide.{ℕ_discrete}
 use lib.IntN.{ℤ, pos, ◌+ℤ◌, ◌-ℤ◌}
-use lib.ListN.{get_or, get_elem?, set}
+use lib.ListN.{get_or, set}
 use lib.Signed.{lt_z, non_neg}
 use Rattle.wire.specs.All.{All}
 use Rattle.footprint.specs.SafeSets.{AlikeOn, LeftAlike}
-use Rattle.std.specs.Prelude.{if◌then◌else◌}
+use Rattle.std.specs.Prelude.{if◌then◌else◌, None, Option, Some, slice_get, Err, Ok}
 use Rattle.arith.specs.Exact.{add_of, sub_of, mul_of, div_of}
 use Rattle.arith.proofs.IntegerLaws.{clash}
-use Rattle.arith.specs.declared.Checked.{Checked}
-use Rattle.arith.specs.declared.Checked.TheVariants as checked
 use Rattle.block.specs.Key.{account_balance, contract_balance}
 use Rattle.block.specs.Record.{Function}
 use Rattle.block.specs.declared.Call.{Call}
-use Rattle.block.specs.declared.Payee.{Payee}
-use Rattle.block.specs.declared.Payee.TheVariants.{To, Nobody}
 use Rattle.block.specs.declared.Instr.{Instr}
 use Rattle.block.specs.declared.Instr.TheVariants.{Stop, Throw, Set, Arg, Sender, Value, Add, Sub, Mul, Div, Get, Put, Bal, Pay, Jeq, Jlt}
 use Rattle.block.specs.Naming.{cell_key, target_of}
 use Rattle.footprint.specs.SetsInWords.{instructions_of}
 use Rattle.rule.proofs.LimitLaws.{update_same, update_other}
 use Rattle.footprint.proofs.TransactionLaws.{HoldsOfFound, every_at}
-use Rattle.rule.specs.Rule.{State, update, credit, debit, Result, ends, fails, Course, before, over, assign_checked, transfer, execute, execute_at, unfuelled, run_body, Left, settle, unbegun, run_function, transaction_by}
+use Rattle.rule.specs.Rule.{State, update, credit, debit, BodyResult, ends, fails, Course, before, over, assign_checked, transfer, execute, execute_at, unfuelled, run_body, Left, settle, unbegun, run_function, transaction_by}
 
 module _ (Q : ℕ → Type 0) where
   -- Storing into the same cell values that are equal if the cell is in Q.
@@ -46,7 +44,7 @@ module _ (Q : ℕ → Type 0) where
       (λ q. ap (λ (x : ℤ). x +ℤ m) (less k q))
 
   -- Two courses at one place, with equal registers and counts and states alike; or at results of one kind.
-  abbrev pub ResultsAlike : Result → Result → Type 0
+  abbrev pub ResultsAlike : BodyResult → BodyResult → Type 0
   ResultsAlike (ends σ n e) (ends τ m f) = (n ≡ m) × (e ≡ f) × AlikeOn Q σ τ
   ResultsAlike (ends σ n e) (fails o m) = ⊥
   ResultsAlike (fails o n) (ends τ m f) = ⊥
@@ -79,17 +77,17 @@ module _ (Q : ℕ → Type 0) where
     ReadsIn (Jlt x y to) = Unit {0}
 
     module _ (p : ℕ) (ρ : List ℤ) (n : ℕ) (σ τ : State) (alike : AlikeOn Q σ τ) where
-      checked_alike : (x : ℕ) (r : Checked) → Beside (assign_checked p ρ n σ x r) (assign_checked p ρ n τ x r)
+      checked_alike : (x : ℕ) (r : Result ℤ NoResult) → Beside (assign_checked p ρ n σ x r) (assign_checked p ρ n τ x r)
       unfolding assign_checked
-      checked_alike x (checked.Value v) = (refl, refl, refl, alike)
-      checked_alike x checked.Overflow = (refl, refl)
-      checked_alike x checked.ZeroDivisor = (refl, refl)
+      checked_alike x (Ok v) = (refl, refl, refl, alike)
+      checked_alike x (Err Overflow) = (refl, refl)
+      checked_alike x (Err ZeroDivisor) = (refl, refl)
 
-      transfer_alike : (m : ℤ) (payee : Payee) → σ (contract_balance c.contract) ≡ τ (contract_balance c.contract)
+      transfer_alike : (m : ℤ) (payee : Option Account) → σ (contract_balance c.contract) ≡ τ (contract_balance c.contract)
           → Beside (transfer c p ρ n σ m payee) (transfer c p ρ n τ m payee)
       unfolding transfer
-      transfer_alike m Nobody e = (refl, refl)
-      transfer_alike m (To account) e =
+      transfer_alike m None e = (refl, refl)
+      transfer_alike m (Some account) e =
           go (non_neg m) (lt_z (σ own) m) (lt_z (τ own) m) (ap (λ (x : ℤ). lt_z x m) e)
         where
           own : ℕ
@@ -131,29 +129,29 @@ module _ (Q : ℕ → Type 0) where
     at_alike : (p : ℕ) (ρ : List ℤ) (n : ℕ) (σ τ : State) → AlikeOn Q σ τ → (o : Option Instr) → HoldsOfFound ReadsIn o
         → Beside (execute_at c p ρ n σ o) (execute_at c p ρ n τ o)
     unfolding execute_at
-    at_alike p ρ n σ τ alike none q = (refl, refl, alike)
-    at_alike p ρ n σ τ alike (some i) q = execute_alike p ρ (n + 1) σ τ alike i q
+    at_alike p ρ n σ τ alike None q = (refl, refl, alike)
+    at_alike p ρ n σ τ alike (Some i) q = execute_alike p ρ (n + 1) σ τ alike i q
 
     last_alike : (n : ℕ) (σ τ : State) → AlikeOn Q σ τ → (o : Option Instr) → ResultsAlike (unfuelled n σ o) (unfuelled n τ o)
     unfolding unfuelled
-    last_alike n σ τ alike none = (refl, refl, alike)
-    last_alike n σ τ alike (some i) = (refl, refl)
+    last_alike n σ τ alike None = (refl, refl, alike)
+    last_alike n σ τ alike (Some i) = (refl, refl)
 
     run_alike : (body : List Instr) → All ReadsIn body → (fuel : ℕ) (x y : Course) → Beside x y
         → ResultsAlike (run_body fuel c body x) (run_body fuel c body y)
     unfolding run_body
-    run_alike body each zero (before p ρ n σ) (before q π m τ) h = rw (← h.0, ← h.2) (last_alike n σ τ h.3 (get_elem? body p))
+    run_alike body each zero (before p ρ n σ) (before q π m τ) h = rw (← h.0, ← h.2) (last_alike n σ τ h.3 (slice_get body p))
     run_alike body each zero (before p ρ n σ) (over s) h = absurd h
     run_alike body each zero (over r) (before q π m τ) h = absurd h
     run_alike body each zero (over r) (over s) h = h
     run_alike body each (suc fuel) (before p ρ n σ) (before q π m τ) h =
-        run_alike body each fuel (execute_at c p ρ n σ (get_elem? body p)) (execute_at c q π m τ (get_elem? body q))
-        (rw (← h.0, ← h.1, ← h.2) (at_alike p ρ n σ τ h.3 (get_elem? body p) (every_at ReadsIn body each p)))
+        run_alike body each fuel (execute_at c p ρ n σ (slice_get body p)) (execute_at c q π m τ (slice_get body q))
+        (rw (← h.0, ← h.1, ← h.2) (at_alike p ρ n σ τ h.3 (slice_get body p) (every_at ReadsIn body each p)))
     run_alike body each (suc fuel) (before p ρ n σ) (over s) h = absurd h
     run_alike body each (suc fuel) (over r) (before q π m τ) h = absurd h
     run_alike body each (suc fuel) (over r) (over s) h = h
 
-    settle_alike : (σ τ : State) → AlikeOn Q σ τ → (r s : Result) → ResultsAlike r s → LeftAlike Q (settle σ r) (settle τ s)
+    settle_alike : (σ τ : State) → AlikeOn Q σ τ → (r s : BodyResult) → ResultsAlike r s → LeftAlike Q (settle σ r) (settle τ s)
     unfolding settle
     settle_alike σ τ alike (ends σ' n e) (ends τ' m f) h = record { outcome = refl; count = h.0; behind = h.1; state = h.2 }
     settle_alike σ τ alike (ends σ' n e) (fails o m) h = absurd h
@@ -162,12 +160,12 @@ module _ (Q : ℕ → Type 0) where
 
     -- Where the test of the sender's balance comes out alike and the function reads within Q, the two leave the like.
     pub transaction_alike : (block : List ℕ) (σ τ : State) → AlikeOn Q σ τ → (f : Option Function)
-        → ((g : Function) → f ≡ some g → lt_z (σ (account_balance c.sender)) c.value ≡ lt_z (τ (account_balance c.sender)) c.value)
-        → ((g : Function) → f ≡ some g → All ReadsIn (instructions_of block g))
+        → ((g : Function) → f ≡ Some g → lt_z (σ (account_balance c.sender)) c.value ≡ lt_z (τ (account_balance c.sender)) c.value)
+        → ((g : Function) → f ≡ Some g → All ReadsIn (instructions_of block g))
         → LeftAlike Q (transaction_by block c σ f) (transaction_by block c τ f)
     unfolding transaction_by run_function
-    transaction_alike block σ τ alike none test each = record { outcome = refl; count = refl; behind = refl; state = alike }
-    transaction_alike block σ τ alike (some g) test each =
+    transaction_alike block σ τ alike None test each = record { outcome = refl; count = refl; behind = refl; state = alike }
+    transaction_alike block σ τ alike (Some g) test each =
         go (lt_z (σ sender) c.value) (lt_z (τ sender) c.value) (test g refl)
       where
         sender : ℕ

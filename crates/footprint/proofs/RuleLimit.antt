@@ -10,7 +10,7 @@ use lib.Dec.{ltb, leb, lit<}
 use lib.ListN.{length, drop}
 use lib.IntN.{ℤ, pos}
 use lib.Signed.{mag, lt_z, non_neg}
-use Rattle.std.specs.Prelude.{if◌then◌else◌}
+use Rattle.std.specs.Prelude.{if◌then◌else◌, None, Option, Some}
 use Rattle.arith.specs.Exact.{signed}
 use Rattle.arith.proofs.IntegerLaws.{signed_range}
 use Rattle.wire.specs.Bytes.{number, read_le}
@@ -23,9 +23,6 @@ use Rattle.block.specs.Instruction.{instr_bytes, decode}
 use Rattle.block.proofs.DecodeLaws.{Decodes}
 use Rattle.block.specs.Record.{Function, call_bytes, argument, call_of}
 use Rattle.block.specs.declared.Call.{Call}
-use Rattle.block.specs.declared.CallBody.TheVariants.{InRange, OutOfRange}
-use Rattle.block.specs.declared.Decoded.{Decoded}
-use Rattle.block.specs.declared.Decoded.TheVariants.{Valid, Invalid}
 use Rattle.block.specs.declared.Instr.{Instr}
 use Rattle.block.specs.declared.Instr.TheVariants.{Stop, Throw, Set, Arg, Sender, Value, Add, Sub, Mul, Div, Get, Put, Bal, Pay, Jeq, Jlt}
 use Rattle.block.specs.Naming.{source_value, function_of}
@@ -40,7 +37,7 @@ use Rattle.rule.specs.Rule.{State, update, credit, debit, with_instr, body_of, s
 -- ---- the ranges of a call
 
 -- A call that the reader lets pass has them.
-pub read_call_bounded : (s : List ℕ) → AreBytes s → (c : Call) → call_of s ≡ InRange c → CallBounded c
+pub read_call_bounded : (s : List ℕ) → AreBytes s → (c : Call) → call_of s ≡ Some c → CallBounded c
 unfolding call_of
 read_call_bounded s h c e = go whole account contract value refl refl refl e
   where
@@ -79,10 +76,10 @@ read_call_bounded s h c e = go whole account contract value refl refl refl e
       arg4 = number_lt 4 (drop 26 s) (drop_bytes 26 s h);
     }
 
-    other : OutOfRange ≡ InRange c → CallBounded c
+    other : None ≡ Some c → CallBounded c
     other f = let n : ◌≡◌ {A = ℕ} 0 1 = cc in absurd (omega arith)
 
-    go : (w a b v : Bool) → account ≡ a → contract ≡ b → value ≡ v → (if w && a && b && v then InRange read else OutOfRange) ≡ InRange c → CallBounded c
+    go : (w a b v : Bool) → account ≡ a → contract ≡ b → value ≡ v → (if w && a && b && v then Some read else None) ≡ Some c → CallBounded c
     go true true true true ea eb ev f =
         let same : read ≡ c = cc in
         subst CallBounded same
@@ -106,10 +103,10 @@ body_sound zero size s h = tt
 body_sound (suc left) size s h =
     go (decode size s) (decode_fits size s h) (body_sound left size (drop instr_bytes s) (drop_bytes instr_bytes s h))
   where
-    go : (d : Decoded) → Decodes InstrSound d → All InstrSound (body_of left size (drop instr_bytes s))
+    go : (d : Option Instr) → Decodes InstrSound d → All InstrSound (body_of left size (drop instr_bytes s))
         → All InstrSound (with_instr d (body_of left size (drop instr_bytes s)))
-    go (Valid i) f ih = (f, ih)
-    go Invalid f ih = ih
+    go (Some i) f ih = (f, ih)
+    go None f ih = ih
 
 -- ---- what a call keeps
 

@@ -1,8 +1,9 @@
 -- The sets of a call are safe (document 003, definition 5).
+use Rattle.std.specs.Prelude.{None, Option, Some}
+use Rattle.block.specs.declared.address.Account.{Account}
 use mathlib.Core.Path.{◌≡◌, refl, sym, ap, ◌∙◌}
 use mathlib.Core.Bool.{Bool, true, false, ◌&&◌, ◌||◌, or-true}
 use mathlib.Core.List.{List, [], ◌∷◌}
-use mathlib.Core.Option.{Option, some}
 use Prim.Native.Nat.{ℕ}
 use native.Mathlib.Omega.{arith}
 use native.Mathlib.Decide.{ℕ_discrete}
@@ -17,8 +18,6 @@ use Rattle.wire.proofs.ListLaws.{all_map}
 use Rattle.block.specs.Key.{account_balance, contract_balance}
 use Rattle.block.specs.Record.{Function}
 use Rattle.block.specs.declared.Call.{Call}
-use Rattle.block.specs.declared.Payee.{Payee}
-use Rattle.block.specs.declared.Payee.TheVariants.{To, Nobody}
 use Rattle.block.specs.declared.Instr.{Instr}
 use Rattle.block.specs.declared.Instr.TheVariants.{Stop, Throw, Set, Arg, Sender, Value, Add, Sub, Mul, Div, Get, Put, Bal, Pay, Jeq, Jlt}
 use Rattle.block.specs.Naming.{cell_key, target_of, function_of}
@@ -64,10 +63,10 @@ abbrev Stays : ℕ → ℤ → State → Type 0
 Stays k v σ = σ k ≡ v
 
 module _ (c : Call) (k : ℕ) (v : ℤ) where
-  pay_frame : (payee : Payee) → eqb k (contract_balance c.contract) ≡ false → paid_to k payee ≡ false → PayKeeps c (Stays k v) payee
+  pay_frame : (payee : Option Account) → eqb k (contract_balance c.contract) ≡ false → paid_to k payee ≡ false → PayKeeps c (Stays k v) payee
   unfolding paid_to
-  pay_frame (To account) e f = λ σ m s l h. move_other σ (contract_balance c.contract) (account_balance account) m k e f ∙ h
-  pay_frame Nobody e f = tt
+  pay_frame (Some account) e f = λ σ m s l h. move_other σ (contract_balance c.contract) (account_balance account) m k e f ∙ h
+  pay_frame None e f = tt
 
   pub instr_frame : (i : Instr) → written_by c k i ≡ false → InstrKeeps c any_value (Stays k v) i
   unfolding written_by
@@ -99,7 +98,7 @@ entry_frame σ j l m s k e = go (lt_z (pos 0) m) refl e
     go false t f = rw (no_amount m s t) (move_none σ j l k)
 
 module _ (block : List ℕ) (c : Call) (fits : CallBounded c) where
-  function_frame : (σ : State) (k : ℕ) (f : Option Function) → is_written block c k f ≡ false → (g : Function) → f ≡ some g
+  function_frame : (σ : State) (k : ℕ) (f : Option Function) → is_written block c k f ≡ false → (g : Function) → f ≡ Some g
       → (credit (debit σ (account_balance c.sender) c.value) (contract_balance c.contract) c.value k ≡ σ k)
       × All (InstrKeeps c any_value (Stays k (σ k))) (instructions_of block g)
   unfolding is_written
@@ -157,7 +156,7 @@ test_alike x y m s sx sy e = go (lt_z (pos 0) m) refl
         ap (lt_z x) n ∙ lx ∙ sym (ap (lt_z y) n ∙ ly)
 
 module _ (block : List ℕ) (c : Call) (fits : CallBounded c) (σ τ : State) (wσ : state_within_limit σ ≡ true) (wτ : state_within_limit τ ≡ true) where
-  function_same : (f : Option Function) → ((k : ℕ) → is_read block c k f ≡ true → σ k ≡ τ k) → (g : Function) → f ≡ some g
+  function_same : (f : Option Function) → ((k : ℕ) → is_read block c k f ≡ true → σ k ≡ τ k) → (g : Function) → f ≡ Some g
       → (lt_z (σ (account_balance c.sender)) c.value ≡ lt_z (τ (account_balance c.sender)) c.value)
       × All (ReadsIn (λ k. σ k ≡ τ k) c) (instructions_of block g)
   unfolding is_read

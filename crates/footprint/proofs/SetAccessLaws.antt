@@ -1,9 +1,10 @@
 -- Laws of the accesses of a call: at most two of an instruction, each used, each key below 2^96; and so in the sets.
+use Rattle.std.specs.Prelude.{None, Option, Some}
+use Rattle.block.specs.declared.address.Account.{Account}
 use mathlib.Core.Path.{◌≡◌, refl}
 use mathlib.Core.Logic.{◌⊎◌, inl, inr}
 use mathlib.Core.Bool.{Bool, true, false, ◌||◌, or-true, false≢true}
 use mathlib.Core.List.{List, [], ◌∷◌}
-use mathlib.Core.Option.{Option, none, some}
 use Prim.Native.Nat.{ℕ, zero, suc, ◌+◌, ◌^◌, ◌≤◌, ◌<◌}
 use native.Mathlib.Omega.{arith}
 use lib.Dec.{eqb, lit<}
@@ -22,12 +23,8 @@ use Rattle.block.proofs.DecodeLaws.{SourceFits, InstrFits, InstrLawful, Decodes,
 use Rattle.block.proofs.DecodeOwn.{decode_lawful}
 use Rattle.block.specs.Record.{Function, argument, code_at}
 use Rattle.block.specs.declared.Call.{Call}
-use Rattle.block.specs.declared.Payee.{Payee}
-use Rattle.block.specs.declared.Payee.TheVariants.{To, Nobody}
 use Rattle.block.specs.declared.Source.{Source}
 use Rattle.block.specs.declared.Source.TheVariants as source
-use Rattle.block.specs.declared.Decoded.{Decoded}
-use Rattle.block.specs.declared.Decoded.TheVariants.{Valid, Invalid}
 use Rattle.block.specs.declared.Instr.{Instr}
 use Rattle.block.specs.declared.Instr.TheVariants.{Stop, Throw, Set, Arg, Sender, Value, Add, Sub, Mul, Div, Get, Put, Bal, Pay, Jeq, Jlt}
 use Rattle.footprint.specs.Access.{Access, entry_accesses, pay_accesses, accesses}
@@ -39,10 +36,10 @@ use Rattle.footprint.specs.Listed.{Keyed, any_key, Used}
 
 -- ---- at most two
 
-pay_few : (c : Call) (p : Payee) → length (pay_accesses c p) ≤ 2
+pay_few : (c : Call) (p : Option Account) → length (pay_accesses c p) ≤ 2
 unfolding pay_accesses
-pay_few c (To account) = omega arith
-pay_few c Nobody = omega arith
+pay_few c (Some account) = omega arith
+pay_few c None = omega arith
 
 -- An instruction has at most two accesses, and so has the entry.
 pub accesses_few : (c : Call) (i : Instr) → length (accesses c i) ≤ 2
@@ -64,9 +61,9 @@ accesses_few c (Pay x target) = pay_few c (payee_of (source_value c target))
 accesses_few c (Jeq x y to) = omega arith
 accesses_few c (Jlt x y to) = omega arith
 
-pub decoded_few : (c : Call) (d : Decoded) → length (decoded_accesses c d) ≤ 2
-decoded_few c (Valid i) = accesses_few c i
-decoded_few c Invalid = omega arith
+pub decoded_few : (c : Call) (d : Option Instr) → length (decoded_accesses c d) ≤ 2
+decoded_few c (Some i) = accesses_few c i
+decoded_few c None = omega arith
 
 pub entry_few : (c : Call) → length (entry_accesses c) ≤ 2
 unfolding entry_accesses
@@ -88,7 +85,7 @@ module _ (c : Call) (K : ℕ → Type 0) (own : K (contract_balance c.contract))
   pay_keyed : (n : ℕ) → All (Keyed K) (pay_accesses c (payee_of n))
   unfolding pay_accesses
   pay_keyed n =
-      payee_all (λ (p : Payee). All (Keyed K) (pay_accesses c p)) n
+      payee_all (λ (p : Option Account). All (Keyed K) (pay_accesses c p)) n
       (λ other low. (record { used = refl; keyed = own }, (record { used = refl; keyed = balance n low }, tt)))
       (record { used = refl; keyed = own }, tt)
 
@@ -125,8 +122,8 @@ module _ (c : Call) (K : ℕ → Type 0) (own : K (contract_balance c.contract))
         → ((g : Function) → All (Keyed K) (code_accesses c g.size g.size (code_at block g.start g.size)))
         → All (Keyed K) (function_sets block c f)
     unfolding function_sets
-    sets_keyed block none code = tt
-    sets_keyed block (some g) code =
+    sets_keyed block None code = tt
+    sets_keyed block (Some g) code =
         merged_each (Keyed K) keyed_joins (merge_all [] (entry_accesses c)) (code_accesses c g.size g.size (code_at block g.start g.size))
         (merged_each (Keyed K) keyed_joins [] (entry_accesses c) tt entry_keyed) (code g)
 
@@ -135,9 +132,9 @@ module _ (c : Call) (K : ℕ → Type 0) (own : K (contract_balance c.contract))
 pub accesses_used : (c : Call) (i : Instr) → All Used (accesses c i)
 accesses_used c i = accesses_keyed c any_key tt (λ n h. tt) i (λ x field a b e. tt)
 
-decoded_used : (c : Call) (d : Decoded) → All Used (decoded_accesses c d)
-decoded_used c (Valid i) = accesses_used c i
-decoded_used c Invalid = tt
+decoded_used : (c : Call) (d : Option Instr) → All Used (decoded_accesses c d)
+decoded_used c (Some i) = accesses_used c i
+decoded_used c None = tt
 
 pub sets_used : (block : List ℕ) (c : Call) (f : Option Function) → All Used (function_sets block c f)
 sets_used block c f =

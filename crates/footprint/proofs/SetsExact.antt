@@ -1,23 +1,19 @@
 -- The two sets of a call are those of document 01's words.
+use Rattle.block.specs.declared.address.Account.{Account}
 use mathlib.Core.Path.{◌≡◌, refl, sym, ap, ap₂, ◌∙◌}
 use mathlib.Core.Bool.{Bool, true, false, ◌&&◌, ◌||◌, or-false}
 use mathlib.Core.List.{List, [], ◌∷◌, ◌++◌}
-use mathlib.Core.Option.{Option, none, some}
 use Prim.Native.Nat.{ℕ, zero, suc}
 use lib.Dec.{eqb}
 use lib.IntN.{pos}
 use lib.ListN.{drop}
 use lib.Signed.{lt_z}
 use Rattle.footprint.specs.SetsInWords.{read_by, paid_to, written_by, some_of, is_read, is_written, ReadsExact, WritesExact}
-use Rattle.std.specs.Prelude.{if◌then◌else◌}
+use Rattle.std.specs.Prelude.{if◌then◌else◌, None, Option, Some}
 use Rattle.block.specs.Key.{account_balance, contract_balance}
 use Rattle.block.specs.Instruction.{instr_bytes, decode}
 use Rattle.block.specs.Record.{Function, code_at}
 use Rattle.block.specs.declared.Call.{Call}
-use Rattle.block.specs.declared.Payee.{Payee}
-use Rattle.block.specs.declared.Payee.TheVariants.{To, Nobody}
-use Rattle.block.specs.declared.Decoded.{Decoded}
-use Rattle.block.specs.declared.Decoded.TheVariants.{Valid, Invalid}
 use Rattle.block.specs.declared.Instr.{Instr}
 use Rattle.block.specs.declared.Instr.TheVariants.{Stop, Throw, Set, Arg, Sender, Value, Add, Sub, Mul, Div, Get, Put, Bal, Pay, Jeq, Jlt}
 use Rattle.footprint.specs.Access.{Access, changing, writing, entry_accesses, pay_accesses, accesses}
@@ -57,18 +53,18 @@ module _ (flag : Access → Bool) (chosen : List Access → List ℕ) (nothing :
         body : List Instr
         body = body_of left size (drop instr_bytes s)
 
-        go : (d : Decoded) → member k (chosen rest) ≡ some_of test body
+        go : (d : Option Instr) → member k (chosen rest) ≡ some_of test body
             → (member k (chosen (decoded_accesses c d)) || member k (chosen rest)) ≡ some_of test (with_instr d body)
-        go (Valid i) ih = ap₂ (λ (a b : Bool). a || b) (each i) ih
-        go Invalid ih = ap₂ (λ (a b : Bool). a || b) (ap (member k) nothing) ih
+        go (Some i) ih = ap₂ (λ (a b : Bool). a || b) (each i) ih
+        go None ih = ap₂ (λ (a b : Bool). a || b) (ap (member k) nothing) ih
 
 -- ---- the read set
 
 module _ (c : Call) (k : ℕ) where
-  pay_read : (p : Payee) → member k (read_set (pay_accesses c p)) ≡ eqb k (contract_balance c.contract)
+  pay_read : (p : Option Account) → member k (read_set (pay_accesses c p)) ≡ eqb k (contract_balance c.contract)
   unfolding pay_accesses read_set member
-  pay_read (To account) = or-false (eqb k (contract_balance c.contract))
-  pay_read Nobody = or-false (eqb k (contract_balance c.contract))
+  pay_read (Some account) = or-false (eqb k (contract_balance c.contract))
+  pay_read None = or-false (eqb k (contract_balance c.contract))
 
   instr_read : (i : Instr) → member k (read_set (accesses c i)) ≡ read_by c k i
   unfolding accesses read_by read_set member
@@ -101,8 +97,8 @@ module _ (c : Call) (k : ℕ) where
 
   function_read : (block : List ℕ) (f : Option Function) → member k (read_set (function_sets block c f)) ≡ is_read block c k f
   unfolding function_sets is_read read_set member merge_all
-  function_read block none = refl
-  function_read block (some f) =
+  function_read block None = refl
+  function_read block (Some f) =
       reads_union k (merge_all [] (entry_accesses c)) (code_accesses c f.size f.size (code_at block f.start f.size))
       ∙ ap₂ (λ (a b : Bool). a || b) (reads_union k [] (entry_accesses c) ∙ entry_read)
       (code_chosen (λ e. e.reads) read_set refl (λ e es. refl) c k (read_by c k) instr_read f.size f.size
@@ -114,11 +110,11 @@ reads_exact block functions c k = function_read c k block (function_of functions
 -- ---- the write set
 
 module _ (c : Call) (k : ℕ) where
-  pay_written : (p : Payee) → member k (write_set (pay_accesses c p)) ≡ (eqb k (contract_balance c.contract) || paid_to k p)
+  pay_written : (p : Option Account) → member k (write_set (pay_accesses c p)) ≡ (eqb k (contract_balance c.contract) || paid_to k p)
   unfolding pay_accesses paid_to write_set member
-  pay_written (To account) =
+  pay_written (Some account) =
       ap (λ (b : Bool). eqb k (contract_balance c.contract) || b) (or-false (eqb k (account_balance account)))
-  pay_written Nobody = refl
+  pay_written None = refl
 
   instr_written : (i : Instr) → member k (write_set (accesses c i)) ≡ written_by c k i
   unfolding accesses written_by write_set member
@@ -152,8 +148,8 @@ module _ (c : Call) (k : ℕ) where
 
   function_written : (block : List ℕ) (f : Option Function) → member k (write_set (function_sets block c f)) ≡ is_written block c k f
   unfolding function_sets is_written write_set member merge_all
-  function_written block none = refl
-  function_written block (some f) =
+  function_written block None = refl
+  function_written block (Some f) =
       writes_union k (merge_all [] (entry_accesses c)) (code_accesses c f.size f.size (code_at block f.start f.size))
       ∙ ap₂ (λ (a b : Bool). a || b) (writes_union k [] (entry_accesses c) ∙ entry_written)
       (code_chosen (λ e. e.writes) write_set refl (λ e es. refl) c k (written_by c k) instr_written f.size f.size

@@ -1,41 +1,39 @@
 -- What holds of values and of a state at the entry of a transaction and is kept by each of its instructions holds of the state that it
 -- leaves.
+use Rattle.arith.specs.declared.NoResult.{NoResult}
+use Rattle.block.specs.declared.address.Account.{Account}
 use mathlib.Core.Path.{◌≡◌, refl, subst⁻¹}
 use mathlib.Core.Bool.{Bool, true, false}
 use mathlib.Core.List.{List, [], ◌∷◌}
-use mathlib.Core.Option.{Option, none, some}
 use Prim.Native.Nat.{ℕ, zero, suc, ◌+◌, ◌^◌, ◌<◌, ◌≤◌}
 use native.Mathlib.Omega.{arith}
 use native.Mathlib.Decide.{ℕ_discrete}
 use borrow.Author.Tests.{ltb-true}
 use lib.Dec.{lit<}
 use lib.IntN.{ℤ, pos, negsuc, neg_ℤ, ◌+ℤ◌, ◌-ℤ◌, ◌*ℤ◌}
-use lib.ListN.{get_or, get_elem?, set}
+use lib.ListN.{get_or, set}
 use lib.Signed.{mag, lt_z, non_neg}
-use Rattle.std.specs.Prelude.{if◌then◌else◌}
+use Rattle.std.specs.Prelude.{if◌then◌else◌, None, Option, Some, slice_get}
 use Rattle.arith.proofs.ChoiceLaws.{if_all, neither}
 use Rattle.arith.specs.Exact.{fits64, checked, floor_by, div_of}
-use Rattle.arith.specs.declared.Checked.{Checked}
 use Rattle.wire.specs.All.{All}
 use Rattle.block.specs.Key.{account_balance, contract_balance}
 use Rattle.block.specs.Outcomes.{ended, balance_too_low, thrown}
 use Rattle.block.specs.Record.{Function, argument}
 use Rattle.block.specs.declared.Call.{Call}
-use Rattle.block.specs.declared.Payee.{Payee}
-use Rattle.block.specs.declared.Payee.TheVariants.{To, Nobody}
 use Rattle.block.specs.declared.Instr.{Instr}
 use Rattle.block.specs.declared.Instr.TheVariants.{Stop, Throw, Set, Arg, Sender, Value, Add, Sub, Mul, Div, Get, Put, Bal, Pay, Jeq, Jlt}
 use Rattle.block.specs.Naming.{cell_key, target_of}
 use Rattle.footprint.specs.SetsInWords.{some_of, instructions_of}
-use Rattle.rule.specs.Rule.{State, update, credit, debit, Result, ends, fails, Course, before, over, assign_checked, transfer, execute, execute_at, unfuelled, run_body, Left, settle, unbegun, run_function, transaction_by}
+use Rattle.rule.specs.Rule.{State, update, credit, debit, BodyResult, ends, fails, Course, before, over, assign_checked, transfer, execute, execute_at, unfuelled, run_body, Left, settle, unbegun, run_function, transaction_by}
 
 -- ---- every instruction of a body
 
 abbrev pub HoldsOfFound : (Instr → Type 0) → Option Instr → Type 0
-HoldsOfFound Q none = Unit {0}
-HoldsOfFound Q (some i) = Q i
+HoldsOfFound Q None = Unit {0}
+HoldsOfFound Q (Some i) = Q i
 
-pub every_at : (Q : Instr → Type 0) (body : List Instr) → All Q body → (p : ℕ) → HoldsOfFound Q (get_elem? body p)
+pub every_at : (Q : Instr → Type 0) (body : List Instr) → All Q body → (p : ℕ) → HoldsOfFound Q (slice_get body p)
 every_at Q [] q p = tt
 every_at Q (i ∷ is) q zero = q.0
 every_at Q (i ∷ is) q (suc p) = every_at Q is q.1 p
@@ -66,7 +64,7 @@ abbrev pub any_value : ℤ → Type 0
 any_value z = Unit {0}
 
 -- The one of states holds of the state in which a body ended; a body that fails has an outcome of its own.
-abbrev LeftWith : (State → Type 0) → Result → Type 0
+abbrev LeftWith : (State → Type 0) → BodyResult → Type 0
 LeftWith K (ends σ n behind) = K σ
 LeftWith K (fails outcome n) = thrown ≤ outcome
 
@@ -80,11 +78,11 @@ AtWith R K (before p ρ n σ) = All R ρ × K σ
 AtWith R K (over r) = LeftWith K r
 
 -- A transfer that passes its tests keeps the one of states.
-abbrev pub PayKeeps : Call → (State → Type 0) → Payee → Type 0
-PayKeeps c K (To account) =
+abbrev pub PayKeeps : Call → (State → Type 0) → Option Account → Type 0
+PayKeeps c K (Some account) =
     (σ : State) (m : ℤ) → non_neg m ≡ true → lt_z (σ (contract_balance c.contract)) m ≡ false → K σ
     → K (credit (debit σ (contract_balance c.contract) m) (account_balance account) m)
-PayKeeps c K Nobody = Unit {0}
+PayKeeps c K None = Unit {0}
 
 module _ (c : Call) (R : ℤ → Type 0) (K : State → Type 0) where
   -- What an instruction assigns to a register from call or state has the one, and what it changes keeps the other: only PUT and PAY change a
@@ -122,7 +120,7 @@ module _ (c : Call) (R : ℤ → Type 0) (fit : (z : ℤ) → mag z < 2 ^ 63 →
     checked_keeps : (x : ℕ) (z : ℤ) → At (assign_checked p ρ n σ x (checked z))
     unfolding assign_checked checked
     checked_keeps x z =
-        if_all (λ (r : Checked). At (assign_checked p ρ n σ x r)) (fits64 z) (λ e. assign_keeps x z (fit z (ltb-true (mag z) (2 ^ 63) e))) (λ e. omega arith)
+        if_all (λ (r : Result ℤ NoResult). At (assign_checked p ρ n σ x r)) (fits64 z) (λ e. assign_keeps x z (fit z (ltb-true (mag z) (2 ^ 63) e))) (λ e. omega arith)
 
     div_keeps : (x : ℕ) (a b : ℤ) → At (assign_checked p ρ n σ x (div_of a b))
     unfolding assign_checked div_of
@@ -130,10 +128,10 @@ module _ (c : Call) (R : ℤ → Type 0) (fit : (z : ℤ) → mag z < 2 ^ 63 →
     div_keeps x a (pos (suc d)) = checked_keeps x (floor_by a (suc d))
     div_keeps x a (negsuc d) = checked_keeps x (floor_by (neg_ℤ a) (suc d))
 
-    transfer_keeps : (m : ℤ) (payee : Payee) → PayKeeps c K payee → At (transfer c p ρ n σ m payee)
+    transfer_keeps : (m : ℤ) (payee : Option Account) → PayKeeps c K payee → At (transfer c p ρ n σ m payee)
     unfolding transfer
-    transfer_keeps m Nobody q = omega arith
-    transfer_keeps m (To account) q = go (non_neg m) (lt_z (σ (contract_balance c.contract)) m) refl refl
+    transfer_keeps m None q = omega arith
+    transfer_keeps m (Some account) q = go (non_neg m) (lt_z (σ (contract_balance c.contract)) m) refl refl
       where
         after : State
         after = credit (debit σ (contract_balance c.contract) m) (account_balance account) m
@@ -166,25 +164,25 @@ module _ (c : Call) (R : ℤ → Type 0) (fit : (z : ℤ) → mag z < 2 ^ 63 →
   at_keeps : (p : ℕ) (ρ : List ℤ) (n : ℕ) (σ : State) → All R ρ → K σ → (o : Option Instr) → HoldsOfFound (InstrKeeps c R K) o
       → At (execute_at c p ρ n σ o)
   unfolding execute_at
-  at_keeps p ρ n σ all holds none q = holds
-  at_keeps p ρ n σ all holds (some i) q = execute_keeps p ρ (n + 1) σ all holds i q
+  at_keeps p ρ n σ all holds None q = holds
+  at_keeps p ρ n σ all holds (Some i) q = execute_keeps p ρ (n + 1) σ all holds i q
 
   module _ (body : List Instr) (each : All (InstrKeeps c R K) body) where
     last_keeps : (n : ℕ) (σ : State) → K σ → (o : Option Instr) → LeftWith K (unfuelled n σ o)
     unfolding unfuelled
-    last_keeps n σ holds none = holds
-    last_keeps n σ holds (some i) = omega arith
+    last_keeps n σ holds None = holds
+    last_keeps n σ holds (Some i) = omega arith
 
     run_keeps : (fuel : ℕ) (x : Course) → At x → LeftWith K (run_body fuel c body x)
     unfolding run_body
-    run_keeps zero (before p ρ n σ) h = last_keeps n σ h.1 (get_elem? body p)
+    run_keeps zero (before p ρ n σ) h = last_keeps n σ h.1 (slice_get body p)
     run_keeps zero (over r) h = h
     run_keeps (suc fuel) (before p ρ n σ) h =
-        run_keeps fuel (execute_at c p ρ n σ (get_elem? body p))
-        (at_keeps p ρ n σ h.0 h.1 (get_elem? body p) (every_at (InstrKeeps c R K) body each p))
+        run_keeps fuel (execute_at c p ρ n σ (slice_get body p))
+        (at_keeps p ρ n σ h.0 h.1 (slice_get body p) (every_at (InstrKeeps c R K) body each p))
     run_keeps (suc fuel) (over r) h = h
 
-  settle_ends : (σ : State) (r : Result) → LeftWith K r → EndsWith K σ (settle σ r)
+  settle_ends : (σ : State) (r : BodyResult) → LeftWith K r → EndsWith K σ (settle σ r)
   unfolding settle
   settle_ends σ (ends τ n behind) h = (λ e. h, λ d. absurd (d refl))
   settle_ends σ (fails outcome n) h = (λ e. absurd (omega (arith, e, h)), λ d. refl)
@@ -195,13 +193,13 @@ module _ (c : Call) (R : ℤ → Type 0) (fit : (z : ℤ) → mag z < 2 ^ 63 →
 
   -- What the entry of a transaction makes and its instructions keep holds where it ended with 0; else the state is as it was.
   pub transaction_ends : (block : List ℕ) (σ : State) (f : Option Function)
-      → ((g : Function) → f ≡ some g → lt_z (σ (account_balance c.sender)) c.value ≡ false
+      → ((g : Function) → f ≡ Some g → lt_z (σ (account_balance c.sender)) c.value ≡ false
       → K (credit (debit σ (account_balance c.sender) c.value) (contract_balance c.contract) c.value))
-      → ((g : Function) → f ≡ some g → All (InstrKeeps c R K) (instructions_of block g))
+      → ((g : Function) → f ≡ Some g → All (InstrKeeps c R K) (instructions_of block g))
       → EndsWith K σ (transaction_by block c σ f)
   unfolding transaction_by run_function
-  transaction_ends block σ none entry each = (λ e. absurd (omega (arith, e)), λ d. refl)
-  transaction_ends block σ (some g) entry each = go (lt_z (σ (account_balance c.sender)) c.value) refl
+  transaction_ends block σ None entry each = (λ e. absurd (omega (arith, e)), λ d. refl)
+  transaction_ends block σ (Some g) entry each = go (lt_z (σ (account_balance c.sender)) c.value) refl
     where
       go : (b : Bool) → lt_z (σ (account_balance c.sender)) c.value ≡ b
           → EndsWith K σ (if b then unbegun σ balance_too_low else run_function block c σ g)
@@ -212,9 +210,9 @@ module _ (c : Call) (R : ℤ → Type 0) (fit : (z : ℤ) → mag z < 2 ^ 63 →
 
   -- So a transaction keeps what its entry and its instructions keep.
   pub transaction_keeps : (block : List ℕ) (σ : State) → K σ → (f : Option Function)
-      → ((g : Function) → f ≡ some g → lt_z (σ (account_balance c.sender)) c.value ≡ false
+      → ((g : Function) → f ≡ Some g → lt_z (σ (account_balance c.sender)) c.value ≡ false
       → K (credit (debit σ (account_balance c.sender) c.value) (contract_balance c.contract) c.value))
-      → ((g : Function) → f ≡ some g → All (InstrKeeps c R K) (instructions_of block g))
+      → ((g : Function) → f ≡ Some g → All (InstrKeeps c R K) (instructions_of block g))
       → K (transaction_by block c σ f).state
   transaction_keeps block σ holds f entry each =
       go (transaction_ends block σ f entry each) (ℕ_discrete (transaction_by block c σ f).outcome ended)

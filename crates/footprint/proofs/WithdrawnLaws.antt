@@ -1,9 +1,9 @@
 -- What account 0, which marks withdrawn warrants, is to a call: no instruction reads or writes its balance, and the entry does so where account 0 sends a
 -- value; so a call leaves there what was there, less the value where account 0 sent it and it ended with 0.
+use Rattle.block.specs.declared.address.Account.{Account}
 use mathlib.Core.Path.{◌≡◌, refl, sym, ap, ◌∙◌}
 use mathlib.Core.Bool.{Bool, true, false, ◌&&◌, ◌||◌, and-true, and-false, or-false}
 use mathlib.Core.List.{List, [], ◌∷◌}
-use mathlib.Core.Option.{Option, none, some}
 use Prim.Native.Nat.{ℕ}
 use native.Mathlib.Omega.{arith}
 use native.Mathlib.Decide.{ℕ_discrete}
@@ -11,7 +11,7 @@ use borrow.Author.Tests.{eq-eqb, ne_eqb, eqb-false}
 use lib.Dec.{eqb}
 use lib.IntN.{ℤ, pos, ◌+ℤ◌, ◌-ℤ◌}
 use lib.Signed.{lt_z, non_neg}
-use Rattle.std.specs.Prelude.{if◌then◌else◌}
+use Rattle.std.specs.Prelude.{if◌then◌else◌, None, Option, Some}
 use Rattle.arith.proofs.ChoiceLaws.{if_all}
 use Rattle.arith.proofs.IntegerLaws.{diff, le_lt_z, non_neg_true}
 use Rattle.wire.specs.All.{All}
@@ -20,7 +20,6 @@ use Rattle.block.proofs.KeyLaws.{payee_all}
 use Rattle.block.specs.Outcomes.{ended}
 use Rattle.block.specs.Record.{Function}
 use Rattle.block.specs.declared.Call.{Call}
-use Rattle.block.specs.declared.Payee.{Payee}
 use Rattle.block.specs.declared.Instr.{Instr}
 use Rattle.block.specs.declared.Instr.TheVariants.{Stop, Throw, Set, Arg, Sender, Value, Add, Sub, Mul, Div, Get, Put, Bal, Pay, Jeq, Jlt}
 use Rattle.block.specs.Naming.{source_value, is_known, function_of}
@@ -54,7 +53,7 @@ module _ (c : Call) (fits : CallBounded c) where
   not_paid_lem : (n : ℕ) → paid_to balance_of0 (payee_of n) ≡ false
   unfolding paid_to
   not_paid_lem n =
-      payee_all (λ (p : Payee). paid_to balance_of0 p ≡ false) n
+      payee_all (λ (p : Option Account). paid_to balance_of0 p ≡ false) n
       (λ other low. ne_eqb balance_of0 (account_balance (record { 0 = n })) (λ e. other (omega (arith, e)))) refl
 
   never_written : (i : Instr) → written_by c balance_of0 i ≡ false
@@ -114,8 +113,8 @@ module _ (c : Call) (fits : CallBounded c) where
   withdrawn_written block functions = writes_exact block functions c balance_of0 ∙ go (function_of functions c)
     where
       go : (f : Option Function) → is_written block c balance_of0 f ≡ (is_known f && (sends && eqb c.sender.0 withdrawn))
-      go none = refl
-      go (some f) =
+      go None = refl
+      go (Some f) =
           ap (λ (b : Bool). (sends && (eqb balance_of0 (account_balance c.sender) || eqb balance_of0 (contract_balance c.contract))) || b)
           (none_of (written_by c balance_of0) never_written (instructions_of block f))
           ∙ or-false (sends && (eqb balance_of0 (account_balance c.sender) || eqb balance_of0 (contract_balance c.contract)))
@@ -128,8 +127,8 @@ module _ (c : Call) (fits : CallBounded c) where
   withdrawn_read block functions = reads_exact block functions c balance_of0 ∙ go (function_of functions c)
     where
       go : (f : Option Function) → is_read block c balance_of0 f ≡ (is_known f && (sends && eqb c.sender.0 withdrawn))
-      go none = refl
-      go (some f) =
+      go None = refl
+      go (Some f) =
           ap (λ (b : Bool). (sends && eqb balance_of0 (account_balance c.sender)) || b) (none_of (read_by c balance_of0) never_read (instructions_of block f))
           ∙ or-false (sends && eqb balance_of0 (account_balance c.sender))
           ∙ ap (λ (b : Bool). sends && b) sender_is

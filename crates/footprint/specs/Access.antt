@@ -1,12 +1,11 @@
 -- What the entry of a call, and each instruction, may read and write: one function that both the set analysis and a step ask.
-use Rattle.std.specs.Prelude.{Bool, true, false, List, [], ◌∷◌, ℕ, pos}
+use Rattle.block.specs.declared.address.Account.{Account}
+use Rattle.std.specs.Prelude.{Bool, true, false, List, [], ◌∷◌, ℕ, pos, None, Option, Some}
 use Rattle.std.specs.Int.Signed.{lt_z}
 use Rattle.block.specs.Naming.{target_of, cell_key}
 use Rattle.std.specs.Prelude.{if◌then◌else◌}
 use Rattle.block.specs.Key.{account_balance, contract_balance}
 use Rattle.block.specs.declared.Call.{Call}
-use Rattle.block.specs.declared.Payee.{Payee}
-use Rattle.block.specs.declared.Payee.TheVariants.{To, Nobody}
 use Rattle.block.specs.declared.Instr.{Instr}
 use Rattle.block.specs.declared.Instr.TheVariants.{Stop, Throw, Set, Arg, Sender, Value, Add, Sub, Mul, Div, Get, Put, Bal, Pay, Jeq, Jlt}
 
@@ -34,9 +33,9 @@ entry_accesses c =
 
 -- "PAY reads and writes it and writes the target's balance if the target is an account": it is the contract's balance. M-101, of account 0: "Its balance no
 -- longer enters the write set of that PAY."
-unfoldable pub pay_accesses : Call → Payee → List Access
-pay_accesses c (To account) = changing (contract_balance c.contract) ∷ writing (account_balance account) ∷ []
-pay_accesses c Nobody = changing (contract_balance c.contract) ∷ []
+unfoldable pub pay_accesses : Call → Option Account → List Access
+pay_accesses c (Some account) = changing (contract_balance c.contract) ∷ writing (account_balance account) ∷ []
+pay_accesses c None = changing (contract_balance c.contract) ∷ []
 
 -- "GET reads its key, PUT writes its key, BAL reads the contract's balance"; the others touch no cell.
 unfoldable pub accesses : Call → Instr → List Access

@@ -1,7 +1,6 @@
 -- What an opening prepares of a block: the plan of each call, the words of the key table and the opening values; or its refusal, with all
 -- of them zero.
-use Rattle.std.specs.Prelude.{Bool, ◌&&◌, List, [], ◌∷◌, ◌++◌, map, ℕ, ◌+◌, ◌*◌, ◌/◌, ◌%◌, ◌^◌, ℤ, pos, eqb, leb, length}
-use Rattle.std.proofs.Math.Option.{Option, none, some}
+use Rattle.std.specs.Prelude.{Bool, ◌&&◌, List, [], ◌∷◌, ◌++◌, map, ℕ, ◌+◌, ◌*◌, ◌/◌, ◌%◌, ◌^◌, ℤ, pos, eqb, leb, length, Err, None, Ok, Option, Result, Some}
 use Rattle.std.specs.Prelude.{if◌then◌else◌}
 use Rattle.wire.specs.Bytes.{repeated, padded}
 use Rattle.wire.specs.Rows.{bit}
@@ -11,8 +10,6 @@ use Rattle.block.specs.Reader.{Read, accepted, refused, read_block}
 use Rattle.block.specs.declared.Call.{Call}
 use Rattle.block.specs.declared.Refusal.{Refusal}
 use Rattle.block.specs.declared.Refusal.TheVariants.{Buffers}
-use Rattle.block.specs.declared.Verdict.{Verdict}
-use Rattle.block.specs.declared.Verdict.TheVariants as verdict
 use Rattle.footprint.specs.Access.{Access}
 use Rattle.block.specs.Naming.{function_of}
 use Rattle.footprint.specs.Conflict.{row_for}
@@ -64,8 +61,8 @@ abbrev pub entry_writes : ℕ → Bool
 entry_writes e = leb writes_flag (e % entry_flags)
 
 unfoldable pub code_words : Option Function → List ℕ
-code_words none = 0 ∷ 0 ∷ []
-code_words (some f) = f.start ∷ (f.size + 1) ∷ []
+code_words None = 0 ∷ 0 ∷ []
+code_words (Some f) = f.start ∷ (f.size + 1) ∷ []
 
 -- The words of a call, behind the sets of the calls before it.
 unfoldable pub call_plan : List Function → List ℕ → List (List Access) → Call → List Access → List ℕ
@@ -110,7 +107,7 @@ room_enough r = leb fixed_room.plan r.plan && leb fixed_room.keys r.keys && leb 
 
 -- The verdict, the numbers of calls and of cells, the offset of the first call record, and the buffers.
 pub record Prepared : Type 0 where
-  pub verdict : Verdict
+  pub verdict : Result (Unit {0}) Refusal
   pub calls : ℕ
   pub cells : ℕ
   pub first_call : ℕ
@@ -122,7 +119,7 @@ pub record Prepared : Type 0 where
 unfoldable pub unprepared : Room → Refusal → Prepared
 unprepared r why =
     record {
-      verdict = verdict.Refused why;
+      verdict = Err why;
       calls = 0;
       cells = 0;
       first_call = 0;
@@ -136,7 +133,7 @@ unfoldable pub prepare_analysed : Room → Block → Analysis → Prepared
 prepare_analysed r b (table.refused why) = unprepared r why
 prepare_analysed r b (table.analysed sets keys) =
     record {
-      verdict = verdict.Accepted;
+      verdict = Ok tt;
       calls = length b.calls;
       cells = length keys;
       first_call = b.first_call;

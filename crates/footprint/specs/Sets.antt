@@ -1,13 +1,11 @@
 -- "Read and write sets" of a call: its distinct keys, each with its two flags, in the order of their first use.
-use Rattle.std.specs.Prelude.{◌||◌, List, [], ◌∷◌, ◌++◌, map, ℕ, zero, suc, eqb, drop}
-use Rattle.std.proofs.Math.Option.{Option, none, some}
+use Rattle.block.specs.declared.Instr.{Instr}
+use Rattle.std.specs.Prelude.{◌||◌, List, [], ◌∷◌, ◌++◌, map, ℕ, zero, suc, eqb, drop, None, Option, Some}
 use Rattle.block.specs.Naming.{function_of}
 use Rattle.std.specs.Prelude.{if◌then◌else◌}
 use Rattle.block.specs.Instruction.{instr_bytes, decode}
 use Rattle.block.specs.Record.{Function, code_at}
 use Rattle.block.specs.declared.Call.{Call}
-use Rattle.block.specs.declared.Decoded.{Decoded}
-use Rattle.block.specs.declared.Decoded.TheVariants.{Valid, Invalid}
 use Rattle.footprint.specs.Access.{Access, accesses, entry_accesses}
 
 -- One more access: its flags join those of its key, or it is a new entry at the end.
@@ -22,9 +20,9 @@ unfoldable pub merge_all : List Access → List Access → List Access
 merge_all es [] = es
 merge_all es (a ∷ as') = merge_all (merge es a) as'
 
-abbrev pub decoded_accesses : Call → Decoded → List Access
-decoded_accesses c (Valid i) = accesses c i
-decoded_accesses c Invalid = []
+abbrev pub decoded_accesses : Call → Option Instr → List Access
+decoded_accesses c (Some i) = accesses c i
+decoded_accesses c None = []
 
 -- The accesses of the first `left` instructions of the bytes. "Every instruction counts, reached or not."
 unfoldable pub code_accesses : Call → ℕ → ℕ → List ℕ → List Access
@@ -34,8 +32,8 @@ code_accesses c (suc left) size s =
 
 -- "An unknown function has empty sets."
 unfoldable pub function_sets : List ℕ → Call → Option Function → List Access
-function_sets block c none = []
-function_sets block c (some f) =
+function_sets block c None = []
+function_sets block c (Some f) =
     merge_all (merge_all [] (entry_accesses c)) (code_accesses c f.size f.size (code_at block f.start f.size))
 
 abbrev pub sets_of : List ℕ → List Function → Call → List Access

@@ -1,12 +1,10 @@
 -- Membership in the sets of a call in document 01's own words, instruction by instruction, and that the sets of `Sets` are these.
-use Rattle.std.specs.Prelude.{◌≡◌, Bool, false, ◌&&◌, ◌||◌, List, [], ◌∷◌, ℕ, eqb, pos}
-use Rattle.std.proofs.Math.Option.{Option, none, some}
+use Rattle.block.specs.declared.address.Account.{Account}
+use Rattle.std.specs.Prelude.{◌≡◌, Bool, false, ◌&&◌, ◌||◌, List, [], ◌∷◌, ℕ, eqb, pos, None, Option, Some}
 use Rattle.std.specs.Int.Signed.{lt_z}
 use Rattle.block.specs.Key.{account_balance, contract_balance}
 use Rattle.block.specs.Record.{Function, code_at}
 use Rattle.block.specs.declared.Call.{Call}
-use Rattle.block.specs.declared.Payee.{Payee}
-use Rattle.block.specs.declared.Payee.TheVariants.{To, Nobody}
 use Rattle.block.specs.declared.Instr.{Instr}
 use Rattle.block.specs.declared.Instr.TheVariants.{Stop, Throw, Set, Arg, Sender, Value, Add, Sub, Mul, Div, Get, Put, Bal, Pay, Jeq, Jlt}
 use Rattle.block.specs.Naming.{cell_key, target_of, function_of}
@@ -34,9 +32,9 @@ read_by c k (Jeq x y to) = false
 read_by c k (Jlt x y to) = false
 
 -- PAY "writes the target's balance if the target is an account", and M-101: not that of account 0, where nobody is paid
-unfoldable pub paid_to : ℕ → Payee → Bool
-paid_to k (To account) = eqb k (account_balance account)
-paid_to k Nobody = false
+unfoldable pub paid_to : ℕ → Option Account → Bool
+paid_to k (Some account) = eqb k (account_balance account)
+paid_to k None = false
 
 -- "PUT writes its key, .. PAY reads and writes" the contract's balance "and writes the target's balance if the target is an account."
 unfoldable pub written_by : Call → ℕ → Instr → Bool
@@ -68,13 +66,13 @@ instructions_of block f = body_of f.size f.size (code_at block f.start f.size)
 
 -- "Value above 0: reads sender's balance, writes sender's and contract's." "An unknown function has empty sets."
 unfoldable pub is_read : List ℕ → Call → ℕ → Option Function → Bool
-is_read block c k none = false
-is_read block c k (some f) =
+is_read block c k None = false
+is_read block c k (Some f) =
     (lt_z (pos 0) c.value && eqb k (account_balance c.sender)) || some_of (read_by c k) (instructions_of block f)
 
 unfoldable pub is_written : List ℕ → Call → ℕ → Option Function → Bool
-is_written block c k none = false
-is_written block c k (some f) =
+is_written block c k None = false
+is_written block c k (Some f) =
     (lt_z (pos 0) c.value && (eqb k (account_balance c.sender) || eqb k (contract_balance c.contract)))
     || some_of (written_by c k) (instructions_of block f)
 

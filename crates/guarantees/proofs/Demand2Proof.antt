@@ -1,16 +1,17 @@
 -- Demand 2 holds: each sentence from the rule for one call, the safe sets, the serial run and what an opening leaves.
+use Rattle.std.specs.Prelude.{None, Some, slice_get}
+use Rattle.std.proofs.lemmas.Option.{none-some}
+use Rattle.std.proofs.lemmas.Option.{same_Some}
 use mathlib.Core.Path.{◌≡◌, refl, sym, ap, ap₂, subst, subst⁻¹, ◌∙◌}
 use mathlib.Core.Bool.{true, false}
 use mathlib.Core.List.{List, [], ◌∷◌}
-use mathlib.Core.Option.{some, some-injective, none-ne-some}
 use Prim.Native.Nat.{ℕ, zero, suc, ◌+◌, ◌*◌, ◌<◌}
 use native.Mathlib.Omega.{arith}
 use lib.IntN.{ℤ, pos}
-use lib.ListN.{length, get_elem?, drop}
+use lib.ListN.{length, drop}
 use Rattle.block.specs.Record.{Function, Block, call_of, call_record_bytes, head_bytes}
 use Rattle.block.proofs.ReaderLaws.{FunctionSound}
 use Rattle.block.specs.declared.Call.{Call}
-use Rattle.block.specs.declared.CallBody.TheVariants.{OutOfRange}
 use Rattle.schedule.specs.Calls as calls
 use Rattle.schedule.specs.Calls.{CallCourse}
 use Rattle.schedule.specs.Machine.{Machine, ended}
@@ -62,8 +63,8 @@ same_receipt : (q : CallCourse Place Receipt) (r r' : Receipt) → q ≡ calls.d
 same_receipt q r r' e e' = cc
 
 -- A place of a list that has an element is within it.
-pub found_below : {A : Type 0} (l : List A) (i : ℕ) (x : A) → get_elem? l i ≡ some x → i < length l
-found_below [] i x e = absurd (none-ne-some x e)
+pub found_below : {A : Type 0} (l : List A) (i : ℕ) (x : A) → slice_get l i ≡ Some x → i < length l
+found_below [] i x e = absurd (none-some x e)
 found_below (y ∷ l) zero x e = omega arith
 found_below (y ∷ l) (suc i) x e = let h : i < length l = found_below l i x e in omega arith
 
@@ -74,7 +75,7 @@ lefts_length file functions [] σ = refl
 lefts_length file functions (c ∷ cs) σ = ap suc (lefts_length file functions cs (transaction file functions c σ).state)
 
 listed_below : (file : List ℕ) (functions : List Function) (calls : List Call) (σ : State) (c : ℕ) (l : Left)
-    → get_elem? (transactions file functions calls σ) c ≡ some l → c < length calls
+    → slice_get (transactions file functions calls σ) c ≡ Some l → c < length calls
 listed_below file functions calls σ c l e =
     let h : c < length (transactions file functions calls σ) = found_below (transactions file functions calls σ) c l e in
     omega (arith, lefts_length file functions calls σ)
@@ -108,7 +109,7 @@ module _ (s : Sizes) (file : List ℕ) (workers : ℕ) (bytes : AreBytes file) (
     pub opened : CallOpened file b after.table s.keys r₀ c x
     opened =
         let o = after.opened.calls c less in
-        subst⁻¹ (CallOpened file b after.table s.keys r₀ c) (found_in_lem b.calls c (body_call OutOfRange) o.0 o.1.at) o.1
+        subst⁻¹ (CallOpened file b after.table s.keys r₀ c) (found_in_lem b.calls c (body_call None) o.0 o.1.at) o.1
 
     -- Its record, as a step reads it.
     pub record_is : (run_view file r₀ c).call ≡ x
@@ -208,7 +209,7 @@ module _ (s : Sizes) (file : List ℕ) (workers : ℕ) (bytes : AreBytes file) (
       (subst (λ (σ : State). Hold after.table σ (serial_run_of_file s file workers).cells) (state_last file b.functions b.calls (opening_state file)) serial_cells_lem)
 
   -- What the fold of the rule lists of call c.
-  listed_left : (c : ℕ) → c < call_count file → get_elem? (rule_lefts file) c ≡ some (rule_left file b c)
+  listed_left : (c : ℕ) → c < call_count file → slice_get (rule_lefts file) c ≡ Some (rule_left file b c)
   listed_left = left_listed file b.functions b.calls (opening_state file)
 
   receives : (c : ℕ) → c < call_count file → Receives s file workers c
@@ -217,10 +218,10 @@ module _ (s : Sizes) (file : List ℕ) (workers : ℕ) (bytes : AreBytes file) (
       record { left = rule_left file b c; listed = listed_left c less; ended = q.0; outcome = q.1; count = q.2 }
 
   -- The tally's number of steps, by the rule.
-  tallied_steps : StepsBySizes s file workers → (c : ℕ) (l : Left) → get_elem? (rule_lefts file) c ≡ some l → steps_in file workers c ≡ steps_for l
+  tallied_steps : StepsBySizes s file workers → (c : ℕ) (l : Left) → slice_get (rule_lefts file) c ≡ Some l → steps_in file workers c ≡ steps_for l
   tallied_steps sized c l e =
       let less : c < call_count file = listed_below file b.functions b.calls (opening_state file) c l e in
-      let same : rule_left file b c ≡ l = some-injective (rule_left file b c) l (sym (listed_left c less) ∙ e) in
+      let same : rule_left file b c ≡ l = same_Some (rule_left file b c) l (sym (listed_left c less) ∙ e) in
       sym (sized c less) ∙ steps_are s file workers bytes after c less
       ∙ (serial_follows s file bytes workers after (is_before file)).steps c less ∙ ap steps_for same
 
@@ -234,13 +235,13 @@ module _ (s : Sizes) (file : List ℕ) (workers : ℕ) (bytes : AreBytes file) (
       opening_listed_lem =
           subst⁻¹ (λ (t : List ℕ). (j : ℕ) → member j (opening_keys b) ≡ true → member j t ≡ true) table_is after.opened.opening_listed
 
-      each : (i : ℕ) (c : Call) → get_elem? b.calls i ≡ some c → (σ : State) → σ k ≡ pos 0 → (transaction file b.functions c σ).state k ≡ pos 0
+      each : (i : ℕ) (c : Call) → slice_get b.calls i ≡ Some c → (σ : State) → σ k ≡ pos 0 → (transaction file b.functions c σ).state k ≡ pos 0
       each i c e σ none' =
           let less : i < call_count file = found_below b.calls i c e in
-          subst (λ (y : Call). (transaction file b.functions y σ).state k ≡ pos 0) (found_in_lem b.calls i (body_call OutOfRange) c e)
+          subst (λ (y : Call). (transaction file b.functions y σ).state k ≡ pos 0) (found_in_lem b.calls i (body_call None) c e)
           (keeps_elsewhere i less k out σ ∙ none')
 
-  bodies : (i : ℕ) (f : Function) → get_elem? b.functions i ≡ some f → (p : ℕ) → p < f.size → InstrOf file f p
+  bodies : (i : ℕ) (f : Function) → slice_get b.functions i ≡ Some f → (p : ℕ) → p < f.size → InstrOf file f p
   bodies i f e p inside =
       instr_of file f
       (subst (FunctionSound file) (found_in_lem b.functions i f f e) (after.whole.laws.codes i f (found_below b.functions i f e))) p inside

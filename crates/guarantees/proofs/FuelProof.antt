@@ -4,17 +4,16 @@ use mathlib.Core.Path.{◌≡◌, refl, sym, ap, subst, ◌∙◌}
 use mathlib.Core.Bool.{true, ◌&&◌, ◌||◌, not, or-true}
 use mathlib.Core.List.{List}
 use mathlib.Core.Logic.{◌⊎◌, inl, inr}
-use mathlib.Core.Option.{Option, none, some}
 use Prim.Native.Nat.{ℕ, zero, suc, ◌+◌, ◌-◌, ◌*◌, ◌≤◌, ◌<◌}
 use native.Mathlib.Nat.{zero-add}
 use native.Mathlib.Omega.{arith}
 use borrow.Author.Tests.{eq-eqb, ne_eqb, lt-ltb, le-ltb}
 use lib.Dec.{eqb, leb, ltb}
 use lib.IntN.{ℤ, ◌+ℤ◌}
-use lib.ListN.{get_elem?, drop}
+use lib.ListN.{drop}
 use lib.Signed.{lt_z, le_z, non_neg}
 use Rattle.arith.specs.Balance.{largest}
-use Rattle.std.specs.Prelude.{if◌then◌else◌}
+use Rattle.std.specs.Prelude.{if◌then◌else◌, None, Option, Some, slice_get, Ok}
 use Rattle.arith.proofs.ChoiceLaws.{if_all}
 use Rattle.block.specs.Instruction.{is_register, allowed, decode_jump, decode_parts}
 use Rattle.block.specs.Key.{account_balance, is_balance}
@@ -23,23 +22,20 @@ use Rattle.block.specs.Naming.{function_of}
 use Rattle.block.specs.Outcomes.{out_of_fuel}
 use Rattle.block.specs.Record.{Function, head_bytes, call_record_bytes, call_of}
 use Rattle.block.specs.declared.Call.{Call}
-use Rattle.block.specs.declared.CallBody.TheVariants.{InRange}
 use Rattle.block.specs.declared.Instr.{Instr}
 use Rattle.block.specs.declared.Instr.TheVariants.{Jeq, Jlt}
 use Rattle.footprint.specs.Access.{Access, entry_accesses}
 use Rattle.footprint.specs.SetsInWords.{instructions_of}
 use Rattle.footprint.specs.Plan.{code_length}
-use Rattle.rule.specs.Rule.{State, Result, ends, fails, Course, before, over, execute_at, unfuelled, run_body, Left, settle, run_function, transaction_by, transaction}
+use Rattle.rule.specs.Rule.{State, BodyResult, ends, fails, Course, before, over, execute_at, unfuelled, run_body, Left, settle, run_function, transaction_by, transaction}
 use Rattle.rule.proofs.TurnLaws.{OneMore, turn_one, body_over}
 use Rattle.machine.specs.Run.{Run, zero_registers, plan_word, place_in, count_in}
 use Rattle.machine.specs.Action.{entry_action}
 use Rattle.machine.specs.Step.{View, Performed, broken, onward, ending, damaged, done, restorable, restored, cell_at, lookup, load_cell, store_cell, deposit_cell, transfer_cells, access_at, perform, step_entry, step_body, step_place, finish, concluded, step_call}
-use Rattle.machine.specs.Moves.{Moved, holds, held_by, stay, view_of, local_of, stepped, step_record, step_held, step_for, step_of}
+use Rattle.machine.specs.Moves.{Moved, held_by, stay, view_of, local_of, stepped, step_record, step_held, step_for, step_of}
 use Rattle.machine.specs.declared.Answer.TheVariants.{Damaged}
 use Rattle.machine.specs.declared.Next.{Next}
 use Rattle.machine.specs.declared.Next.TheVariants.{Go, End, Load, Store, Transfer}
-use Rattle.machine.specs.declared.Lookup.{Lookup}
-use Rattle.machine.specs.declared.Lookup.TheVariants.{Cell, NoCell}
 use Rattle.machine.proofs.StepLaws.{NextFits}
 use Rattle.machine.proofs.PlaceLaws.{place_all}
 use Rattle.guarantees.specs.Turns.{turned, entered, failed_with}
@@ -68,7 +64,7 @@ module _ (block : List ℕ) (functions : List Function) (c : Call) (σ : State) 
       let all : c.fuel ≡ k + (c.fuel - k) = omega arith in
       ap (λ (t : ℕ). run_body t c body (entered c σ)) all ∙ run_turned k (c.fuel - k) c body (entered c σ)
 
-  over_within : (k : ℕ) → k ≤ c.fuel → (r : Result) → turned k c body (entered c σ) ≡ over r → transaction block functions c σ ≡ settle σ r
+  over_within : (k : ℕ) → k ≤ c.fuel → (r : BodyResult) → turned k c body (entered c σ) ≡ over r → transaction block functions c σ ≡ settle σ r
   over_within k few r e = left_by ∙ ap (settle σ) (run_after_lem k few ∙ ap (run_body (c.fuel - k) c body) e ∙ body_over (c.fuel - k) c body r)
 
   end_within : (k : ℕ) → k ≤ c.fuel → (e : Ended block c σ f k)
@@ -92,7 +88,7 @@ module _ (block : List ℕ) (functions : List Function) (c : Call) (σ : State) 
       ∙ ap (unfuelled c.fuel d.at.state) d.due)
 
   -- The outcome of a body that ended, or failed.
-  spent_at : (r : Result) → run_body c.fuel c body (entered c σ) ≡ r → (settle σ r).outcome ≡ out_of_fuel → Due block c σ f c.fuel
+  spent_at : (r : BodyResult) → run_body c.fuel c body (entered c σ) ≡ r → (settle σ r).outcome ≡ out_of_fuel → Due block c σ f c.fuel
   unfolding settle turned
   spent_at (ends τ m behind) run e = absurd (omega (arith, e))
   spent_at (fails o m) run e = go (failed_at c body (entered c σ) o m c.fuel 0 0 _ _ (omega arith) refl run)
@@ -109,10 +105,10 @@ module _ (block : List ℕ) (functions : List Function) (c : Call) (σ : State) 
   out_only : (transaction block functions c σ).outcome ≡ out_of_fuel → Due block c σ f c.fuel
   out_only e = spent_at (run_body c.fuel c body (entered c σ)) refl (sym (ap (λ (l : Left). l.outcome) left_by) ∙ e)
 
-  cases : ((r : Result) × (turned c.fuel c body (entered c σ) ≡ over r)) ⊎ (Ended block c σ f c.fuel ⊎ Due block c σ f c.fuel)
+  cases : ((r : BodyResult) × (turned c.fuel c body (entered c σ) ≡ over r)) ⊎ (Ended block c σ f c.fuel ⊎ Due block c σ f c.fuel)
   cases = go (over_or_stands c.fuel c body 0 zero_registers 0 _)
     where
-      standing : (s : StandsAfter c.fuel c body (entered c σ) (0 + c.fuel)) → (o : Option Instr) → get_elem? body s.place ≡ o
+      standing : (s : StandsAfter c.fuel c body (entered c σ) (0 + c.fuel)) → (o : Option Instr) → slice_get body s.place ≡ o
           → Ended block c σ f c.fuel ⊎ Due block c σ f c.fuel
       standing s o found =
           let at : Stands block c σ f c.fuel =
@@ -124,14 +120,14 @@ module _ (block : List ℕ) (functions : List Function) (c : Call) (σ : State) 
           } in
           due at o found
         where
-          due : (at : Stands block c σ f c.fuel) (o : Option Instr) → get_elem? body at.place ≡ o → Ended block c σ f c.fuel ⊎ Due block c σ f c.fuel
-          due at none found = inl (record { at = at; none_due = found })
-          due at (some i) found = inr (record { at = at; instr = i; due = found })
+          due : (at : Stands block c σ f c.fuel) (o : Option Instr) → slice_get body at.place ≡ o → Ended block c σ f c.fuel ⊎ Due block c σ f c.fuel
+          due at None found = inl (record { at = at; none_due = found })
+          due at (Some i) found = inr (record { at = at; instr = i; due = found })
 
       go : OverOrStands c.fuel c body (entered c σ) (0 + c.fuel)
-          → ((r : Result) × (turned c.fuel c body (entered c σ) ≡ over r)) ⊎ (Ended block c σ f c.fuel ⊎ Due block c σ f c.fuel)
+          → ((r : BodyResult) × (turned c.fuel c body (entered c σ) ≡ over r)) ⊎ (Ended block c σ f c.fuel ⊎ Due block c σ f c.fuel)
       go (inl over') = inl over'
-      go (inr s) = inr (standing s (get_elem? body s.place) refl)
+      go (inr s) = inr (standing s (slice_get body s.place) refl)
 
   rule_fuel : RuleFuel block functions c σ f
   rule_fuel = record { cases = cases; over_within = over_within; end_within = end_within; out = out; out_only = out_only }
@@ -142,27 +138,27 @@ module _ (c : Call) (body : List Instr) (σ : State) where
   -- With so much fuel left, a body at this count ends with at most both.
   run_counted : (left p : ℕ) (ρ : List ℤ) (n : ℕ) (τ : State) → (settle σ (run_body left c body (before p ρ n τ))).count ≤ n + left
   unfolding run_body settle unfuelled
-  run_counted zero p ρ n τ = go (get_elem? body p)
+  run_counted zero p ρ n τ = go (slice_get body p)
     where
       go : (o : Option Instr) → (settle σ (unfuelled n τ o)).count ≤ n + 0
-      go none = omega arith
-      go (some i) = omega arith
-  run_counted (suc left) p ρ n τ = go (execute_at c p ρ n τ (get_elem? body p)) (turn_one σ c p ρ n τ (get_elem? body p)) (run_counted left)
+      go None = omega arith
+      go (Some i) = omega arith
+  run_counted (suc left) p ρ n τ = go (execute_at c p ρ n τ (slice_get body p)) (turn_one σ c p ρ n τ (slice_get body p)) (run_counted left)
     where
       go : (x : Course) → OneMore σ n x → ((q : ℕ) (ρ' : List ℤ) (m : ℕ) (υ : State) → (settle σ (run_body left c body (before q ρ' m υ))).count ≤ m + left)
           → (settle σ (run_body left c body x)).count ≤ n + suc left
       go (before q ρ' m υ) one ih = omega (arith, one, ih q ρ' m υ)
       go (over r) one ih =
           let all : (settle σ r).count ≤ n + 1 = omega (arith, one) in
-          subst (λ (s : Result). (settle σ s).count ≤ n + suc left) (sym (body_over left c body r)) (omega arith)
+          subst (λ (s : BodyResult). (settle σ s).count ≤ n + suc left) (sym (body_over left c body r)) (omega arith)
 
 counted : (block : List ℕ) (functions : List Function) (c : Call) (σ : State) → (transaction block functions c σ).count ≤ c.fuel
 unfolding transaction_by run_function
 counted block functions c σ = go (function_of functions c)
   where
     go : (o : Option Function) → (transaction_by block c σ o).count ≤ c.fuel
-    go none = omega arith
-    go (some f) =
+    go None = omega arith
+    go (Some f) =
         if_all (λ (l : Left). l.count ≤ c.fuel) (lt_z (σ (account_balance c.sender)) c.value) (λ e. omega arith)
         (λ e. subst (λ (k : ℕ). (run_function block c σ f).count ≤ k) (zero-add c.fuel) (run_counted c (instructions_of block f) σ c.fuel 0 _ 0 _))
 
@@ -175,25 +171,25 @@ EndsBelow (onward place n regs cells) = Unit {0}
 EndsBelow (ending outcome n) = outcome < out_of_fuel
 
 module _ (v : View) (place n : ℕ) (regs cells : List ℤ) where
-  load_below : (x : ℕ) (a : Access) (found : Lookup) → EndsBelow (load_cell place n regs x a cells found)
+  load_below : (x : ℕ) (a : Access) (found : Option ℕ) → EndsBelow (load_cell place n regs x a cells found)
   unfolding load_cell
-  load_below x a NoCell = tt
-  load_below x a (Cell m) = if_all EndsBelow (is_balance a.key && not (non_neg (cell_at cells m))) (λ h. tt) (λ h. tt)
+  load_below x a None = tt
+  load_below x a (Some m) = if_all EndsBelow (is_balance a.key && not (non_neg (cell_at cells m))) (λ h. tt) (λ h. tt)
 
-  store_below : (z : ℤ) (found : Lookup) → EndsBelow (store_cell place n regs z cells found)
+  store_below : (z : ℤ) (found : Option ℕ) → EndsBelow (store_cell place n regs z cells found)
   unfolding store_cell
-  store_below z NoCell = tt
-  store_below z (Cell m) = tt
+  store_below z None = tt
+  store_below z (Some m) = tt
 
-  deposit_below : (amount : ℤ) (m : ℕ) (found : Lookup) → EndsBelow (deposit_cell place n regs amount m cells found)
+  deposit_below : (amount : ℤ) (m : ℕ) (found : Option ℕ) → EndsBelow (deposit_cell place n regs amount m cells found)
   unfolding deposit_cell
-  deposit_below amount m NoCell = tt
-  deposit_below amount m (Cell k) = if_all EndsBelow (non_neg (cell_at cells k) && le_z (cell_at cells k +ℤ amount) largest) (λ h. tt) (λ h. tt)
+  deposit_below amount m None = tt
+  deposit_below amount m (Some k) = if_all EndsBelow (non_neg (cell_at cells k) && le_z (cell_at cells k +ℤ amount) largest) (λ h. tt) (λ h. tt)
 
-  transfer_below : (amount : ℤ) (short : ℕ) → short < out_of_fuel → (to : Access) (found : Lookup) → EndsBelow (transfer_cells v place n regs amount short to cells found)
+  transfer_below : (amount : ℤ) (short : ℕ) → short < out_of_fuel → (to : Access) (found : Option ℕ) → EndsBelow (transfer_cells v place n regs amount short to cells found)
   unfolding transfer_cells
-  transfer_below amount short few to NoCell = tt
-  transfer_below amount short few to (Cell m) =
+  transfer_below amount short few to None = tt
+  transfer_below amount short few to (Some m) =
       if_all EndsBelow (not (non_neg (cell_at cells m))) (λ h. tt) λ h.
       if_all EndsBelow (lt_z (cell_at cells m) amount) (λ h. few) (λ h. deposit_below amount m (lookup v to))
 
@@ -270,11 +266,11 @@ module _ (v : View) (place : ℕ) (regs cells : List ℤ) where
 -- ---- the entry
 
 module _ (v : View) (new place n : ℕ) (regs cells : List ℤ) where
-  transfer_any : (amount : ℤ) (short : ℕ) (to : Access) (found : Lookup)
+  transfer_any : (amount : ℤ) (short : ℕ) (to : Access) (found : Option ℕ)
       → transfer_cells (with_fuel new v) place n regs amount short to cells found ≡ transfer_cells v place n regs amount short to cells found
   unfolding transfer_cells lookup
-  transfer_any amount short to NoCell = refl
-  transfer_any amount short to (Cell m) = refl
+  transfer_any amount short to None = refl
+  transfer_any amount short to (Some m) = refl
 
   perform_any : (as' : List Access) (next : Next) → perform (with_fuel new v) place n as' regs next cells ≡ perform v place n as' regs next cells
   unfolding perform lookup
@@ -307,8 +303,8 @@ module _ (block : List ℕ) (r : Run) (worker call : ℕ) (c : Call) where
   stays behind (inl none') = rw (no_fuel view (place_in r.seats worker) _ r.cells (count_in r.seats worker) behind none')
   stays behind (inr above) = rw (count_above view (place_in r.seats worker) _ r.cells (count_in r.seats worker) behind above)
 
-  lent : held_by r worker ≡ holds call → ¬ (place_in r.seats worker ≡ 0)
-      → call_of (drop (r.head.first_call + call_record_bytes * call + head_bytes) block) ≡ InRange c
+  lent : held_by r worker ≡ Ok call → ¬ (place_in r.seats worker ≡ 0)
+      → call_of (drop (r.head.first_call + call_record_bytes * call + head_bytes) block) ≡ Some c
       → (c.fuel ≡ 0) ⊎ (c.fuel < count_in r.seats worker) → step_of block r worker ≡ stay r Damaged
   unfolding step_for step_held step_record
   lent held behind read bad =

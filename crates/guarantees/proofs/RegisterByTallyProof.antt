@@ -2,10 +2,9 @@
 use mathlib.Core.Path.{◌≡◌, ap, ◌∙◌}
 use mathlib.Core.List.{List, ◌++◌}
 use Prim.Native.Nat.{ℕ}
-use Rattle.std.specs.Prelude.{if◌then◌else◌}
+use Rattle.std.specs.Prelude.{if◌then◌else◌, Ok}
 use Rattle.block.specs.Limits.{max_workers}
 use Rattle.block.specs.Encoding.{AreBytes}
-use Rattle.block.specs.declared.Verdict.TheVariants as verdict
 use Rattle.text.specs.Lines.{refused_text}
 use Rattle.machine.specs.Answer.{answer_number}
 use Rattle.machine.specs.Run.{fixed_sizes}
@@ -19,7 +18,7 @@ use Rattle.guarantees.proofs.Demand3Proof.{demand_3}
 use Rattle.guarantees.specs.RegisterByTally.{lines_of, lines_text, register_by_tally, RegisterByTally}
 use Rattle.guarantees.proofs.RegisterOutput.ClosedByTally.{serial, all_done, moves_in, session_end, session_comes, serial_front, closed_by_tally}
 
-module _ (file : List ℕ) (bytes : AreBytes file) (accepted : (opening_of fixed_sizes file max_workers).answer ≡ verdict.Accepted) (input : List ℕ) where
+module _ (file : List ℕ) (bytes : AreBytes file) (accepted : (opening_of fixed_sizes file max_workers).answer ≡ (Ok tt)) (input : List ℕ) where
   output_is : (session_end file input).output ≡ lines_text 1 (lines_of input) (tally_answers file max_workers (moves_in input))
   output_is =
       (session_comes file input).output ∙ ap (lines_text 1 (lines_of input)) (demand_3 fixed_sizes file max_workers bytes accepted (moves_in input)).answers

@@ -3,10 +3,9 @@ use mathlib.Core.Path.{◌≡◌, refl, ap, ◌∙◌}
 use mathlib.Core.Bool.{Bool, true, false}
 use mathlib.Core.List.{List, []}
 use Prim.Native.Nat.{ℕ}
-use Rattle.std.specs.Prelude.{if◌then◌else◌}
+use Rattle.std.specs.Prelude.{if◌then◌else◌, Ok}
 use Rattle.block.specs.Limits.{max_workers}
 use Rattle.block.specs.Encoding.{AreBytes}
-use Rattle.block.specs.declared.Verdict.TheVariants as verdict
 use Rattle.machine.specs.Run.{fixed_sizes}
 use Rattle.machine.specs.Opening.{opening_of}
 use Rattle.sheet.specs.Sheet.{sheet_bytes}
@@ -23,7 +22,7 @@ use Rattle.guarantees.proofs.RegisterOutput.ClosedByTally.{serial, all_done, mov
 use Rattle.guarantees.proofs.RegisterOutput.SheetPrinted.{close_whole}
 use Rattle.guarantees.proofs.RegisterOutput.TallyEnd.{all_finished_lem}
 
-module _ (file : List ℕ) (bytes : AreBytes file) (accepted : (opening_of fixed_sizes file max_workers).answer ≡ verdict.Accepted) (input : List ℕ) where
+module _ (file : List ℕ) (bytes : AreBytes file) (accepted : (opening_of fixed_sizes file max_workers).answer ≡ (Ok tt)) (input : List ℕ) where
   -- What is written is the close of the session at the input's end.
   closed : written_sheet file input ≡ close_bytes (session_end file input).run
   unfolding written_sheet sheet_opened play_input

@@ -1,31 +1,29 @@
 -- The turns of the published rule and its fuel: a body with so much fuel is where its turns lead; what it fails with is that of an instruction for which it had fuel, which is never 7,
 -- or 7 where it had none.
+use Rattle.arith.specs.declared.NoResult.TheVariants.{Overflow, ZeroDivisor}
+use Rattle.arith.specs.declared.NoResult.{NoResult}
+use Rattle.std.specs.Prelude.{None, Option, Some, slice_get, Err, Ok}
+use Rattle.block.specs.declared.address.Account.{Account}
 use mathlib.Core.Path.{◌≡◌, refl, sym, ap, subst, subst⁻¹, ◌∙◌}
 use mathlib.Core.Bool.{true, false}
 use mathlib.Core.List.{List}
 use mathlib.Core.Logic.{◌⊎◌, inl, inr}
-use mathlib.Core.Option.{Option, none, some}
 use Prim.Native.Nat.{ℕ, zero, suc, ◌+◌, ◌<◌}
 use native.Mathlib.Nat.{add-zero}
 use native.Mathlib.Omega.{arith}
 use lib.IntN.{ℤ}
-use lib.ListN.{get_elem?}
 use lib.Signed.{lt_z, non_neg}
 use Rattle.arith.specs.Exact.{add_of, sub_of, mul_of, div_of}
-use Rattle.arith.specs.declared.Checked.{Checked}
-use Rattle.arith.specs.declared.Checked.TheVariants as answered
 use Rattle.arith.proofs.ChoiceLaws.{if_all}
 use Rattle.block.specs.Key.{account_balance, contract_balance}
 use Rattle.block.specs.Naming.{function_of, target_of}
 use Rattle.block.specs.Outcomes.{out_of_fuel}
 use Rattle.block.specs.Record.{Function}
 use Rattle.block.specs.declared.Call.{Call}
-use Rattle.block.specs.declared.Payee.{Payee}
-use Rattle.block.specs.declared.Payee.TheVariants.{To, Nobody}
 use Rattle.block.specs.declared.Instr.{Instr}
 use Rattle.block.specs.declared.Instr.TheVariants.{Stop, Throw, Set, Arg, Sender, Value, Add, Sub, Mul, Div, Get, Put, Bal, Pay, Jeq, Jlt}
 use Rattle.footprint.specs.SetsInWords.{instructions_of}
-use Rattle.rule.specs.Rule.{State, Result, ends, fails, Course, before, over, assign_checked, transfer, execute, execute_at, unfuelled, run_body, settle, run_function, transaction_by, transaction}
+use Rattle.rule.specs.Rule.{State, BodyResult, ends, fails, Course, before, over, assign_checked, transfer, execute, execute_at, unfuelled, run_body, settle, run_function, transaction_by, transaction}
 use Rattle.rule.proofs.TurnLaws.{OneMore, turn_one, body_over}
 use Rattle.machine.specs.Action.{register}
 use Rattle.guarantees.specs.Turns.{turned, entered}
@@ -38,15 +36,15 @@ unfolding turned run_body
 run_turned zero left c body x = let e : 0 + left ≡ left = omega arith in ap (λ (t : ℕ). run_body t c body x) e
 run_turned (suc k) left c body (before p ρ n σ) =
     let e : suc k + left ≡ suc (k + left) = omega arith in
-    ap (λ (t : ℕ). run_body t c body (before p ρ n σ)) e ∙ run_turned k left c body (execute_at c p ρ n σ (get_elem? body p))
+    ap (λ (t : ℕ). run_body t c body (before p ρ n σ)) e ∙ run_turned k left c body (execute_at c p ρ n σ (slice_get body p))
 run_turned (suc k) left c body (over r) = body_over (suc k + left) c body r ∙ sym (body_over left c body r)
 
 -- One turn more.
 turned_next : (k : ℕ) (c : Call) (body : List Instr) (x : Course) (p : ℕ) (ρ : List ℤ) (n : ℕ) (σ : State) → turned k c body x ≡ before p ρ n σ
-    → turned (suc k) c body x ≡ execute_at c p ρ n σ (get_elem? body p)
+    → turned (suc k) c body x ≡ execute_at c p ρ n σ (slice_get body p)
 unfolding turned
 turned_next zero c body x p ρ n σ e = ap (turned 1 c body) e
-turned_next (suc k) c body (before q ρ' m τ) p ρ n σ e = turned_next k c body (execute_at c q ρ' m τ (get_elem? body q)) p ρ n σ e
+turned_next (suc k) c body (before q ρ' m τ) p ρ n σ e = turned_next k c body (execute_at c q ρ' m τ (slice_get body q)) p ρ n σ e
 turned_next (suc k) c body (over r) p ρ n σ e = absurd (subst IsOver e tt)
   where
     IsOver : Course → Type 0
@@ -54,7 +52,7 @@ turned_next (suc k) c body (over r) p ρ n σ e = absurd (subst IsOver e tt)
     IsOver (over r') = Unit {0}
 
 -- What is over stays so.
-turned_over : (k : ℕ) (c : Call) (body : List Instr) (r : Result) → turned k c body (over r) ≡ over r
+turned_over : (k : ℕ) (c : Call) (body : List Instr) (r : BodyResult) → turned k c body (over r) ≡ over r
 unfolding turned
 turned_over zero c body r = refl
 turned_over (suc k) c body r = refl
@@ -67,18 +65,18 @@ pub record StandsAfter (k : ℕ) (c : Call) (body : List Instr) (first : Course)
   pub stands : turned k c body first ≡ before place regs n state
 
 abbrev pub OverOrStands : (k : ℕ) → Call → List Instr → Course → (n : ℕ) → Type 0
-OverOrStands k c body first n = ((r : Result) × (turned k c body first ≡ over r)) ⊎ StandsAfter k c body first n
+OverOrStands k c body first n = ((r : BodyResult) × (turned k c body first ≡ over r)) ⊎ StandsAfter k c body first n
 
 pub over_or_stands : (k : ℕ) (c : Call) (body : List Instr) (p : ℕ) (ρ : List ℤ) (n : ℕ) (σ : State) → OverOrStands k c body (before p ρ n σ) (n + k)
 unfolding turned
 over_or_stands zero c body p ρ n σ = inr (record { place = p; regs = ρ; state = σ; stands = ap (λ (m : ℕ). before p ρ m σ) (sym (add-zero n)) })
 over_or_stands (suc k) c body p ρ n σ =
-    go (execute_at c p ρ n σ (get_elem? body p)) refl (turn_one σ c p ρ n σ (get_elem? body p)) (over_or_stands k c body)
+    go (execute_at c p ρ n σ (slice_get body p)) refl (turn_one σ c p ρ n σ (slice_get body p)) (over_or_stands k c body)
   where
     after : Course → Course
     after x = turned k c body x
 
-    go : (x : Course) → execute_at c p ρ n σ (get_elem? body p) ≡ x → OneMore σ n x
+    go : (x : Course) → execute_at c p ρ n σ (slice_get body p) ≡ x → OneMore σ n x
         → ((q : ℕ) (ρ' : List ℤ) (m : ℕ) (τ : State) → OverOrStands k c body (before q ρ' m τ) (m + k)) → OverOrStands (suc k) c body (before p ρ n σ) (n + suc k)
     go (over r) e one ih = inl (r, ap after e ∙ turned_over k c body r)
     go (before q ρ' m τ) e one ih = on (ih q ρ' m τ)
@@ -98,7 +96,7 @@ over_or_stands (suc k) c body p ρ n σ =
             })
 
 -- At the end of its code a body ends, whatever its fuel.
-pub end_any : (left : ℕ) (c : Call) (body : List Instr) (p : ℕ) (ρ : List ℤ) (n : ℕ) (σ : State) → get_elem? body p ≡ none
+pub end_any : (left : ℕ) (c : Call) (body : List Instr) (p : ℕ) (ρ : List ℤ) (n : ℕ) (σ : State) → slice_get body p ≡ None
     → run_body left c body (before p ρ n σ) ≡ ends σ n true
 unfolding run_body execute_at unfuelled
 end_any zero c body p ρ n σ e = ap (unfuelled n σ) e
@@ -106,7 +104,7 @@ end_any (suc left) c body p ρ n σ e =
     ap (λ (o : Option Instr). run_body left c body (execute_at c p ρ n σ o)) e ∙ body_over left c body (ends σ n true)
 
 -- A transaction that runs its function.
-pub transaction_runs : (block : List ℕ) (functions : List Function) (c : Call) (σ : State) (f : Function) → function_of functions c ≡ some f
+pub transaction_runs : (block : List ℕ) (functions : List Function) (c : Call) (σ : State) (f : Function) → function_of functions c ≡ Some f
     → lt_z (σ (account_balance c.sender)) c.value ≡ false
     → transaction block functions c σ ≡ settle σ (run_body c.fuel c (instructions_of block f) (entered c σ))
 unfolding transaction_by run_function
@@ -120,16 +118,16 @@ Below (over (ends σ n behind)) = Unit {0}
 Below (over (fails outcome n)) = outcome < out_of_fuel
 
 module _ (c : Call) (p : ℕ) (ρ : List ℤ) (n : ℕ) (σ : State) where
-  checked_below : (x : ℕ) (k : Checked) → Below (assign_checked p ρ n σ x k)
+  checked_below : (x : ℕ) (k : Result ℤ NoResult) → Below (assign_checked p ρ n σ x k)
   unfolding assign_checked
-  checked_below x (answered.Value v) = tt
-  checked_below x answered.Overflow = omega arith
-  checked_below x answered.ZeroDivisor = omega arith
+  checked_below x (Ok v) = tt
+  checked_below x (Err Overflow) = omega arith
+  checked_below x (Err ZeroDivisor) = omega arith
 
-  transfer_below : (m : ℤ) (payee : Payee) → Below (transfer c p ρ n σ m payee)
+  transfer_below : (m : ℤ) (payee : Option Account) → Below (transfer c p ρ n σ m payee)
   unfolding transfer
-  transfer_below m Nobody = omega arith
-  transfer_below m (To account) =
+  transfer_below m None = omega arith
+  transfer_below m (Some account) =
       if_all Below (non_neg m) (λ s. if_all Below (lt_z (σ (contract_balance c.contract)) m) (λ t. omega arith) (λ t. tt)) (λ s. omega arith)
 
   execute_below : (i : Instr) → Below (execute c p ρ n σ i)
@@ -152,7 +150,7 @@ module _ (c : Call) (p : ℕ) (ρ : List ℤ) (n : ℕ) (σ : State) where
   execute_below (Jlt x y to) = tt
 
 pub turn_below : (c : Call) (p : ℕ) (ρ : List ℤ) (n : ℕ) (σ : State) (i : Instr) (outcome m : ℕ)
-    → execute_at c p ρ n σ (some i) ≡ over (fails outcome m) → outcome < out_of_fuel
+    → execute_at c p ρ n σ (Some i) ≡ over (fails outcome m) → outcome < out_of_fuel
 unfolding execute_at
 turn_below c p ρ n σ i outcome m e = subst Below e (execute_below c p ρ (n + 1) σ i)
 
@@ -167,9 +165,9 @@ module _ (c : Call) (body : List Instr) (first : Course) where
     pub state : State
     pub instr : Instr
     pub stands : turned count c body first ≡ before place regs count state
-    pub due : get_elem? body place ≡ some instr
+    pub due : slice_get body place ≡ Some instr
     pub fuelled : count < c.fuel
-    pub failed : execute_at c place regs count state (some instr) ≡ over (fails outcome m)
+    pub failed : execute_at c place regs count state (Some instr) ≡ over (fails outcome m)
 
   -- For want of fuel, where an instruction was due.
   pub record SpentAt (outcome : ℕ) : Type 0 where
@@ -178,14 +176,14 @@ module _ (c : Call) (body : List Instr) (first : Course) where
     pub state : State
     pub instr : Instr
     pub stands : turned c.fuel c body first ≡ before place regs c.fuel state
-    pub due : get_elem? body place ≡ some instr
+    pub due : slice_get body place ≡ Some instr
     pub spent : outcome ≡ out_of_fuel
 
-  abbrev IsFailed : Result → Type 0
+  abbrev IsFailed : BodyResult → Type 0
   IsFailed (ends τ m behind) = ⊥
   IsFailed (fails o m) = Unit {0}
 
-  abbrev outcome_of : Result → ℕ
+  abbrev outcome_of : BodyResult → ℕ
   outcome_of (ends τ m behind) = 0
   outcome_of (fails o m) = o
 
@@ -194,11 +192,11 @@ module _ (c : Call) (body : List Instr) (first : Course) where
     Failed = FailsAt outcome m ⊎ SpentAt outcome
 
     -- It fails without fuel.
-    out_of_fuel_lem : (n p : ℕ) (ρ : List ℤ) (τ : State) → n ≡ c.fuel → turned n c body first ≡ before p ρ n τ → (o : Option Instr) → get_elem? body p ≡ o
+    out_of_fuel_lem : (n p : ℕ) (ρ : List ℤ) (τ : State) → n ≡ c.fuel → turned n c body first ≡ before p ρ n τ → (o : Option Instr) → slice_get body p ≡ o
         → unfuelled n τ o ≡ fails outcome m → Failed
     unfolding unfuelled
-    out_of_fuel_lem n p ρ τ all at none found e = absurd (subst⁻¹ IsFailed e tt)
-    out_of_fuel_lem n p ρ τ all at (some i) found e =
+    out_of_fuel_lem n p ρ τ all at None found e = absurd (subst⁻¹ IsFailed e tt)
+    out_of_fuel_lem n p ρ τ all at (Some i) found e =
         inr
         (record {
           place = p;
@@ -213,9 +211,9 @@ module _ (c : Call) (body : List Instr) (first : Course) where
     pub failed_at : (left n p : ℕ) (ρ : List ℤ) (τ : State) → n + left ≡ c.fuel → turned n c body first ≡ before p ρ n τ
         → run_body left c body (before p ρ n τ) ≡ fails outcome m → Failed
     unfolding run_body execute_at
-    failed_at zero n p ρ τ all at e = out_of_fuel_lem n p ρ τ (omega arith) at (get_elem? body p) refl e
+    failed_at zero n p ρ τ all at e = out_of_fuel_lem n p ρ τ (omega arith) at (slice_get body p) refl e
     failed_at (suc left) n p ρ τ all at e =
-        due (get_elem? body p) refl (λ q ρ' υ at' run. failed_at left (suc n) q ρ' υ (omega arith) at' run)
+        due (slice_get body p) refl (λ q ρ' υ at' run. failed_at left (suc n) q ρ' υ (omega arith) at' run)
       where
         -- The body goes on from its next turn.
         Onward : Type 0
@@ -223,7 +221,7 @@ module _ (c : Call) (body : List Instr) (first : Course) where
             (q : ℕ) (ρ' : List ℤ) (υ : State) → turned (suc n) c body first ≡ before q ρ' (suc n) υ
             → run_body left c body (before q ρ' (suc n) υ) ≡ fails outcome m → Failed
 
-        next : (i : Instr) → get_elem? body p ≡ some i → (x : Course) → execute_at c p ρ n τ (some i) ≡ x → OneMore τ n x → run_body left c body x ≡ fails outcome m
+        next : (i : Instr) → slice_get body p ≡ Some i → (x : Course) → execute_at c p ρ n τ (Some i) ≡ x → OneMore τ n x → run_body left c body x ≡ fails outcome m
             → Onward → Failed
         next i found (before q ρ' k υ) x one run ih =
             let same : k ≡ suc n = omega (arith, one) in
@@ -244,9 +242,9 @@ module _ (c : Call) (body : List Instr) (first : Course) where
               failed = x ∙ ap over (sym (body_over left c body r) ∙ run);
             })
 
-        ran : (o : Option Instr) → get_elem? body p ≡ o → run_body left c body (execute_at c p ρ n τ o) ≡ fails outcome m
+        ran : (o : Option Instr) → slice_get body p ≡ o → run_body left c body (execute_at c p ρ n τ o) ≡ fails outcome m
         ran o found = ap (λ (o' : Option Instr). run_body left c body (execute_at c p ρ n τ o')) (sym found) ∙ e
 
-        due : (o : Option Instr) → get_elem? body p ≡ o → Onward → Failed
-        due none found ih = absurd (subst⁻¹ IsFailed (sym (body_over left c body (ends τ n true)) ∙ ran none found) tt)
-        due (some i) found ih = next i found (execute_at c p ρ n τ (some i)) refl (turn_one τ c p ρ n τ (some i)) (ran (some i) found) ih
+        due : (o : Option Instr) → slice_get body p ≡ o → Onward → Failed
+        due None found ih = absurd (subst⁻¹ IsFailed (sym (body_over left c body (ends τ n true)) ∙ ran None found) tt)
+        due (Some i) found ih = next i found (execute_at c p ρ n τ (Some i)) refl (turn_one τ c p ρ n τ (Some i)) (ran (Some i) found) ih

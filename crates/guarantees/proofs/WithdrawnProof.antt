@@ -1,19 +1,19 @@
 -- M-101 holds: a PAY to account 0 pays nobody; the laws of a call and its sets at the key of account 0's balance, for the calls of an accepted block; and
 -- no step deposits there, so no list of moves does.
+use Rattle.arith.specs.declared.NoResult.TheVariants.{Overflow, ZeroDivisor}
+use Rattle.arith.specs.declared.NoResult.{NoResult}
+use Rattle.block.specs.declared.address.Account.{Account}
 use mathlib.Core.Path.{◌≡◌, refl, ap, subst, subst⁻¹, ◌∙◌}
 use mathlib.Core.Bool.{Bool, true, false}
 use mathlib.Core.List.{List, [], ◌∷◌}
-use mathlib.Core.Option.{some}
 use Prim.Native.Nat.{ℕ, ◌+◌, ◌*◌, ◌<◌}
 use native.Mathlib.Omega.{arith}
 use borrow.Author.Tests.{eqb-true}
 use lib.IntN.{ℤ, pos, ◌-ℤ◌}
-use lib.ListN.{drop, get_elem?}
+use lib.ListN.{drop}
 use lib.Signed.{lt_z, non_neg}
-use Rattle.std.specs.Prelude.{if◌then◌else◌}
+use Rattle.std.specs.Prelude.{if◌then◌else◌, None, Option, Some, slice_get, Err, Ok, Result}
 use Rattle.arith.specs.Exact.{add_of, sub_of, mul_of, div_of}
-use Rattle.arith.specs.declared.Checked.{Checked}
-use Rattle.arith.specs.declared.Checked.TheVariants as checked
 use Rattle.arith.proofs.ChoiceLaws.{by_test, if_all}
 use Rattle.arith.proofs.IntegerLaws.{diff, lt_z_false, le_lt_z, non_neg_true}
 use Rattle.schedule.specs.declared.Move.{Move}
@@ -26,10 +26,6 @@ use Rattle.block.proofs.KeyLaws.{payee_all}
 use Rattle.block.specs.Encoding.{AreBytes}
 use Rattle.block.specs.Naming.{function_of, source_value}
 use Rattle.block.specs.declared.Call.{Call}
-use Rattle.block.specs.declared.CallBody.{CallBody}
-use Rattle.block.specs.declared.CallBody.TheVariants.{OutOfRange}
-use Rattle.block.specs.declared.Payee.{Payee}
-use Rattle.block.specs.declared.Payee.TheVariants.{To, Nobody}
 use Rattle.block.specs.declared.Source.{Source}
 use Rattle.block.specs.declared.Instr.{Instr}
 use Rattle.block.specs.declared.Instr.TheVariants.{Stop, Throw, Set, Arg, Sender, Value, Add, Sub, Mul, Div, Get, Put, Bal, Pay, Jeq, Jlt}
@@ -65,12 +61,12 @@ use Rattle.guarantees.proofs.Demand2Proof.{found_below, opened, fits}
 
 -- ---- one PAY
 
-nobody : payee_of withdrawn ≡ Nobody
+nobody : payee_of withdrawn ≡ None
 unfolding payee_of
 nobody = refl
 
 module _ (c : Call) (x : ℕ) (target : Source) (named : source_value c target ≡ withdrawn) where
-  paid : payee_of (source_value c target) ≡ Nobody
+  paid : payee_of (source_value c target) ≡ None
   paid = ap payee_of named ∙ nobody
 
   pays_nobody : PaysNobody c x target
@@ -90,18 +86,18 @@ module _ (c : Call) (fits : CallBounded c) where
       (if t then Transfer c.value balance_too_low else Go (place_of 0)))
       (lt_z (pos 0) c.value) (λ t. (fits.value, λ e. omega (arith, e, fits.contract))) (λ t. tt)
 
-  checked_spares : (as' : List Access) (place : ℕ) (regs : List ℤ) (x : ℕ) (r : Checked) → Spares balance_of0 as' (checked_action place regs x r).next
+  checked_spares : (as' : List Access) (place : ℕ) (regs : List ℤ) (x : ℕ) (r : Result ℤ NoResult) → Spares balance_of0 as' (checked_action place regs x r).next
   unfolding checked_action
-  checked_spares as' place regs x (checked.Value z) = tt
-  checked_spares as' place regs x checked.Overflow = tt
-  checked_spares as' place regs x checked.ZeroDivisor = tt
+  checked_spares as' place regs x (Ok z) = tt
+  checked_spares as' place regs x (Err Overflow) = tt
+  checked_spares as' place regs x (Err ZeroDivisor) = tt
 
   pay_spares : (regs : List ℤ) (amount : ℤ) (n : ℕ) → Spares balance_of0 (pay_accesses c (payee_of n)) (pay_action regs amount (payee_of n)).next
   unfolding pay_accesses pay_action
   pay_spares regs amount n =
-      payee_all (λ (p : Payee). Spares balance_of0 (pay_accesses c p) (pay_action regs amount p).next) n
+      payee_all (λ (p : Option Account). Spares balance_of0 (pay_accesses c p) (pay_action regs amount p).next) n
       (λ other low.
-      if_all (Spares balance_of0 (pay_accesses c (To (record { 0 = n })))) (non_neg amount) (λ sign. (sign, λ e. other (omega (arith, e)))) (λ sign. tt))
+      if_all (Spares balance_of0 (pay_accesses c (Some (record { 0 = n })))) (non_neg amount) (λ sign. (sign, λ e. other (omega (arith, e)))) (λ sign. tt))
       tt
 
   instr_spares : (place : ℕ) (regs : List ℤ) (i : Instr) → Spares balance_of0 (accesses c i) (instr_action c place regs i).next
@@ -137,7 +133,7 @@ module _ (s : Sizes) (file : List ℕ) (workers : ℕ) (bytes : AreBytes file) (
     abbrev c : Call
     c = call_of_block file i
 
-    may_send : sent_by0 file i ≡ true → (f : Function) → function_of b.functions c ≡ some f → (σ : State) → lt_z (σ balance_of0) c.value ≡ false
+    may_send : sent_by0 file i ≡ true → (f : Function) → function_of b.functions c ≡ Some f → (σ : State) → lt_z (σ balance_of0) c.value ≡ false
         → rule_for file i σ ≡ run_function file c σ f
     unfolding transaction_by
     may_send zero' f found σ enough =
@@ -161,7 +157,7 @@ module _ (s : Sizes) (file : List ℕ) (workers : ℕ) (bytes : AreBytes file) (
   bounded i less =
       let at : ℕ = r₀.head.first_call + call_record_bytes * i + head_bytes in
       let q = (base s file workers after).body i less in
-      subst⁻¹ (λ (body : CallBody). CallBounded (body_call body)) q.1 (read_call_bounded (drop at file) (drop_bytes at file bytes) q.0 q.1)
+      subst⁻¹ (λ (body : Option Call). CallBounded (body_call body)) q.1 (read_call_bounded (drop at file) (drop_bytes at file bytes) q.0 q.1)
 
   module _ (x : ℕ) (there : key_at r₀.keys x ≡ balance_of0) where
     -- No more than at the opening.
@@ -213,13 +209,13 @@ module _ (s : Sizes) (file : List ℕ) (workers : ℕ) (bytes : AreBytes file) (
         sends = may_send;
       }
     where
-      each : (i : ℕ) (x : Call) → get_elem? b.calls i ≡ some x → (σ : State) → lt_z (opening_state file balance_of0) (σ balance_of0) ≡ false
+      each : (i : ℕ) (x : Call) → slice_get b.calls i ≡ Some x → (σ : State) → lt_z (opening_state file balance_of0) (σ balance_of0) ≡ false
           → lt_z (opening_state file balance_of0) ((transaction file b.functions x σ).state balance_of0) ≡ false
       each i x e σ so_far =
           let less : i < call_count file = found_below b.calls i x e in
           not_above (opening_state file balance_of0) (σ balance_of0) _ so_far
           (subst (λ (y : Call). lt_z (σ balance_of0) ((transaction file b.functions y σ).state balance_of0) ≡ false)
-          (found_in_lem b.calls i (body_call OutOfRange) x e)
+          (found_in_lem b.calls i (body_call None) x e)
           (withdrawn_falls (c i less) (fits s file workers bytes after i less) file b.functions σ))
 
 -- ---- the request

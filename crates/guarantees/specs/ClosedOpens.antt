@@ -1,12 +1,11 @@
 -- "Its kind 2 records open the next block", of every run whose calls are all finished.
-use Rattle.std.specs.Prelude.{◌≡◌, List, ℕ, ◌<◌, ◌≤◌, length}
+use Rattle.std.specs.Prelude.{◌≡◌, List, ℕ, ◌<◌, ◌≤◌, length, Ok}
 use Rattle.schedule.specs.Tally.{finished}
 use Rattle.schedule.specs.declared.Move.{Move}
 use Rattle.block.specs.Limits.{max_bytes, max_call_keys, max_keys, max_workers}
 use Rattle.wire.specs.All.{All}
 use Rattle.block.specs.Encoding.{AreBytes, Routine, FunctionFits, CallFits, FunctionsKeep, CallsKeep, placed}
 use Rattle.block.specs.declared.Call.{Call}
-use Rattle.block.specs.declared.Verdict.TheVariants as verdict
 use Rattle.rule.specs.Rule.{State}
 use Rattle.block.specs.BlockOfFile.{block_of, call_count, opening_keys}
 use Rattle.footprint.specs.BlockSets.{all_sets}
@@ -43,15 +42,15 @@ pub record OpensWith (σ : State) (file : List ℕ) (functions : List Routine) (
 -- own tests, and then opens with that state.
 pub record OpensNext (r : Run) (σ : State) : Type 0 where
   pub accepts : (functions : List Routine) (calls : List Call) → Sendable functions calls → (s : Sizes) (workers : ℕ)
-      → Exactly ((opening_of s (next_file r functions calls) workers).answer ≡ verdict.Accepted)
+      → Exactly ((opening_of s (next_file r functions calls) workers).answer ≡ (Ok tt))
       (NextKeeps s workers (next_file r functions calls) functions calls)
   pub opens : (functions : List Routine) (calls : List Call) → Sendable functions calls → (s : Sizes) (workers : ℕ)
-      → (opening_of s (next_file r functions calls) workers).answer ≡ verdict.Accepted
+      → (opening_of s (next_file r functions calls) workers).answer ≡ Ok tt
       → OpensWith σ (next_file r functions calls) functions calls
 
 -- Behind every list of moves that finishes all calls, with the state that the published rule leaves.
 abbrev pub ClosedOpens : Type 0
 ClosedOpens =
-    (s : Sizes) (file : List ℕ) (workers : ℕ) → AreBytes file → (opening_of s file workers).answer ≡ verdict.Accepted
+    (s : Sizes) (file : List ℕ) (workers : ℕ) → AreBytes file → (opening_of s file workers).answer ≡ Ok tt
     → (ms : List Move) → ((c : ℕ) → c < call_count file → (tally_after file workers ms).phase c ≡ finished)
     → OpensNext (run_after_moves s file workers ms) (closing_state file)

@@ -1,10 +1,7 @@
 -- Demand 2, sentence by sentence.
-use Rattle.std.specs.Prelude.{◌≡◌, Bool, true, false, ◌&&◌, not, List, ℕ, zero, suc, ◌<◌, ℤ, pos, ltb}
-use Rattle.std.proofs.Math.Option.{some}
-use Rattle.std.proofs.Math.ListN.{get_elem?}
+use Rattle.std.specs.Prelude.{◌≡◌, Bool, true, false, ◌&&◌, not, List, ℕ, zero, suc, ◌<◌, ℤ, pos, ltb, Ok, Some, slice_get}
 use Rattle.wire.specs.Rows.{in_row}
 use Rattle.block.specs.Record.{Function}
-use Rattle.block.specs.declared.Verdict.TheVariants as verdict
 use Rattle.block.specs.Encoding.{AreBytes}
 use Rattle.footprint.specs.Sets.{read_set}
 use Rattle.footprint.specs.Conflict.{member, strong_swap}
@@ -89,7 +86,7 @@ LeavesAlike n before before' (done outcome count after) b = EndsAlike n before b
 -- The receipt of a call in the serial run is what the rule leaves of it.
 pub record Receives (s : Sizes) (file : List ℕ) (workers call : ℕ) : Type 0 where
   pub left : Left
-  pub listed : get_elem? (rule_lefts file) call ≡ some left
+  pub listed : slice_get (rule_lefts file) call ≡ Some left
   pub ended : state_of (serial_run_of_file s file workers).status call ≡ finished
   pub outcome : status_word (serial_run_of_file s file workers).status call outcome_word ≡ left.outcome
   pub count : status_word (serial_run_of_file s file workers).status call count_word ≡ left.count
@@ -106,7 +103,7 @@ pub record Demand2 (s : Sizes) (file : List ℕ) (workers : ℕ) : Type 0 where
       → steps_taken (step_limit (call_of_block file call).fuel) (call_view s file workers call) (begun_call s file workers call cells) ≡ steps_for (rule_for file call σ)
   pub limit : (call : ℕ) → call < call_count file → (σ : State) → state_within_limit σ ≡ true → state_within_limit (rule_for file call σ).state ≡ true
   -- The rule's body of a function is its code, instruction by instruction.
-  pub bodies : (i : ℕ) (f : Function) → get_elem? (block_of file).functions i ≡ some f → (p : ℕ) → p < f.size → InstrOf file f p
+  pub bodies : (i : ℕ) (f : Function) → slice_get (block_of file).functions i ≡ Some f → (p : ℕ) → p < f.size → InstrOf file f p
   -- ".. and a block run in order": the serial run has the receipt that the rule gives each call behind those before it, and the cells of the
   -- state that the last one leaves.
   pub receipts : (call : ℕ) → call < call_count file → Receives s file workers call
@@ -117,7 +114,7 @@ pub record Demand2 (s : Sizes) (file : List ℕ) (workers : ℕ) : Type 0 where
   pub elsewhere : (k : ℕ) → member k (table_in (opened_in s file workers)) ≡ false
       → (opening_state file k ≡ pos 0) × (closing_state file k ≡ pos 0)
   -- "A call's steps are its entry, its counted instructions, and one for reaching the end", or by M-104 for running out of fuel: the number that the tally takes for it.
-  pub steps : (call : ℕ) (l : Left) → get_elem? (rule_lefts file) call ≡ some l → steps_in file workers call ≡ steps_for l
+  pub steps : (call : ℕ) (l : Left) → slice_get (rule_lefts file) call ≡ Some l → steps_in file workers call ≡ steps_for l
   -- "A call changes no cell outside its write set": after any number of steps, from any cells.
   pub frame : (call : ℕ) → call < call_count file → (cells : List ℤ) (k x : ℕ) → x < (opened_in s file workers).head.cells
       → may_write file (opened_in s file workers) call x ≡ false
@@ -134,4 +131,4 @@ pub record Demand2 (s : Sizes) (file : List ℕ) (workers : ℕ) : Type 0 where
 
 abbrev pub Demand2Holds : Type 0
 Demand2Holds =
-    (s : Sizes) (file : List ℕ) (workers : ℕ) → AreBytes file → (opening_of s file workers).answer ≡ verdict.Accepted → Demand2 s file workers
+    (s : Sizes) (file : List ℕ) (workers : ℕ) → AreBytes file → (opening_of s file workers).answer ≡ (Ok tt) → Demand2 s file workers

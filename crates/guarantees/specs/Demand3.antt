@@ -1,16 +1,15 @@
 -- Demand 3, sentence by sentence.
-use Rattle.std.specs.Prelude.{◌≡◌, true, false, List, ℕ, ◌+◌, ◌<◌, ◌≤◌, get_or}
+use Rattle.std.specs.Prelude.{◌≡◌, true, false, List, ℕ, ◌+◌, ◌<◌, ◌≤◌, get_or, Ok}
 use Rattle.schedule.specs.Tally.{waiting, running, finished, holds, is_finished, unfinished_earlier, Forward}
 use Rattle.schedule.specs.declared.Move.{Move}
 use Rattle.block.specs.Encoding.{AreBytes}
-use Rattle.block.specs.declared.Verdict.TheVariants as verdict
 use Rattle.machine.specs.Run.{Run, Sizes, held_at, state_of, status_word, outcome_word, count_word, wait_count}
 use Rattle.machine.specs.Opening.{opening_of}
 use Rattle.machine.specs.Step.{cell_at}
 use Rattle.machine.specs.Waits.{counted_waits}
 use Rattle.machine.specs.Moves.{local_of, begin_of, move_of, answers_of}
 use Rattle.machine.specs.ByRow.{begin_by_row}
-use Rattle.machine.specs.declared.Answer.TheVariants.{Accepted, CallUnfinished}
+use Rattle.machine.specs.declared.Answer.TheVariants.{CallUnfinished}
 use Rattle.sheet.specs.Sheet.{sheet_records, unwritten, written, sheet_of}
 use Rattle.guarantees.specs.BlockTally.{is_before, steps_in, tally_after, tally_answers}
 use Rattle.guarantees.specs.Agreement.{state_number, seat_number, opened_in, run_after_moves, steps_since, may_write, serial_run_of_file, finished_alone, serial_point_after, SameSheet}
@@ -37,7 +36,7 @@ pub record AtSerialPoint (s : Sizes) (file : List ℕ) (workers : ℕ) (ms : Lis
 pub record Forwards (s : Sizes) (file : List ℕ) (workers : ℕ) (ms : List Move) : Type 0 where
   pub next : Move
   pub forward : Forward next
-  pub accepted : (move_of file (run_after_moves s file workers ms) next).answer ≡ Accepted
+  pub accepted : (move_of file (run_after_moves s file workers ms) next).answer ≡ Ok tt
 
 -- "cells, receipts and the closing sheet .. equal the serial ones byte for byte"
 pub record Closes (s : Sizes) (file : List ℕ) (workers : ℕ) (ms : List Move) : Type 0 where
@@ -101,5 +100,5 @@ pub record Demand3 (s : Sizes) (file : List ℕ) (workers : ℕ) (ms : List Move
 -- every file, number of workers and set of lent buffers.
 abbrev pub Demand3Holds : Type 0
 Demand3Holds =
-    (s : Sizes) (file : List ℕ) (workers : ℕ) → AreBytes file → (opening_of s file workers).answer ≡ verdict.Accepted
+    (s : Sizes) (file : List ℕ) (workers : ℕ) → AreBytes file → (opening_of s file workers).answer ≡ Ok tt
     → (ms : List Move) → Demand3 s file workers ms

@@ -1,8 +1,6 @@
 -- Document 02, M-104, sentence by sentence: "If the count already equals the fuel when an instruction is due, that instruction doesn't run, all is restored and the outcome
 -- is 7, in a step of its own that counts nothing. Reaching the end needs no fuel." What fuel leaves of a transaction is said by the turns of the rule, which know nothing of it.
-use Rattle.std.specs.Prelude.{◌≡◌, true, false, List, ◌⊎◌, ℕ, ◌+◌, ◌*◌, ◌≤◌, ◌<◌, ℤ, leb, drop}
-use Rattle.std.proofs.Math.Option.{none, some}
-use Rattle.std.proofs.Math.ListN.{get_elem?}
+use Rattle.std.specs.Prelude.{◌≡◌, true, false, List, ◌⊎◌, ℕ, ◌+◌, ◌*◌, ◌≤◌, ◌<◌, ℤ, leb, drop, None, Some, slice_get, Ok}
 use Rattle.std.specs.Int.Signed.{lt_z}
 use Rattle.std.specs.Prelude.{if◌then◌else◌}
 use Rattle.block.specs.Key.{account_balance}
@@ -11,20 +9,19 @@ use Rattle.block.specs.Naming.{function_of}
 use Rattle.block.specs.Outcomes.{ended, out_of_fuel}
 use Rattle.block.specs.Record.{Function, head_bytes, call_record_bytes, call_of}
 use Rattle.block.specs.declared.Call.{Call}
-use Rattle.block.specs.declared.CallBody.TheVariants.{InRange}
 use Rattle.block.specs.declared.Instr.{Instr}
 use Rattle.block.specs.declared.Instr.TheVariants.{Jeq, Jlt}
 use Rattle.footprint.specs.SetsInWords.{instructions_of}
-use Rattle.rule.specs.Rule.{State, Result, before, over, settle, transaction}
+use Rattle.rule.specs.Rule.{State, BodyResult, before, over, settle, transaction}
 use Rattle.machine.specs.Run.{Run, place_in, count_in}
 use Rattle.machine.specs.Step.{View, broken, ending, damaged, done, restorable, restored, step_place, finish}
-use Rattle.machine.specs.Moves.{holds, held_by, stay, step_of}
+use Rattle.machine.specs.Moves.{held_by, stay, step_of}
 use Rattle.machine.specs.declared.Answer.TheVariants.{Damaged}
 use Rattle.guarantees.specs.Turns.{turned, entered, failed_with}
 
 -- A transaction that runs its function f: the function is known, and the sender has the value.
 pub record Runs (functions : List Function) (c : Call) (σ : State) (f : Function) : Type 0 where
-  pub known : function_of functions c ≡ some f
+  pub known : function_of functions c ≡ Some f
   pub enough : lt_z (σ (account_balance c.sender)) c.value ≡ false
 
 -- After `count` turns, each of which counted 1, it stands before a place of its code.
@@ -38,18 +35,18 @@ pub record Stands (block : List ℕ) (c : Call) (σ : State) (f : Function) (cou
 pub record Due (block : List ℕ) (c : Call) (σ : State) (f : Function) (count : ℕ) : Type 0 where
   pub at : Stands block c σ f count
   pub instr : Instr
-  pub due : get_elem? (instructions_of block f) at.place ≡ some instr
+  pub due : slice_get (instructions_of block f) at.place ≡ Some instr
 
 pub record Ended (block : List ℕ) (c : Call) (σ : State) (f : Function) (count : ℕ) : Type 0 where
   pub at : Stands block c σ f count
-  pub none_due : get_elem? (instructions_of block f) at.place ≡ none
+  pub none_due : slice_get (instructions_of block f) at.place ≡ None
 
 -- What the published rule leaves of a transaction that runs its function, by its turns and its fuel.
 pub record RuleFuel (block : List ℕ) (functions : List Function) (c : Call) (σ : State) (f : Function) : Type 0 where
   -- After as many turns as there is fuel the body is over, or its code has ended, or an instruction is due.
-  pub cases : ((r : Result) × (turned c.fuel c (instructions_of block f) (entered c σ) ≡ over r)) ⊎ (Ended block c σ f c.fuel ⊎ Due block c σ f c.fuel)
+  pub cases : ((r : BodyResult) × (turned c.fuel c (instructions_of block f) (entered c σ) ≡ over r)) ⊎ (Ended block c σ f c.fuel ⊎ Due block c σ f c.fuel)
   -- An instruction that ends the body within the fuel ends it as it would with any fuel: nothing else cuts a run short.
-  pub over_within : (k : ℕ) → k ≤ c.fuel → (r : Result) → turned k c (instructions_of block f) (entered c σ) ≡ over r
+  pub over_within : (k : ℕ) → k ≤ c.fuel → (r : BodyResult) → turned k c (instructions_of block f) (entered c σ) ≡ over r
       → transaction block functions c σ ≡ settle σ r
   -- "Reaching the end needs no fuel."
   pub end_within : (k : ℕ) → k ≤ c.fuel → (e : Ended block c σ f k)
@@ -110,7 +107,7 @@ pub record FuelHolds : Type 0 where
       → finish v saved out_of_fuel n cells
       ≡ (if restorable v.count v.entries then done out_of_fuel n (restored v.entries saved cells) else damaged)
   -- ".. is 20", and "nothing changes": of STEP on every lent run and block.
-  pub lent : (block : List ℕ) (r : Run) (worker call : ℕ) (c : Call) → held_by r worker ≡ holds call → ¬ (place_in r.seats worker ≡ 0)
-      → call_of (drop (r.head.first_call + call_record_bytes * call + head_bytes) block) ≡ InRange c
+  pub lent : (block : List ℕ) (r : Run) (worker call : ℕ) (c : Call) → held_by r worker ≡ Ok call → ¬ (place_in r.seats worker ≡ 0)
+      → call_of (drop (r.head.first_call + call_record_bytes * call + head_bytes) block) ≡ Some c
       → (c.fuel ≡ 0) ⊎ (c.fuel < count_in r.seats worker)
       → step_of block r worker ≡ stay r Damaged

@@ -1,11 +1,9 @@
 -- REGISTER by the tally: what it prints of an accepted block, from the file and the input alone. No run is mentioned but the serial one.
-use Rattle.std.specs.Prelude.{◌≡◌, Bool, true, false, ◌&&◌, List, [], ◌∷◌, ◌++◌, ℕ, zero, suc, eqb, take}
-use Rattle.std.proofs.Math.Option.{Option, none, some}
+use Rattle.std.specs.Prelude.{◌≡◌, Bool, true, false, ◌&&◌, List, [], ◌∷◌, ◌++◌, ℕ, zero, suc, eqb, take, None, Ok, Option, Some}
 use Rattle.std.specs.Prelude.{if◌then◌else◌}
 use Rattle.wire.specs.Decimal.{line_feed}
 use Rattle.block.specs.Limits.{max_workers}
 use Rattle.block.specs.Encoding.{AreBytes}
-use Rattle.block.specs.declared.Verdict.TheVariants as verdict
 use Rattle.text.specs.Lines.{refused_text}
 use Rattle.schedule.specs.Tally.{Tally, is_finished}
 use Rattle.schedule.specs.declared.Move.{Move}
@@ -36,16 +34,16 @@ lines_of input = lines_from Empty (take max_input input)
 -- Their moves.
 unfoldable pub moves_of : List (Option Move) → List Move
 moves_of [] = []
-moves_of (none ∷ ls) = moves_of ls
-moves_of (some m ∷ ls) = m ∷ moves_of ls
+moves_of (None ∷ ls) = moves_of ls
+moves_of (Some m ∷ ls) = m ∷ moves_of ls
 
 -- "A refused move prints `r`, its line from 1, its number .. A line in no such form .. moves nothing and prints `r`, its line, 0": of the
 -- lines from number n on, whose moves are answered by these numbers.
 unfoldable pub lines_text : ℕ → List (Option Move) → List ℕ → List ℕ
 lines_text n [] answers = []
-lines_text n (none ∷ ls) answers = refused_text n 0 ++ lines_text (next_number n) ls answers
-lines_text n (some m ∷ ls) [] = lines_text (next_number n) ls []
-lines_text n (some m ∷ ls) (a ∷ answers) = answer_text n a ++ lines_text (next_number n) ls answers
+lines_text n (None ∷ ls) answers = refused_text n 0 ++ lines_text (next_number n) ls answers
+lines_text n (Some m ∷ ls) [] = lines_text (next_number n) ls []
+lines_text n (Some m ∷ ls) (a ∷ answers) = answer_text n a ++ lines_text (next_number n) ls answers
 
 -- Whether the tally has the first n calls finished.
 unfoldable pub finished_below : Tally → ℕ → Bool
@@ -63,5 +61,5 @@ register_by_tally file ls =
 -- For every accepted block and every input: whatever the order of the moves, REGISTER prints what the tally and the serial run say.
 abbrev pub RegisterByTally : Type 0
 RegisterByTally =
-    (file input : List ℕ) → AreBytes file → (opening_of fixed_sizes file max_workers).answer ≡ verdict.Accepted
+    (file input : List ℕ) → AreBytes file → (opening_of fixed_sizes file max_workers).answer ≡ Ok tt
     → register_of file input ≡ register_by_tally file (lines_of input)

@@ -1,14 +1,12 @@
 -- The calls of a block by their numbers, as demand 2 names them.
-use Rattle.std.specs.Prelude.{List, ℕ, get_or}
+use Rattle.std.specs.Prelude.{List, ℕ, get_or, None, Option, Some}
 use Rattle.block.specs.declared.Call.{Call}
-use Rattle.block.specs.declared.CallBody.TheVariants.{OutOfRange, InRange}
-use Rattle.block.specs.declared.CallBody.{CallBody}
 use Rattle.block.specs.BlockOfFile.{block_of}
 
 -- A call as its record in the block has it; for a record out of range, which no opened block has, some call.
-unfoldable pub body_call : CallBody → Call
-body_call (InRange c) = c
-body_call OutOfRange =
+unfoldable pub body_call : Option Call → Call
+body_call (Some c) = c
+body_call None =
     record {
       sender = record { 0 = 0 };
       contract = record { 0 = 32768 };
@@ -23,7 +21,7 @@ body_call OutOfRange =
 
 -- The call at a place of a block's calls; behind the last, some call, which nothing is asked of.
 abbrev pub call_in : List Call → ℕ → Call
-call_in calls c = get_or calls c (body_call OutOfRange)
+call_in calls c = get_or calls c (body_call None)
 
 abbrev pub call_of_block : List ℕ → ℕ → Call
 call_of_block file call = call_in (block_of file).calls call

@@ -1,12 +1,10 @@
 -- The closing sheet's bytes by the tally: what is written of a block, from the file and the input alone, and that the next day opens from it. No
 -- run is mentioned but the serial one.
-use Rattle.std.specs.Prelude.{◌≡◌, List, [], ℕ}
-use Rattle.std.proofs.Math.Option.{Option}
+use Rattle.std.specs.Prelude.{◌≡◌, List, [], ℕ, Err, Ok, Option}
 use Rattle.std.specs.Prelude.{if◌then◌else◌}
 use Rattle.block.specs.Limits.{max_workers}
 use Rattle.block.specs.Encoding.{AreBytes}
 use Rattle.block.specs.declared.Refusal.{Refusal}
-use Rattle.block.specs.declared.Verdict.TheVariants as verdict
 use Rattle.schedule.specs.declared.Move.{Move}
 use Rattle.rule.specs.Rule.{State}
 use Rattle.block.specs.BlockOfFile.{call_count}
@@ -33,11 +31,11 @@ pub record OpensFrom (sheet : List ℕ) (σ : State) : Type 0 where
 
 pub record SheetByTally : Type 0 where
   -- For every accepted block and every input: whatever the order of the moves, what is written is what the tally and the serial run say.
-  pub accepted : (file input : List ℕ) → AreBytes file → (opening_of fixed_sizes file max_workers).answer ≡ verdict.Accepted
+  pub accepted : (file input : List ℕ) → AreBytes file → (opening_of fixed_sizes file max_workers).answer ≡ Ok tt
       → written_sheet file input ≡ sheet_by_tally file (lines_of input)
   -- Of a refused block nothing is written.
-  pub refused : (file input : List ℕ) (why : Refusal) → (opening_of fixed_sizes file max_workers).answer ≡ verdict.Refused why
+  pub refused : (file input : List ℕ) (why : Refusal) → (opening_of fixed_sizes file max_workers).answer ≡ Err why
       → written_sheet file input ≡ []
   -- From what is written the next day opens, with the state that the published rule leaves.
-  pub opens : (file input : List ℕ) → AreBytes file → (opening_of fixed_sizes file max_workers).answer ≡ verdict.Accepted
+  pub opens : (file input : List ℕ) → AreBytes file → (opening_of fixed_sizes file max_workers).answer ≡ Ok tt
       → (written_sheet file input ≡ [] → ⊥) → OpensFrom (written_sheet file input) (closing_state file)

@@ -1,7 +1,8 @@
 -- What a step needs of a lent run and block, by where its call stands: "a code stretch needed by the move .., or a count, place, .. cell number or
 -- instruction that the run or the block holds, needed by the move and outside its range above, or a balance needed by it below zero or passing
 -- 2^63 - 1". A step that ends its call needs `Ends`, one that ends it by 3 to 7 and so restores its cells needs `Restores`; `Demand1` says what these are.
-use Rattle.std.specs.Prelude.{◌≡◌, true, false, ◌||◌, List, ◌∷◌, ◌++◌, ℕ, ◌+◌, ◌-◌, ◌*◌, ◌≤◌, ◌<◌, ℤ, pos, ◌+ℤ◌, length, get_or, drop}
+use Rattle.block.specs.declared.address.Account.{Account}
+use Rattle.std.specs.Prelude.{◌≡◌, true, false, ◌||◌, List, ◌∷◌, ◌++◌, ℕ, ◌+◌, ◌-◌, ◌*◌, ◌≤◌, ◌<◌, ℤ, pos, ◌+ℤ◌, length, get_or, drop, None, Option, Some}
 use Rattle.std.specs.Int.Signed.{lt_z, le_z, non_neg}
 use Rattle.arith.specs.Balance.{largest}
 use Rattle.arith.specs.Exact.{signed}
@@ -13,9 +14,6 @@ use Rattle.block.specs.Instruction.{instr_bytes, decode}
 use Rattle.block.specs.Naming.{target_of, cell_key}
 use Rattle.block.specs.Record.{head_bytes, call_bytes, call_record_bytes}
 use Rattle.block.specs.declared.Call.{Call}
-use Rattle.block.specs.declared.Decoded.TheVariants.{Valid}
-use Rattle.block.specs.declared.Payee.{Payee}
-use Rattle.block.specs.declared.Payee.TheVariants.{To, Nobody}
 use Rattle.block.specs.declared.Instr.{Instr}
 use Rattle.block.specs.declared.Instr.TheVariants.{Stop, Throw, Set, Arg, Sender, Value, Add, Sub, Mul, Div, Get, Put, Bal, Pay, Jeq, Jlt}
 use Rattle.footprint.specs.Access.{Access, reading, writing, changing}
@@ -120,9 +118,9 @@ abbrev pub ReckonNeeds : (Restores : Type 0) → Reckoned → Type 0
 ReckonNeeds Restores x = (is_outside x || is_by_zero x) ≡ true → Restores
 
 -- "PAY with 5 if the amount is negative, the target no account, or the contract's balance lower", and M-101: to account 0 as for no account.
-abbrev pub PayNeeds : Run → (call : ℕ) → Call → (amount : ℤ) → (Restores : Type 0) → Payee → Type 0
-PayNeeds r call c amount Restores Nobody = Restores
-PayNeeds r call c amount Restores (To account) =
+abbrev pub PayNeeds : Run → (call : ℕ) → Call → (amount : ℤ) → (Restores : Type 0) → Option Account → Type 0
+PayNeeds r call c amount Restores None = Restores
+PayNeeds r call c amount Restores (Some account) =
     (non_neg amount ≡ false → Restores)
     × (non_neg amount ≡ true → TransferNeeds r call (contract_balance c.contract) (account_balance account) amount Restores)
 
@@ -170,7 +168,7 @@ pub record EntryNeeds (r : Run) (call : ℕ) (c : Call) (Ends : Type 0) : Type 0
 pub record DueNeeds (block : List ℕ) (r : Run) (worker call : ℕ) (c : Call) (Ends Restores : Type 0) : Type 0 where
   pub stretch : plan_word r.plan call code_start + instr_bytes * (code_in r call - 1) ≤ length block
   pub instr : Instr
-  pub valid : decode (code_in r call - 1) (drop (plan_word r.plan call code_start + instr_bytes * (place_on r worker - 1)) block) ≡ Valid instr
+  pub valid : decode (code_in r call - 1) (drop (plan_word r.plan call code_start + instr_bytes * (place_on r worker - 1)) block) ≡ Some instr
   pub needs : InstrNeeds r call c (regs_in r.frames worker) Ends Restores instr
 
 -- M-104: "In a step behind the entry, a lent fuel of zero or a count above the fuel is 20." "At place = length: outcome 0."; "If the count already equals

@@ -1,6 +1,5 @@
 -- The turns of the published rule, one instruction after another, whatever the fuel: where a body is after so many of them.
-use Rattle.std.specs.Prelude.{false, List, ℕ, zero, suc}
-use Rattle.std.proofs.Math.ListN.{get_elem?}
+use Rattle.std.specs.Prelude.{false, List, ℕ, zero, suc, slice_get}
 use Rattle.block.specs.Key.{account_balance, contract_balance}
 use Rattle.block.specs.declared.Call.{Call}
 use Rattle.block.specs.declared.Instr.{Instr}
@@ -10,7 +9,7 @@ use Rattle.machine.specs.Run.{zero_registers}
 -- Where a body is after so many turns.
 unfoldable pub turned : (turns : ℕ) → Call → List Instr → Course → Course
 turned zero c body x = x
-turned (suc turns) c body (before p ρ n σ) = turned turns c body (execute_at c p ρ n σ (get_elem? body p))
+turned (suc turns) c body (before p ρ n σ) = turned turns c body (execute_at c p ρ n σ (slice_get body p))
 turned (suc turns) c body (over r) = over r
 
 -- Where it is at first: behind the entry, at which the value has moved.

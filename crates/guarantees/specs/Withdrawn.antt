@@ -1,6 +1,5 @@
 -- Document 02, M-101, sentence by sentence: "From the new season account 0 marks withdrawn warrants, and no more money shall go there."
-use Rattle.std.specs.Prelude.{◌≡◌, Bool, true, false, ◌&&◌, List, [], ◌∷◌, ℕ, ◌+◌, ◌<◌, eqb, ℤ, pos, ◌-ℤ◌}
-use Rattle.std.proofs.Math.Option.{some}
+use Rattle.std.specs.Prelude.{◌≡◌, Bool, true, false, ◌&&◌, List, [], ◌∷◌, ℕ, ◌+◌, ◌<◌, eqb, ℤ, pos, ◌-ℤ◌, Ok, Some}
 use Rattle.std.specs.Int.Signed.{lt_z}
 use Rattle.std.specs.Prelude.{if◌then◌else◌}
 use Rattle.schedule.specs.declared.Move.{Move}
@@ -10,7 +9,6 @@ use Rattle.block.specs.Record.{Function}
 use Rattle.block.specs.declared.Call.{Call}
 use Rattle.block.specs.declared.Source.{Source}
 use Rattle.block.specs.declared.Instr.TheVariants.{Pay}
-use Rattle.block.specs.declared.Verdict.TheVariants as verdict
 use Rattle.block.specs.Encoding.{AreBytes}
 use Rattle.block.specs.Naming.{function_of, is_known, source_value}
 use Rattle.footprint.specs.Access.{changing, accesses}
@@ -32,7 +30,7 @@ use Rattle.guarantees.specs.Demand2.{rule_for, opening_state, closing_state}
 -- A PAY in a call whose source names account 0, whatever source that is: in the rule, in a step, and in the sets.
 pub record PaysNobody (c : Call) (x : ℕ) (target : Source) : Type 0 where
   -- "PAY to account 0 ends with outcome 5, as for a target that is no account": with any amount in any state; it counts 1.
-  pub rule : (p : ℕ) (ρ : List ℤ) (n : ℕ) (σ : State) → execute_at c p ρ n σ (some (Pay x target)) ≡ over (fails not_paid (n + 1))
+  pub rule : (p : ℕ) (ρ : List ℤ) (n : ℕ) (σ : State) → execute_at c p ρ n σ (Some (Pay x target)) ≡ over (fails not_paid (n + 1))
   pub step : (place : ℕ) (regs : List ℤ) → instr_action c place regs (Pay x target) ≡ doing regs (End not_paid)
   -- "Its balance no longer enters the write set of that PAY": the contract's own, read and written, is all that it uses.
   pub uses : accesses c (Pay x target) ≡ changing (contract_balance c.contract) ∷ []
@@ -64,10 +62,10 @@ pub record NoMoreTo0 (s : Sizes) (file : List ℕ) (workers : ℕ) : Type 0 wher
   pub written : (call : ℕ) → call < call_count file → member balance_of0 (write_set (sets_at file call)) ≡ paid_by0 file call
   -- "An account 0 that already holds money may still send it": where it has the value, the function runs, and the value has moved.
   pub sends : (call : ℕ) → call < call_count file → sent_by0 file call ≡ true
-      → (f : Function) → function_of (block_of file).functions (call_of_block file call) ≡ some f
+      → (f : Function) → function_of (block_of file).functions (call_of_block file call) ≡ Some f
       → (σ : State) → lt_z (σ balance_of0) (call_of_block file call).value ≡ false → rule_for file call σ ≡ run_function file (call_of_block file call) σ f
 
 abbrev pub WithdrawnHolds : Type 0
 WithdrawnHolds =
     ((c : Call) (x : ℕ) (target : Source) → source_value c target ≡ withdrawn → PaysNobody c x target)
-    × ((s : Sizes) (file : List ℕ) (workers : ℕ) → AreBytes file → (opening_of s file workers).answer ≡ verdict.Accepted → NoMoreTo0 s file workers)
+    × ((s : Sizes) (file : List ℕ) (workers : ℕ) → AreBytes file → (opening_of s file workers).answer ≡ (Ok tt) → NoMoreTo0 s file workers)

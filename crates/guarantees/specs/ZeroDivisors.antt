@@ -1,8 +1,6 @@
 -- Document 02, M-103, sentence by sentence: "DIV by zero shall end with outcome 6, restoring as 4 does, and 4 keeps only results out of range. The receipts carry
 -- the new code". Both outcomes are told by one law, over what an instruction reckons.
-use Rattle.std.specs.Prelude.{◌≡◌, Bool, true, false, not, List, ℕ, zero, suc, ◌+◌, ◌<◌, ℤ, pos, negsuc, neg_ℤ, ◌+ℤ◌, ◌-ℤ◌, ◌*ℤ◌}
-use Rattle.std.proofs.Math.Option.{some}
-use Rattle.std.proofs.Math.ListN.{get_elem?}
+use Rattle.std.specs.Prelude.{◌≡◌, Bool, true, false, not, List, ℕ, zero, suc, ◌+◌, ◌<◌, ℤ, pos, negsuc, neg_ℤ, ◌+ℤ◌, ◌-ℤ◌, ◌*ℤ◌, Some, slice_get}
 use Rattle.std.specs.Int.Signed.{lt_z}
 use Rattle.std.specs.Prelude.{if◌then◌else◌}
 use Rattle.arith.specs.Exact.{fits64, floor_by}
@@ -11,7 +9,6 @@ use Rattle.block.specs.Outcomes.{out_of_range, zero_divisor}
 use Rattle.block.specs.Naming.{function_of}
 use Rattle.block.specs.Record.{Function}
 use Rattle.block.specs.declared.Call.{Call}
-use Rattle.block.specs.declared.Decoded.TheVariants.{Valid}
 use Rattle.block.specs.declared.Instr.{Instr}
 use Rattle.block.specs.declared.Instr.TheVariants.{Stop, Throw, Set, Arg, Sender, Value, Add, Sub, Mul, Div, Get, Put, Bal, Pay, Jeq, Jlt}
 use Rattle.footprint.specs.SetsInWords.{instructions_of}
@@ -66,7 +63,7 @@ is_outside by_zero = false
 -- that instruction is due, with fuel left for it.
 pub record ComesTo (test : Reckoned → Bool) (block : List ℕ) (functions : List Function) (c : Call) (σ : State) : Type 0 where
   pub function : Function
-  pub known : function_of functions c ≡ some function
+  pub known : function_of functions c ≡ Some function
   pub enough : lt_z (σ (account_balance c.sender)) c.value ≡ false
   pub count : ℕ
   pub place : ℕ
@@ -74,7 +71,7 @@ pub record ComesTo (test : Reckoned → Bool) (block : List ℕ) (functions : Li
   pub state : State
   pub instr : Instr
   pub stands : turned count c (instructions_of block function) (entered c σ) ≡ before place regs count state
-  pub due : get_elem? (instructions_of block function) place ≡ some instr
+  pub due : slice_get (instructions_of block function) place ≡ Some instr
   pub fuelled : count < c.fuel
   pub tested : test (reckoned regs instr) ≡ true
 
@@ -82,13 +79,13 @@ pub record ComesTo (test : Reckoned → Bool) (block : List ℕ) (functions : Li
 pub record Tells (outcome : ℕ) (test : Reckoned → Bool) : Type 0 where
   -- In the published rule an instruction ends its call with the outcome where the test holds, whatever call and state, and counts 1; and nowhere else.
   pub rule : (c : Call) (p : ℕ) (ρ : List ℤ) (n : ℕ) (σ : State) (i : Instr) → test (reckoned ρ i) ≡ true
-      → execute_at c p ρ n σ (some i) ≡ over (fails outcome (n + 1))
-  pub rule_only : (c : Call) (p : ℕ) (ρ : List ℤ) (n : ℕ) (σ : State) (i : Instr) (m : ℕ) → execute_at c p ρ n σ (some i) ≡ over (fails outcome m)
+      → execute_at c p ρ n σ (Some i) ≡ over (fails outcome (n + 1))
+  pub rule_only : (c : Call) (p : ℕ) (ρ : List ℤ) (n : ℕ) (σ : State) (i : Instr) (m : ℕ) → execute_at c p ρ n σ (Some i) ≡ over (fails outcome m)
       → test (reckoned ρ i) ≡ true
   -- So does a step of the machine, in every lent run.
   pub step : (v : View) (place n : ℕ) (ρ cells : List ℤ) (i : Instr) → test (reckoned ρ i) ≡ true
-      → step_decoded v place n ρ cells (Valid i) ≡ ending outcome (n + 1)
-  pub step_only : (v : View) (place n : ℕ) (ρ cells : List ℤ) (i : Instr) (m : ℕ) → step_decoded v place n ρ cells (Valid i) ≡ ending outcome m
+      → step_decoded v place n ρ cells (Some i) ≡ ending outcome (n + 1)
+  pub step_only : (v : View) (place n : ℕ) (ρ cells : List ℤ) (i : Instr) (m : ℕ) → step_decoded v place n ρ cells (Some i) ≡ ending outcome m
       → test (reckoned ρ i) ≡ true
   -- "restoring": the step that ends so gives every cell of the write set its old value.
   pub restores : (v : View) (saved : List ℤ) (n : ℕ) (cells : List ℤ)

@@ -3,16 +3,15 @@
 use mathlib.Core.Path.{◌≡◌, refl, sym, ◌∙◌, subst}
 use mathlib.Core.Bool.{Bool, true, false}
 use mathlib.Core.List.{List, [], ◌∷◌, map}
-use mathlib.Core.Option.{Option, none, some}
 use Prim.Native.Nat.{ℕ, zero, suc, ◌+◌, ◌*◌, ◌^◌, ◌≤◌, ◌<◌, suc-le-suc}
 use native.Mathlib.Decide.{dec_lt, ℕ_discrete}
 use native.Mathlib.Omega.{arith}
 use borrow.Author.Tests.{eq-eqb, ne_eqb}
 use lib.Dec.{eqb}
 use lib.IntN.{ℤ, pos, ◌+ℤ◌, ◌-ℤ◌}
-use lib.ListN.{length, get_or, get_elem?, drop}
+use lib.ListN.{length, get_or, drop}
 use lib.Signed.{lt_z}
-use Rattle.std.specs.Prelude.{if◌then◌else◌}
+use Rattle.std.specs.Prelude.{if◌then◌else◌, None, Option, Some, slice_get}
 use Rattle.arith.proofs.IntegerLaws.{equal, sum, diff, lt_z_true, lt_z_false, non_neg_true}
 use Rattle.wire.specs.Bytes.{padded}
 use Rattle.block.specs.Limits.{max_call_keys, max_keys}
@@ -23,7 +22,6 @@ use Rattle.block.specs.Record.{Function, function_id, call_id, code_at}
 use Rattle.block.proofs.ReaderLaws as reader
 use Rattle.block.proofs.ReaderLaws.{FunctionSound}
 use Rattle.block.specs.declared.Call.{Call}
-use Rattle.block.specs.declared.Decoded.TheVariants.{Valid}
 use Rattle.block.specs.declared.Instr.{Instr}
 use Rattle.footprint.specs.Access.{Access, changing, writing, entry_accesses}
 use Rattle.footprint.proofs.SetAccessLaws.{drop_bytes, decode_sound, sets_used}
@@ -102,10 +100,10 @@ made_of file c o table room v few known small entries keys =
 
 -- A call of the function f, begun at a state that the old cells hold.
 module _ (file : List ℕ) (bytes : AreBytes file) (c : Call) (fits : CallBounded c) (fuelled : FuelInRange c.fuel) (f : Function) (sound : FunctionSound file f) (table : List ℕ)
-    (few : length table ≤ max_keys) (known : KeysInTable table (function_sets file c (some f))) (small : length (function_sets file c (some f)) ≤ max_call_keys)
+    (few : length table ≤ max_keys) (known : KeysInTable table (function_sets file c (Some f))) (small : length (function_sets file c (Some f)) ≤ max_call_keys)
     (room : ℕ) (start : State) (within : state_within_limit start ≡ true) (old : List ℤ) (first : Hold table start old) where
   abbrev es : List Access
-  es = function_sets file c (some f)
+  es = function_sets file c (Some f)
 
   abbrev view : View
   view = view_in file room table c f
@@ -114,7 +112,7 @@ module _ (file : List ℕ) (bytes : AreBytes file) (c : Call) (fits : CallBounde
   body = body_of f.size f.size (code_at file f.start f.size)
 
   made : MadeOf view table es
-  made = made_of file c (some f) table room view few known small refl refl
+  made = made_of file c (Some f) table room view few known small refl refl
 
   abbrev at : ℕ → List ℤ → ℕ → Local
   at place ρ n = rule_local view table es start old place ρ n
@@ -130,13 +128,13 @@ module _ (file : List ℕ) (bytes : AreBytes file) (c : Call) (fits : CallBounde
 
   -- ---- one step from an instruction
 
-  lawful_file : (p : ℕ) (i : Instr) → decode f.size (drop (f.start + instr_bytes * p) file) ≡ Valid i → InstrLawful (2 ^ 16) f.size i
+  lawful_file : (p : ℕ) (i : Instr) → decode f.size (drop (f.start + instr_bytes * p) file) ≡ Some i → InstrLawful (2 ^ 16) f.size i
   lawful_file p i e =
       subst (Decodes (InstrLawful (2 ^ 16) f.size)) e
       (decode_sound f.size (drop (f.start + instr_bytes * p) file) (drop_bytes (f.start + instr_bytes * p) file bytes))
 
   instr_step : (p : ℕ) (ρ : List ℤ) (n : ℕ) (σ : State) (cells : List ℤ) → p < f.size → n < c.fuel → Here σ cells
-      → Matches (execute_at c p ρ n σ (get_elem? body p)) (step_call view (at (p + 1) ρ n) cells)
+      → Matches (execute_at c p ρ n σ (slice_get body p)) (step_call view (at (p + 1) ρ n) cells)
   unfolding execute_at
   instr_step p ρ n σ cells l m now =
       let this : InstrOf file f p = instr_of file f sound p l in
@@ -153,21 +151,21 @@ module _ (file : List ℕ) (bytes : AreBytes file) (c : Call) (fits : CallBounde
       (record { same_outcome = refl; same_count = refl; hold = now.hold })
 
   any_step : (p : ℕ) (ρ : List ℤ) (n : ℕ) (σ : State) (cells : List ℤ) → p ≤ f.size → n < c.fuel → Here σ cells
-      → Matches (execute_at c p ρ n σ (get_elem? body p)) (step_call view (at (p + 1) ρ n) cells)
+      → Matches (execute_at c p ρ n σ (slice_get body p)) (step_call view (at (p + 1) ρ n) cells)
   unfolding execute_at
   any_step p ρ n σ cells l m now = go (dec_lt p f.size)
     where
-      go : Dec (p < f.size) → Matches (execute_at c p ρ n σ (get_elem? body p)) (step_call view (at (p + 1) ρ n) cells)
+      go : Dec (p < f.size) → Matches (execute_at c p ρ n σ (slice_get body p)) (step_call view (at (p + 1) ρ n) cells)
       go (yes less) = instr_step p ρ n σ cells less m now
       go (no not_less) = let e : p ≡ f.size = omega arith in rw (e, function_end file f sound) (end_step ρ n σ cells (omega arith) now)
 
   -- "If the count already equals the fuel when an instruction is due, that instruction doesn't run".
   last_step : (p : ℕ) (ρ : List ℤ) (σ : State) (cells : List ℤ) → p ≤ f.size → Here σ cells
-      → Matches (over (unfuelled c.fuel σ (get_elem? body p))) (step_call view (at (p + 1) ρ c.fuel) cells)
+      → Matches (over (unfuelled c.fuel σ (slice_get body p))) (step_call view (at (p + 1) ρ c.fuel) cells)
   unfolding unfuelled
   last_step p ρ σ cells l now = go (dec_lt p f.size)
     where
-      go : Dec (p < f.size) → Matches (over (unfuelled c.fuel σ (get_elem? body p))) (step_call view (at (p + 1) ρ c.fuel) cells)
+      go : Dec (p < f.size) → Matches (over (unfuelled c.fuel σ (slice_get body p))) (step_call view (at (p + 1) ρ c.fuel) cells)
       go (yes less) =
           rw (
             (instr_of file f sound p less).listed,
@@ -186,21 +184,21 @@ module _ (file : List ℕ) (bytes : AreBytes file) (c : Call) (fits : CallBounde
   unfolding run_body step_times steps_taken
   run zero p ρ n σ cells range all now =
       let spent : c.fuel ≡ n = omega arith in
-      let last : Matches (over (unfuelled n σ (get_elem? body p))) (step_call view (at (p + 1) ρ n) cells) =
-      subst (λ (m : ℕ). Matches (over (unfuelled m σ (get_elem? body p))) (step_call view (at (p + 1) ρ m) cells)) spent
+      let last : Matches (over (unfuelled n σ (slice_get body p))) (step_call view (at (p + 1) ρ n) cells) =
+      subst (λ (m : ℕ). Matches (over (unfuelled m σ (slice_get body p))) (step_call view (at (p + 1) ρ m) cells)) spent
       (last_step p ρ σ cells (omega (arith, range.within)) now) in
-      record { leaves = ended_there (step_call view (at (p + 1) ρ n) cells) last; steps = omega (arith, last_one start c p ρ n σ (get_elem? body p)) }
+      record { leaves = ended_there (step_call view (at (p + 1) ρ n) cells) last; steps = omega (arith, last_one start c p ρ n σ (slice_get body p)) }
     where
-      ended_there : (s : Stepped) → Matches (over (unfuelled n σ (get_elem? body p))) s
-          → LeavesAsRule table (settle start (unfuelled n σ (get_elem? body p))) s
+      ended_there : (s : Stepped) → Matches (over (unfuelled n σ (slice_get body p))) s
+          → LeavesAsRule table (settle start (unfuelled n σ (slice_get body p))) s
       ended_there damaged match = absurd match
       ended_there (more l' cells') match = absurd match
       ended_there (done outcome count cells') match = match
   run (suc left) p ρ n σ cells range all now =
       let next =
-      go (execute_at c p ρ n σ (get_elem? body p)) (step_call view (at (p + 1) ρ n) cells)
+      go (execute_at c p ρ n σ (slice_get body p)) (step_call view (at (p + 1) ρ n) cells)
       (any_step p ρ n σ cells (omega (arith, range.within)) (omega arith) now)
-      (step_lowers view (at (p + 1) ρ n) cells range) (turn_one start c p ρ n σ (get_elem? body p)) (run left) in
+      (step_lowers view (at (p + 1) ρ n) cells range) (turn_one start c p ρ n σ (slice_get body p)) (run left) in
       record { leaves = next.0; steps = next.1 }
     where
       go : (t : Course) (s : Stepped) → Matches t s → StepLowers view (at (p + 1) ρ n) s → OneMore start n t
@@ -313,7 +311,7 @@ module _ (file : List ℕ) (bytes : AreBytes file) (c : Call) (fits : CallBounde
       let next : Lowers view 0 0 1 0 = entry_leads view 0 0 (λ e. omega arith) refl (begun_ranged view (omega arith) fuelled) in
       run c.fuel 0 zero_registers 0 entered cells next.range (omega arith) now
 
-  entered_completes : Completes table (transaction_by file c start (some f)) (suc c.fuel) view (step_call view (at 0 zero_registers 0) old) 0
+  entered_completes : Completes table (transaction_by file c start (Some f)) (suc c.fuel) view (step_call view (at 0 zero_registers 0) old) 0
   unfolding transaction_by step_times steps_taken
   entered_completes = go (lt_z (pos 0) c.value) refl (lt_z (start (balance_key payer)) c.value) refl
     where
@@ -326,14 +324,14 @@ module _ (file : List ℕ) (bytes : AreBytes file) (c : Call) (fits : CallBounde
       go false none' true less = absurd (never_short none' less)
       go false none' false enough = rw (entry_passes none') (body_run old (passes_now none' enough))
 
-  known_function : CallCompletes table (transaction_by file c start (some f)) view old
-  known_function = by_entry table (transaction_by file c start (some f)) view old entered_completes
+  known_function : CallCompletes table (transaction_by file c start (Some f)) view old
+  known_function = by_entry table (transaction_by file c start (Some f)) view old entered_completes
 
 -- ---- the functions of a block
 
 abbrev OfSound : List ℕ → Option Function → Type 0
-OfSound file none = Unit {0}
-OfSound file (some f) = FunctionSound file f
+OfSound file None = Unit {0}
+OfSound file (Some f) = FunctionSound file f
 
 -- The function that a call names is one of them.
 found_sound : (file : List ℕ) (functions : List Function) (c : Call) → reader.EachAt (λ i f. FunctionSound file f) functions → OfSound file (function_of functions c)
@@ -341,16 +339,16 @@ unfolding function_of
 found_sound file [] c all = tt
 found_sound file (f ∷ fs) c all = go (eqb (function_id f) (call_id c)) (found_sound file fs c (λ i d h. all (suc i) d (suc-le-suc h)))
   where
-    go : (t : Bool) → OfSound file (function_of fs c) → OfSound file (if t then some f else function_of fs c)
+    go : (t : Bool) → OfSound file (function_of fs c) → OfSound file (if t then Some f else function_of fs c)
     go true rest = all 0 f (omega arith)
     go false rest = rest
 
 -- "unknown function, outcome 1"
 unknown_function_lem : (file : List ℕ) (c : Call) (table : List ℕ) (σ : State) (v : View) (cells : List ℤ) → v.code ≡ 0 → Hold table σ cells
-    → CallCompletes table (transaction_by file c σ none) v cells
+    → CallCompletes table (transaction_by file c σ None) v cells
 unfolding transaction_by step_times steps_taken step_call step_place step_entry concluded finish
 unknown_function_lem file c table σ v cells e first =
-    by_entry table (transaction_by file c σ none) v cells
+    by_entry table (transaction_by file c σ None) v cells
     (rw e (record { leaves = record { same_outcome = refl; same_count = refl; hold = first }; steps = refl }))
 
 -- A call of any accepted block, begun in cells that hold a state within the balance limit and stepped at most fuel plus 2 times, has ended: its
@@ -378,5 +376,5 @@ call_rule file bytes functions all c fits fuelled table few known small room σ 
 
     go : (o : Option Function) → OfSound file o → KeysInTable table (function_sets file c o) → length (function_sets file c o) ≤ max_call_keys
         → CallCompletes table (transaction_by file c σ o) (view_by o) cells
-    go none sound known' small' = unknown_function_lem file c table σ (view_by none) cells refl first
-    go (some f) sound known' small' = known_function file bytes c fits fuelled f sound table few known' small' room σ within cells first
+    go None sound known' small' = unknown_function_lem file c table σ (view_by None) cells refl first
+    go (Some f) sound known' small' = known_function file bytes c fits fuelled f sound table few known' small' room σ within cells first

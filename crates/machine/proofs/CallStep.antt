@@ -2,14 +2,13 @@
 use mathlib.Core.Path.{◌≡◌, ◌∙◌}
 use mathlib.Core.Bool.{true}
 use mathlib.Core.List.{List, map}
-use mathlib.Core.Option.{some}
 use Prim.Native.Nat.{ℕ, ◌+◌, ◌-◌, ◌*◌, ◌≤◌, ◌<◌}
 use native.Mathlib.Omega.{arith}
 use borrow.Author.Tests.{ne_eqb, le-leb, le-ltb}
 use lib.Dec.{eqb}
 use lib.IntN.{ℤ}
 use lib.ListN.{length, drop}
-use Rattle.std.specs.Prelude.{if◌then◌else◌}
+use Rattle.std.specs.Prelude.{if◌then◌else◌, Some}
 use Rattle.wire.specs.Bytes.{padded}
 use Rattle.block.specs.Limits.{max_call_keys, max_keys}
 use Rattle.block.specs.Outcomes.{ended, out_of_fuel}
@@ -17,7 +16,6 @@ use Rattle.block.specs.Instruction.{instr_bytes, decode}
 use Rattle.block.specs.Record.{Function}
 use Rattle.block.proofs.ReaderLaws.{FunctionSound}
 use Rattle.block.specs.declared.Call.{Call}
-use Rattle.block.specs.declared.Decoded.TheVariants.{Valid}
 use Rattle.block.specs.declared.Instr.{Instr}
 use Rattle.footprint.specs.Access.{Access, accesses}
 use Rattle.block.specs.Encoding.{AreBytes}
@@ -40,17 +38,17 @@ view_in file room table c f =
       call = c;
       start = f.start;
       code = f.size + 1;
-      count = length (function_sets file c (some f));
-      entries = map (entry_word table) (function_sets file c (some f));
+      count = length (function_sets file c (Some f));
+      entries = map (entry_word table) (function_sets file c (Some f));
       keys = padded room 0 (table_words table);
     }
 
 -- A call of the function f, begun at a state that the old cells hold.
 module _ (file : List ℕ) (bytes : AreBytes file) (c : Call) (fits : CallBounded c) (fuelled : FuelInRange c.fuel) (f : Function) (sound : FunctionSound file f) (table : List ℕ)
-    (few : length table ≤ max_keys) (known : KeysInTable table (function_sets file c (some f))) (small : length (function_sets file c (some f)) ≤ max_call_keys)
+    (few : length table ≤ max_keys) (known : KeysInTable table (function_sets file c (Some f))) (small : length (function_sets file c (Some f)) ≤ max_call_keys)
     (room : ℕ) (start : State) (within : state_within_limit start ≡ true) (old : List ℤ) (first : Hold table start old) where
   abbrev es : List Access
-  es = function_sets file c (some f)
+  es = function_sets file c (Some f)
 
   abbrev view : View
   view = view_in file room table c f
@@ -70,7 +68,7 @@ module _ (file : List ℕ) (bytes : AreBytes file) (c : Call) (fits : CallBounde
   body_step p ρ n cells within =
       rw (ne_eqb (p + 1) 0 (omega arith), ne_eqb c.fuel 0 (λ e. omega (arith, e, fuelled.0)), le-ltb c.fuel n within)
 
-  pub step_instr_lem : (p : ℕ) (ρ : List ℤ) (n : ℕ) (cells : List ℤ) (i : Instr) → p < f.size → n < c.fuel → decode f.size (drop (f.start + instr_bytes * p) file) ≡ Valid i
+  pub step_instr_lem : (p : ℕ) (ρ : List ℤ) (n : ℕ) (cells : List ℤ) (i : Instr) → p < f.size → n < c.fuel → decode f.size (drop (f.start + instr_bytes * p) file) ≡ Some i
       → step_call view (at (p + 1) ρ n) cells ≡ concluded view kept cells (perform_action view (p + 1) (n + 1) (accesses c i) (instr_action c (p + 1) ρ i) cells)
   unfolding step_instr step_decoded
   step_instr_lem p ρ n cells i l m e =

@@ -1,21 +1,19 @@
 -- The code of a function as its file has it: the rule's body and the sets take their instructions from the stretch, a step takes
 -- them from the file, and these are the same valid instructions, each covered by the sets.
+use Rattle.std.specs.Prelude.{None, Option, Some, slice_get}
 use mathlib.Core.Path.{◌≡◌, refl, sym, ap, ◌∙◌}
 use mathlib.Core.Bool.{Bool, true, false, false≢true}
 use mathlib.Core.List.{List, [], ◌∷◌}
-use mathlib.Core.Option.{none, some}
 use Prim.Native.Nat.{ℕ, zero, suc, ◌+◌, ◌*◌, ◌<◌}
 use native.Mathlib.Nat.{not-suc-le-zero, le_of_suc-le-suc, zero-add}
 use native.Mathlib.Omega.{arith}
-use lib.ListN.{length, get_or, get_elem?, drop}
+use lib.ListN.{length, get_or, drop}
 use lib.Seq.{get_or-drop, get_or-take, drop-drop}
 use Rattle.wire.specs.Bytes.{number}
 use Rattle.wire.proofs.BytesLaws.{read_same}
 use Rattle.block.specs.Instruction.{instr_bytes, decode, is_valid, first_invalid}
 use Rattle.block.specs.Record.{Function, code_at}
 use Rattle.block.proofs.ReaderLaws.{FunctionSound}
-use Rattle.block.specs.declared.Decoded.{Decoded}
-use Rattle.block.specs.declared.Decoded.TheVariants.{Valid, Invalid}
 use Rattle.block.specs.declared.Instr.{Instr}
 use Rattle.rule.specs.Rule.{with_instr, body_of}
 use Rattle.machine.specs.CallInRun.{InstrOf}
@@ -43,12 +41,12 @@ decode_same size s t h =
 -- The instruction at index p of a valid code, as its bytes s and the rule's body have it.
 record InstrAt (size : ℕ) (s : List ℕ) (p : ℕ) (body : List Instr) : Type 0 where
   instr : Instr
-  decoded : decode size (drop (instr_bytes * p) s) ≡ Valid instr
-  listed : get_elem? body p ≡ some instr
+  decoded : decode size (drop (instr_bytes * p) s) ≡ Some instr
+  listed : slice_get body p ≡ Some instr
 
-valid_instr : (d : Decoded) → is_valid d ≡ true → (i : Instr) × (d ≡ Valid i)
-valid_instr (Valid i) e = (i, refl)
-valid_instr Invalid e = absurd (false≢true e)
+valid_instr : (d : Option Instr) → is_valid d ≡ true → (i : Instr) × (d ≡ Some i)
+valid_instr (Some i) e = (i, refl)
+valid_instr None e = absurd (false≢true e)
 
 -- A code with no invalid instruction has a valid one, and then such a code again.
 valid_first : (left index size : ℕ) (s : List ℕ) → first_invalid (suc left) index size s ≡ index + suc left
@@ -61,7 +59,7 @@ valid_first left index size s h = go (is_valid (decode size s)) refl
     go true e = let f : first_invalid left (index + 1) size (drop instr_bytes s) ≡ index + suc left = rw (e, first_invalid) at h in (e, omega arith)
     go false e = let f : index ≡ index + suc left = rw (e, first_invalid) at h in absurd (omega arith)
 
-body_first : (d : Decoded) (i : Instr) (rest : List Instr) → d ≡ Valid i → with_instr d rest ≡ i ∷ rest
+body_first : (d : Option Instr) (i : Instr) (rest : List Instr) → d ≡ Some i → with_instr d rest ≡ i ∷ rest
 unfolding with_instr
 body_first d i rest e = rw e
 
@@ -72,16 +70,16 @@ unfolding body_of
 instr_at zero index size s t ok same p l = absurd (not-suc-le-zero l)
 instr_at (suc left) index size s t ok same zero l =
     let first = valid_instr (decode size s) (valid_first left index size s ok).0 in
-    let again : decode size t ≡ Valid first.0 = decode_same size t s (λ i h. same i (omega arith)) ∙ first.1 in
+    let again : decode size t ≡ Some first.0 = decode_same size t s (λ i h. same i (omega arith)) ∙ first.1 in
     record {
       instr = first.0;
       decoded = first.1;
-      listed = ap (λ (b : List Instr). get_elem? b 0) (body_first (decode size t) first.0 (body_of left size (drop instr_bytes t)) again);
+      listed = ap (λ (b : List Instr). slice_get b 0) (body_first (decode size t) first.0 (body_of left size (drop instr_bytes t)) again);
     }
 instr_at (suc left) index size s t ok same (suc p) l =
     let all = valid_first left index size s ok in
     let first = valid_instr (decode size s) all.0 in
-    let again : decode size t ≡ Valid first.0 = decode_same size t s (λ i h. same i (omega arith)) ∙ first.1 in
+    let again : decode size t ≡ Some first.0 = decode_same size t s (λ i h. same i (omega arith)) ∙ first.1 in
     let rest : InstrAt size (drop instr_bytes s) p (body_of left size (drop instr_bytes t)) =
     instr_at left (index + 1) size (drop instr_bytes s) (drop instr_bytes t) all.1
     (agree_drop instr_bytes (instr_bytes * left) t s (λ i h. same i (omega arith))) p (le_of_suc-le-suc l) in
@@ -92,7 +90,7 @@ instr_at (suc left) index size s t ok same (suc p) l =
           ap (λ (r : List ℕ). decode size r) (ap (λ (n : ℕ). drop n s) far ∙ sym (drop-drop (8 * p) 8 s))
           ∙ rest.decoded;
       listed =
-          ap (λ (b : List Instr). get_elem? b (suc p)) (body_first (decode size t) first.0 (body_of left size (drop instr_bytes t)) again)
+          ap (λ (b : List Instr). slice_get b (suc p)) (body_first (decode size t) first.0 (body_of left size (drop instr_bytes t)) again)
           ∙ rest.listed;
     }
 
@@ -104,12 +102,12 @@ body_length zero index size s t ok same = refl
 body_length (suc left) index size s t ok same =
     let all = valid_first left index size s ok in
     let first = valid_instr (decode size s) all.0 in
-    let again : decode size t ≡ Valid first.0 = decode_same size t s (λ i h. same i (omega arith)) ∙ first.1 in
+    let again : decode size t ≡ Some first.0 = decode_same size t s (λ i h. same i (omega arith)) ∙ first.1 in
     ap length (body_first (decode size t) first.0 (body_of left size (drop instr_bytes t)) again)
     ∙ ap suc (body_length left (index + 1) size (drop instr_bytes s) (drop instr_bytes t) all.1
     (agree_drop instr_bytes (instr_bytes * left) t s (λ i h. same i (omega arith))))
 
-past_end : {A : Type 0} (l : List A) (n : ℕ) → length l ≡ n → get_elem? l n ≡ none
+past_end : {A : Type 0} (l : List A) (n : ℕ) → length l ≡ n → slice_get l n ≡ None
 past_end [] n e = refl
 past_end (a ∷ l) zero e = absurd (omega arith)
 past_end (a ∷ l) (suc n) e = past_end l n (omega arith)
@@ -143,5 +141,5 @@ module _ (file : List ℕ) (f : Function) where
         body_length f.size 0 f.size (drop f.start file) (code_at file f.start f.size) (sound.valid ∙ sym (zero-add f.size)) stretch_agrees
 
     -- Behind the last there is none.
-    pub function_end : get_elem? (body_of f.size f.size (code_at file f.start f.size)) f.size ≡ none
+    pub function_end : slice_get (body_of f.size f.size (code_at file f.start f.size)) f.size ≡ None
     function_end = past_end (body_of f.size f.size (code_at file f.start f.size)) f.size function_body_length

@@ -3,7 +3,6 @@
 use mathlib.Core.Path.{◌≡◌, refl, sym, ap, ap₂, ◌∙◌, subst}
 use mathlib.Core.Bool.{Bool, true, false, ◌&&◌, ◌||◌, not, false≢true, and-false}
 use mathlib.Core.List.{List, [], ◌∷◌, ◌++◌, map}
-use mathlib.Core.Option.{Option, none, some}
 use Prim.Native.Nat.{ℕ, zero, suc, ◌+◌, ◌-◌, ◌*◌, ◌%◌, ◌≤◌, ◌<◌}
 use native.Mathlib.Nat.{not-suc-le-zero, le_of_suc-le-suc}
 use native.Mathlib.Omega.{arith}
@@ -11,7 +10,7 @@ use borrow.Author.Tests.{eqb-true, eqb-false, eq-eqb, ne_eqb, lt-ltb, le-leb}
 use lib.Dec.{eqb}
 use lib.ListN.{length, get_or, drop}
 use lib.Seq.{drop-drop}
-use Rattle.std.specs.Prelude.{if◌then◌else◌}
+use Rattle.std.specs.Prelude.{if◌then◌else◌, None, Option, Some}
 use Rattle.arith.proofs.ChoiceLaws.{neither, or_left, or_right}
 use Rattle.wire.specs.Bytes.{repeated, padded}
 use Rattle.wire.specs.Rows.{bit}
@@ -19,8 +18,6 @@ use Rattle.block.specs.Limits.{max_call_keys, max_keys}
 use Rattle.block.specs.Instruction.{instr_bytes, decode}
 use Rattle.block.specs.Record.{Function, code_at}
 use Rattle.block.specs.declared.Call.{Call}
-use Rattle.block.specs.declared.Decoded.{Decoded}
-use Rattle.block.specs.declared.Decoded.TheVariants.{Valid}
 use Rattle.block.specs.declared.Instr.{Instr}
 use Rattle.footprint.specs.Access.{Access, accesses, entry_accesses}
 use Rattle.footprint.specs.Sets.{merge_all, decoded_accesses, code_accesses, function_sets, read_set, write_set, access_keys}
@@ -36,7 +33,6 @@ use Rattle.footprint.proofs.EntryLaws.{InKeys, entry_cell_lem, entry_writes_lem}
 use Rattle.machine.proofs.CodeLaws.{stretch_decode}
 use Rattle.machine.specs.Run.{has_key}
 use Rattle.machine.specs.Step.{View, find_entry, lookup}
-use Rattle.machine.specs.declared.Lookup.TheVariants.{Cell, NoCell}
 
 -- ---- accesses that sets cover
 
@@ -125,7 +121,7 @@ module _ (file : List ℕ) (c : Call) (f : Function) where
   abbrev stretch : List ℕ
   stretch = code_at file f.start f.size
 
-  pub entry_covered : All (Covered (function_sets file c (some f))) (entry_accesses c)
+  pub entry_covered : All (Covered (function_sets file c (Some f))) (entry_accesses c)
   unfolding function_sets
   entry_covered =
       let own : List Access = entry_accesses c in
@@ -134,7 +130,7 @@ module _ (file : List ℕ) (c : Call) (f : Function) where
       (λ a h. covered_kept (merge_all [] own) code a (covered_merged [] own a h)) own (covered_self own)
 
   stretch_covered : (p : ℕ) → p < f.size
-      → All (Covered (function_sets file c (some f))) (decoded_accesses c (decode f.size (drop (instr_bytes * p) stretch)))
+      → All (Covered (function_sets file c (Some f))) (decoded_accesses c (decode f.size (drop (instr_bytes * p) stretch)))
   unfolding function_sets
   stretch_covered p l =
       let own : List Access = entry_accesses c in
@@ -143,16 +139,16 @@ module _ (file : List ℕ) (c : Call) (f : Function) where
       (decoded_accesses c (decode f.size (drop (instr_bytes * p) stretch)))
       (code_covered c f.size f.size stretch p l)
 
-  pub instr_covered : (p : ℕ) → p < f.size → (i : Instr) → decode f.size (drop (f.start + instr_bytes * p) file) ≡ Valid i
-      → All (Covered (function_sets file c (some f))) (accesses c i)
+  pub instr_covered : (p : ℕ) → p < f.size → (i : Instr) → decode f.size (drop (f.start + instr_bytes * p) file) ≡ Some i
+      → All (Covered (function_sets file c (Some f))) (accesses c i)
   instr_covered p l i e =
-      subst (λ (d : Decoded). All (Covered (function_sets file c (some f))) (decoded_accesses c d)) (stretch_decode file f p l ∙ e) (stretch_covered p l)
+      subst (λ (d : Option Instr). All (Covered (function_sets file c (Some f))) (decoded_accesses c d)) (stretch_decode file f p l ∙ e) (stretch_covered p l)
 
 -- No key stands twice in the sets of a call.
 pub sets_distinct : (file : List ℕ) (c : Call) (f : Option Function) → Distinct (access_keys (function_sets file c f))
 unfolding function_sets
-sets_distinct file c none = tt
-sets_distinct file c (some f) =
+sets_distinct file c None = tt
+sets_distinct file c (Some f) =
     merged_distinct (merge_all [] (entry_accesses c)) (code_accesses c f.size f.size (code_at file f.start f.size))
     (merged_distinct [] (entry_accesses c) tt)
 
@@ -265,7 +261,7 @@ module _ (room : ℕ) (table : List ℕ) (few : length table ≤ max_keys) (a : 
 
   -- A covered access is found at its key's number.
   find_covered : (es : List Access) → Distinct (access_keys es) → KeysInTable table es → Covered es a
-      → find_entry words (map (entry_word table) es) a ≡ Cell (cell_number table a.key)
+      → find_entry words (map (entry_word table) es) a ≡ Some (cell_number table a.key)
   unfolding find_entry member read_set write_set
   find_covered [] d known h = absurd (false≢true h.key)
   find_covered (e ∷ es) d known h =
@@ -274,13 +270,13 @@ module _ (room : ℕ) (table : List ℕ) (few : length table ≤ max_keys) (a : 
       rw (entry_cell_lem table e, lt-ltb (cell_number table e.key) max_keys (omega arith), has_key_lem room table e.key a.key m)
       (go (eqb e.key a.key) refl (find_covered es d.1 (in_rest table e es known)))
     where
-      go : (b : Bool) → eqb e.key a.key ≡ b → (Covered es a → find_entry words (map (entry_word table) es) a ≡ Cell (cell_number table a.key))
+      go : (b : Bool) → eqb e.key a.key ≡ b → (Covered es a → find_entry words (map (entry_word table) es) a ≡ Some (cell_number table a.key))
           → (if b
           then (if (not a.reads || entry_reads (entry_word table e)) && (not a.writes || entry_writes (entry_word table e))
-          then Cell (cell_number table e.key)
-          else NoCell)
+          then Some (cell_number table e.key)
+          else None)
           else find_entry words (map (entry_word table) es) a)
-          ≡ Cell (cell_number table a.key)
+          ≡ Some (cell_number table a.key)
       go true same ih =
           let is : e.key ≡ a.key = eqb-true e.key a.key same in
           let alone : member a.key (access_keys es) ≡ false = rw is at d.0 in
@@ -299,7 +295,7 @@ module _ (room : ℕ) (table : List ℕ) (few : length table ≤ max_keys) (a : 
 pub lookup_covered : (v : View) (room : ℕ) (table : List ℕ) (es : List Access) (a : Access)
     → v.count ≤ max_call_keys → v.keys ≡ padded room 0 (table_words table) → v.entries ≡ map (entry_word table) es → length table ≤ max_keys
     → Distinct (access_keys es) → KeysInTable table es → Covered es a
-    → lookup v a ≡ Cell (cell_number table a.key)
+    → lookup v a ≡ Some (cell_number table a.key)
 unfolding lookup
 lookup_covered v room table es a count keys entries few d known h =
     rw (le-leb v.count max_call_keys count, keys, entries) (find_covered room table few a es d known h)

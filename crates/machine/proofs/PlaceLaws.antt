@@ -8,14 +8,12 @@ use borrow.Author.Tests.{eqb-true, eqb-false}
 use lib.IntN.{ℤ}
 use lib.Dec.{eqb, leb, ltb}
 use lib.ListN.{length, drop}
-use Rattle.std.specs.Prelude.{if◌then◌else◌}
+use Rattle.std.specs.Prelude.{if◌then◌else◌, None, Option, Some}
 use Rattle.arith.proofs.ChoiceLaws.{if_all}
 use Rattle.block.specs.Instruction.{instr_bytes}
 use Rattle.block.proofs.DecodeLaws.{JumpsWithin, Decodes}
 use Rattle.block.proofs.DecodeOwn.{decode_within}
 use Rattle.block.specs.Outcomes.{thrown, out_of_fuel}
-use Rattle.block.specs.declared.Decoded.{Decoded}
-use Rattle.block.specs.declared.Decoded.TheVariants.{Valid, Invalid}
 use Rattle.block.specs.declared.Instr.{Instr}
 use Rattle.footprint.specs.Access.{Access, entry_accesses, accesses}
 use Rattle.machine.specs.Action.{instr_action, entry_action}
@@ -45,10 +43,10 @@ module _ (v : View) (place count : ℕ) (regs : List ℤ) (P : (List ℤ → Per
       tested (eqb v.code 0) _ _ (λ h. ends _ _ (omega arith) (omega arith)) (λ h. enters e (λ q. eqb-false v.code 0 h (sym q ∙ e)))
 
   module _ (some : ¬ (place ≡ 0)) (inside : ¬ (place ≡ v.code)) (fuelled : ¬ (count ≡ v.call.fuel)) where
-    decoded_each : (d : Decoded) → Decodes (JumpsWithin (v.code - 1)) d → P (λ cells. step_decoded v place count regs cells d)
+    decoded_each : (d : Option Instr) → Decodes (JumpsWithin (v.code - 1)) d → P (λ cells. step_decoded v place count regs cells d)
     unfolding step_decoded
-    decoded_each (Valid i) j = executes some inside fuelled i j
-    decoded_each Invalid j = breaks
+    decoded_each (Some i) j = executes some inside fuelled i j
+    decoded_each None j = breaks
 
     instr_each : P (λ cells. step_instr v place count regs cells)
     unfolding step_instr

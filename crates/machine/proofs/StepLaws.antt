@@ -1,4 +1,7 @@
 -- One step of a call: its range, how many steps it can still take at most, what an action that fits its place is, and what that leaves.
+use Rattle.arith.specs.declared.NoResult.TheVariants.{Overflow, ZeroDivisor}
+use Rattle.arith.specs.declared.NoResult.{NoResult}
+use Rattle.block.specs.declared.address.Account.{Account}
 use mathlib.Core.Path.{◌≡◌, refl, subst, ◌∙◌}
 use mathlib.Core.Bool.{Bool, true, ◌&&◌, not}
 use mathlib.Core.List.{List, [], ◌∷◌}
@@ -8,19 +11,15 @@ use lib.IntN.{ℤ, pos, ◌+ℤ◌}
 use lib.Signed.{lt_z, le_z, non_neg}
 use lib.ListN.{length, length-set}
 use Rattle.arith.specs.Balance.{largest}
-use Rattle.std.specs.Prelude.{if◌then◌else◌}
+use Rattle.std.specs.Prelude.{if◌then◌else◌, None, Option, Some, Err, Ok, Result}
 use Rattle.arith.proofs.ChoiceLaws.{if_all, by_test}
 use Rattle.arith.specs.Exact.{add_of, sub_of, mul_of, div_of}
 use Rattle.arith.specs.Compare.{eq_z}
-use Rattle.arith.specs.declared.Checked.{Checked}
-use Rattle.arith.specs.declared.Checked.TheVariants as checked
 use Rattle.block.specs.Key.{account_balance, contract_balance, is_balance}
 use Rattle.block.specs.Limits.{max_code, max_fuel}
 use Rattle.block.proofs.DecodeLaws.{JumpsWithin}
 use Rattle.block.specs.Outcomes.{balance_too_low, out_of_fuel, last_outcome, max_count}
 use Rattle.block.specs.declared.Call.{Call}
-use Rattle.block.specs.declared.Payee.{Payee}
-use Rattle.block.specs.declared.Payee.TheVariants.{To, Nobody}
 use Rattle.block.specs.declared.Instr.{Instr}
 use Rattle.block.specs.declared.Instr.TheVariants.{Stop, Throw, Set, Arg, Sender, Value, Add, Sub, Mul, Div, Get, Put, Bal, Pay, Jeq, Jlt}
 use Rattle.block.specs.Record.{argument}
@@ -32,8 +31,6 @@ use Rattle.machine.specs.Serial.{step_limit}
 use Rattle.machine.specs.declared.Action.{Action}
 use Rattle.machine.specs.declared.Next.{Next}
 use Rattle.machine.specs.declared.Next.TheVariants.{Go, End, Load, Store, Transfer}
-use Rattle.machine.specs.declared.Lookup.{Lookup}
-use Rattle.machine.specs.declared.Lookup.TheVariants.{Cell, NoCell}
 
 -- ---- range and steps left
 
@@ -139,18 +136,18 @@ module _ (v : View) (place count n : ℕ) (regs : List ℤ) (behind : Leads v pl
   assign_fits : (as' : List Access) (x : ℕ) (z : ℤ) → Fits as' (assign place regs x z)
   assign_fits as' x z = record { behind = behind; next = behind; registers = length-set regs x z }
 
-  checked_fits : (as' : List Access) (x : ℕ) (r : Checked) → Fits as' (checked_action place regs x r)
+  checked_fits : (as' : List Access) (x : ℕ) (r : Result ℤ NoResult) → Fits as' (checked_action place regs x r)
   unfolding checked_action
-  checked_fits as' x (checked.Value z) = assign_fits as' x z
-  checked_fits as' x checked.Overflow = does_fit as' _ (omega arith)
-  checked_fits as' x checked.ZeroDivisor = does_fit as' _ (omega arith)
+  checked_fits as' x (Ok z) = assign_fits as' x z
+  checked_fits as' x (Err Overflow) = does_fit as' _ (omega arith)
+  checked_fits as' x (Err ZeroDivisor) = does_fit as' _ (omega arith)
 
-  pay_fits : (c : Call) (amount : ℤ) (p : Payee) → Fits (pay_accesses c p) (pay_action regs amount p)
+  pay_fits : (c : Call) (amount : ℤ) (p : Option Account) → Fits (pay_accesses c p) (pay_action regs amount p)
   unfolding pay_action pay_accesses
-  pay_fits c amount (To account) =
-      does_fit (pay_accesses c (To account)) _
-      (if_all (NextFits v place count n (pay_accesses c (To account))) (non_neg amount) (λ e. (refl, refl, refl, omega arith)) (λ e. omega arith))
-  pay_fits c amount Nobody = does_fit (pay_accesses c Nobody) _ (omega arith)
+  pay_fits c amount (Some account) =
+      does_fit (pay_accesses c (Some account)) _
+      (if_all (NextFits v place count n (pay_accesses c (Some account))) (non_neg amount) (λ e. (refl, refl, refl, omega arith)) (λ e. omega arith))
+  pay_fits c amount None = does_fit (pay_accesses c None) _ (omega arith)
 
   pub entry_fits : (c : Call) → place ≡ 0 → Fits (entry_accesses c) (entry_action c regs)
   unfolding entry_accesses entry_action
@@ -212,29 +209,29 @@ module _ (v : View) (place count : ℕ) (regs : List ℤ) (range : Ranged v plac
   Low = PlaceLowers v place count regs
 
   module _ (n : ℕ) (on : Lowers v place count (place + 1) n) (regs' : List ℤ) (same : length regs' ≡ length regs) where
-    load_lowers : (x : ℕ) (a : Access) (found : Lookup) → Low (load_cell place n regs' x a cells found)
+    load_lowers : (x : ℕ) (a : Access) (found : Option ℕ) → Low (load_cell place n regs' x a cells found)
     unfolding load_cell
-    load_lowers x a NoCell = tt
-    load_lowers x a (Cell m) =
+    load_lowers x a None = tt
+    load_lowers x a (Some m) =
         if_all Low (is_balance a.key && not (non_neg (cell_at cells m))) (λ h. tt)
         (λ h. record { lowers = on; registers = length-set regs' x (cell_at cells m) ∙ same })
 
-    store_lowers : (z : ℤ) (found : Lookup) → Low (store_cell place n regs' z cells found)
+    store_lowers : (z : ℤ) (found : Option ℕ) → Low (store_cell place n regs' z cells found)
     unfolding store_cell
-    store_lowers z NoCell = tt
-    store_lowers z (Cell m) = record { lowers = on; registers = same }
+    store_lowers z None = tt
+    store_lowers z (Some m) = record { lowers = on; registers = same }
 
-    deposit_lowers : (amount : ℤ) (m : ℕ) (found : Lookup) → Low (deposit_cell place n regs' amount m cells found)
+    deposit_lowers : (amount : ℤ) (m : ℕ) (found : Option ℕ) → Low (deposit_cell place n regs' amount m cells found)
     unfolding deposit_cell
-    deposit_lowers amount m NoCell = tt
-    deposit_lowers amount m (Cell k) =
+    deposit_lowers amount m None = tt
+    deposit_lowers amount m (Some k) =
         if_all Low (non_neg (cell_at cells k) && le_z (cell_at cells k +ℤ amount) largest) (λ h. record { lowers = on; registers = same }) (λ h. tt)
 
-    transfer_lowers : (amount : ℤ) (short : ℕ) → short < out_of_fuel → (to : Access) (found : Lookup)
+    transfer_lowers : (amount : ℤ) (short : ℕ) → short < out_of_fuel → (to : Access) (found : Option ℕ)
         → Low (transfer_cells v place n regs' amount short to cells found)
     unfolding transfer_cells
-    transfer_lowers amount short few to NoCell = tt
-    transfer_lowers amount short few to (Cell m) =
+    transfer_lowers amount short few to None = tt
+    transfer_lowers amount short few to (Some m) =
         if_all Low (not (non_neg (cell_at cells m))) (λ h. tt) λ h.
         if_all Low (lt_z (cell_at cells m) amount) (λ h. (omega (arith, few), ranged_count on.range)) (λ h. deposit_lowers amount m (lookup v to))
 

@@ -1,5 +1,8 @@
 -- One step of a call does what one turn of the published rule does: a lemma for each thing that a place can do, and a clause for
 -- each instruction.
+use Rattle.arith.specs.declared.NoResult.TheVariants.{Overflow, ZeroDivisor}
+use Rattle.arith.specs.declared.NoResult.{NoResult}
+use Rattle.block.specs.declared.address.Account.{Account}
 use mathlib.Core.Path.{◌≡◌, refl, sym, ap, ◌∙◌, subst⁻¹}
 use mathlib.Core.Bool.{Bool, true, false, ◌&&◌, not, and-false}
 use mathlib.Core.List.{List, [], map}
@@ -9,20 +12,16 @@ use lib.IntN.{ℤ, pos}
 use lib.Dec.{ltb}
 use lib.ListN.{length, get_or, set}
 use lib.Signed.{lt_z, non_neg}
-use Rattle.std.specs.Prelude.{if◌then◌else◌}
+use Rattle.std.specs.Prelude.{if◌then◌else◌, Option, Some, Err, Ok, Result}
 use Rattle.arith.specs.Compare.{eq_z}
 use Rattle.arith.specs.Exact.{add_of, sub_of, mul_of, div_of}
 use Rattle.arith.proofs.IntegerLaws.{pos_part, neg_part, equal, lt_z_true, lt_z_false, ne_eq_z, eq_eq_z}
-use Rattle.arith.specs.declared.Checked.{Checked}
-use Rattle.arith.specs.declared.Checked.TheVariants as checked
 use Rattle.block.specs.Limits.{max_keys}
 use Rattle.block.specs.Key.{first_contract, is_balance, payee_of}
 use Rattle.block.proofs.KeyLaws.{payee_all}
 use Rattle.block.proofs.DecodeLaws.{CellSourcesFit, InstrFits}
 use Rattle.block.specs.Record.{argument}
 use Rattle.block.specs.declared.Call.{Call}
-use Rattle.block.specs.declared.Payee.{Payee}
-use Rattle.block.specs.declared.Payee.TheVariants.{To}
 use Rattle.block.specs.declared.Source.{Source}
 use Rattle.block.specs.declared.Instr.{Instr}
 use Rattle.block.specs.declared.Instr.TheVariants.{Stop, Throw, Set, Arg, Sender, Value, Add, Sub, Mul, Div, Get, Put, Bal, Pay, Jeq, Jlt}
@@ -46,7 +45,6 @@ use Rattle.machine.specs.CallInRun.{step_times, steps_taken, Hold, EndsAsRule, L
 use Rattle.machine.proofs.LookupLaws.{Covered, KeysInTable}
 use Rattle.machine.proofs.RestoreLaws.{restored_from}
 use Rattle.machine.proofs.HoldLaws.{Now, moved_cells, now_store, now_move, hold_back}
-use Rattle.machine.specs.declared.Lookup.TheVariants.{Cell}
 
 -- At most `fuel` steps from here lead to the call's end, with what the rule leaves; and they are the steps of the rule's body beyond a count of n.
 pub record Completes (table : List ℕ) (left : Left) (fuel : ℕ) (v : View) (s : Stepped) (n : ℕ) : Type 0 where
@@ -57,7 +55,7 @@ pub record Completes (table : List ℕ) (left : Left) (fuel : ℕ) (v : View) (s
 pub record MadeOf (v : View) (table : List ℕ) (es : List Access) : Type 0 where
   pub few : length table ≤ max_keys
   pub known : KeysInTable table es
-  pub found : (a : Access) → Covered es a → lookup v a ≡ Cell (cell_number table a.key)
+  pub found : (a : Access) → Covered es a → lookup v a ≡ Some (cell_number table a.key)
   pub able : restorable v.count v.entries ≡ true
   pub entries : v.entries ≡ map (entry_word table) es
 
@@ -174,12 +172,12 @@ module _ (v : View) (table : List ℕ) (es : List Access) (made : MadeOf v table
     unfolding concluded finish settle
     stop_match = record { same_outcome = refl; same_count = refl; hold = now.hold }
 
-    checked_match : (as' : List Access) (x : ℕ) (r : Checked)
+    checked_match : (as' : List Access) (x : ℕ) (r : Result ℤ NoResult)
         → Concludes (rule.assign_checked p ρ n σ x r) cells (perform_action v (p + 1) n as' (action.checked_action (p + 1) ρ x r) cells)
     unfolding rule.assign_checked action.checked_action perform
-    checked_match as' x (checked.Value value) = next_match (set ρ x value) σ cells now
-    checked_match as' x checked.Overflow = end_match out_of_range refl
-    checked_match as' x checked.ZeroDivisor = end_match zero_divisor refl
+    checked_match as' x (Ok value) = next_match (set ρ x value) σ cells now
+    checked_match as' x (Err Overflow) = end_match out_of_range refl
+    checked_match as' x (Err ZeroDivisor) = end_match zero_divisor refl
 
     -- A loaded value is the state's; a balance is not below zero.
     load_match : (x k : ℕ) → Covered es (reading k) → (is_balance k && not (non_neg (σ k))) ≡ false
@@ -199,11 +197,11 @@ module _ (v : View) (table : List ℕ) (es : List Access) (made : MadeOf v table
     -- ---- the instructions of a call
 
     module _ (c : Call) (in-range : CallBounded c) where
-      abbrev Pays : ℤ → Payee → Type 0
+      abbrev Pays : ℤ → Option Account → Type 0
       Pays amount payee = Concludes (transfer c p ρ n σ amount payee) cells (perform_action v (p + 1) n (pay_accesses c payee) (pay_action ρ amount payee) cells)
 
-      abbrev account : ℕ → Payee
-      account target = To (record { 0 = target })
+      abbrev account : ℕ → Option Account
+      account target = Some (record { 0 = target })
 
       pay_account : (amount : ℤ) (target : ℕ) → target < first_contract → Covered es (changing (balance_key c.contract.0)) → Covered es (writing (balance_key target))
           → Pays amount (account target)
@@ -233,7 +231,7 @@ module _ (v : View) (table : List ℕ) (es : List Access) (made : MadeOf v table
       pay_match : (amount : ℤ) (target : ℕ) → All (Covered es) (pay_accesses c (payee_of target)) → Pays amount (payee_of target)
       unfolding pay_accesses pay_action transfer perform
       pay_match amount target =
-          payee_all (λ (p : Payee). All (Covered es) (pay_accesses c p) → Pays amount p) target
+          payee_all (λ (p : Option Account). All (Covered es) (pay_accesses c p) → Pays amount p) target
           (λ other low covered. pay_account amount target low covered.0 covered.1.0) (λ covered. end_match 5 refl)
 
       -- The cell of GET and PUT is no balance.

@@ -1,17 +1,16 @@
 -- One place of a call: what it does, as a function of the call and the registers alone. The cells it names are those of
 -- `entry_accesses` and `accesses`, in their order.
-use Rattle.std.specs.Prelude.{Bool, List, ℕ, ◌+◌, ℤ, pos, get_or, set}
+use Rattle.arith.specs.declared.NoResult.TheVariants.{Overflow, ZeroDivisor}
+use Rattle.arith.specs.declared.NoResult.{NoResult}
+use Rattle.block.specs.declared.address.Account.{Account}
+use Rattle.std.specs.Prelude.{Bool, List, ℕ, ◌+◌, ℤ, pos, get_or, set, None, Option, Some, Err, Ok, Result}
 use Rattle.std.specs.Int.Signed.{lt_z, non_neg}
 use Rattle.block.specs.Outcomes.{ended, balance_too_low, thrown, out_of_range, not_paid, zero_divisor}
 use Rattle.std.specs.Prelude.{if◌then◌else◌}
 use Rattle.arith.specs.Exact.{add_of, sub_of, mul_of, div_of}
 use Rattle.arith.specs.Compare.{eq_z}
-use Rattle.arith.specs.declared.Checked.{Checked}
-use Rattle.arith.specs.declared.Checked.TheVariants as checked
 use Rattle.block.specs.Record.{argument}
 use Rattle.block.specs.declared.Call.{Call}
-use Rattle.block.specs.declared.Payee.{Payee}
-use Rattle.block.specs.declared.Payee.TheVariants.{To, Nobody}
 use Rattle.block.specs.declared.Instr.{Instr}
 use Rattle.block.specs.declared.Instr.TheVariants.{Stop, Throw, Set, Arg, Sender, Value, Add, Sub, Mul, Div, Get, Put, Bal, Pay, Jeq, Jlt}
 use Rattle.block.specs.Naming.{target_of}
@@ -34,15 +33,15 @@ abbrev pub assign : ℕ → List ℤ → ℕ → ℤ → Action
 assign place regs x v = doing (set regs x v) (Go (place + 1))
 
 -- x takes an exact result; "a result outside 64 signed bits .. with 4", and M-103: "DIV by zero shall end with outcome 6".
-unfoldable pub checked_action : ℕ → List ℤ → ℕ → Checked → Action
-checked_action place regs x (checked.Value v) = assign place regs x v
-checked_action place regs x checked.Overflow = doing regs (End out_of_range)
-checked_action place regs x checked.ZeroDivisor = doing regs (End zero_divisor)
+unfoldable pub checked_action : ℕ → List ℤ → ℕ → Result ℤ NoResult → Action
+checked_action place regs x (Ok v) = assign place regs x v
+checked_action place regs x (Err Overflow) = doing regs (End out_of_range)
+checked_action place regs x (Err ZeroDivisor) = doing regs (End zero_divisor)
 
 -- "PAY with 5 if the amount is negative, the target no account, or the contract's balance lower", and M-101: to account 0 "as for a target that is no account".
-unfoldable pub pay_action : List ℤ → ℤ → Payee → Action
-pay_action regs amount Nobody = doing regs (End not_paid)
-pay_action regs amount (To account) = doing regs (if non_neg amount then Transfer amount not_paid else End not_paid)
+unfoldable pub pay_action : List ℤ → ℤ → Option Account → Action
+pay_action regs amount None = doing regs (End not_paid)
+pay_action regs amount (Some account) = doing regs (if non_neg amount then Transfer amount not_paid else End not_paid)
 
 -- A jump: to the instruction if the test holds, else on.
 abbrev pub jump : ℕ → List ℤ → ℕ → Bool → Action

@@ -1,13 +1,10 @@
 -- A call of a block in a run that an opening has made: its view, its begin, and its steps to the end.
-use Rattle.std.specs.Prelude.{◌≡◌, true, List, map, ℕ, zero, suc, ◌+◌, ◌*◌, ◌≤◌, ℤ, length, get_or, drop}
-use Rattle.std.proofs.Math.Option.{some}
-use Rattle.std.proofs.Math.ListN.{get_elem?}
+use Rattle.std.specs.Prelude.{◌≡◌, true, List, map, ℕ, zero, suc, ◌+◌, ◌*◌, ◌≤◌, ℤ, length, get_or, drop, Some, slice_get}
 use Rattle.wire.specs.Bytes.{padded}
 use Rattle.block.specs.Limits.{max_keys}
 use Rattle.block.specs.Instruction.{instr_bytes, decode}
 use Rattle.block.specs.Record.{Function, code_at}
 use Rattle.block.specs.declared.Call.{Call}
-use Rattle.block.specs.declared.Decoded.TheVariants.{Valid}
 use Rattle.block.specs.declared.Instr.{Instr}
 use Rattle.footprint.specs.Sets.{sets_of}
 use Rattle.block.specs.Naming.{function_of}
@@ -21,8 +18,8 @@ use Rattle.machine.specs.Step.{View, Local, Stepped, damaged, more, done, cell_a
 -- The instruction at an index of a function: a step decodes it from the file, and the rule's body has it there.
 pub record InstrOf (file : List ℕ) (f : Function) (p : ℕ) : Type 0 where
   pub instr : Instr
-  pub decoded : decode f.size (drop (f.start + instr_bytes * p) file) ≡ Valid instr
-  pub listed : get_elem? (body_of f.size f.size (code_at file f.start f.size)) p ≡ some instr
+  pub decoded : decode f.size (drop (f.start + instr_bytes * p) file) ≡ Some instr
+  pub listed : slice_get (body_of f.size f.size (code_at file f.start f.size)) p ≡ Some instr
 
 -- The view of a call: its code as the function table has it, its sets as entries by the table of keys, which stands in a buffer of `room` words.
 abbrev pub made_view : (file : List ℕ) (room : ℕ) → List Function → (table : List ℕ) → Call → View

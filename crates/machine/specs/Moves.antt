@@ -4,14 +4,12 @@
 -- instruction that the run or the block holds, needed by the move and outside its range above, or a balance needed by it below zero or
 -- passing 2^63 - 1 (none after an opening and moves alone; kept old values are restored untested)." "Lowest number first, except that
 -- 20 for a value is tested where the test or the change first uses that value".
-use Rattle.std.specs.Prelude.{Bool, ◌||◌, not, List, [], ◌∷◌, ℕ, ◌+◌, ◌-◌, ◌*◌, eqb, leb, ltb, drop}
+use Rattle.std.specs.Prelude.{Bool, ◌||◌, not, List, [], ◌∷◌, ℕ, ◌+◌, ◌-◌, ◌*◌, eqb, leb, ltb, drop, None, Option, Some, Ok, Err, Result}
 use Rattle.footprint.specs.Plan.{code_start, code_length, key_count}
 use Rattle.std.specs.Prelude.{if◌then◌else◌}
 use Rattle.block.specs.Limits.{max_calls, max_code, max_workers}
 use Rattle.block.specs.Record.{head_bytes, call_record_bytes, call_of}
 use Rattle.block.specs.declared.Call.{Call}
-use Rattle.block.specs.declared.CallBody.{CallBody}
-use Rattle.block.specs.declared.CallBody.TheVariants.{InRange, OutOfRange}
 use Rattle.schedule.specs.declared.Move.{Move}
 use Rattle.schedule.specs.declared.Move.TheVariants.{Begin, Step, Cancel}
 use Rattle.machine.specs.Answer.{answer_number}
@@ -19,14 +17,14 @@ use Rattle.machine.specs.Run.{Run, sizes_of, large_enough, held_at, with_held, p
 use Rattle.machine.specs.Waits.{waits_lowerable, waits_lowered}
 use Rattle.machine.specs.Step.{View, Local, Stepped, damaged, more, done, restorable, saved_of, restored, step_call}
 use Rattle.machine.specs.declared.Answer.{Answer}
-use Rattle.machine.specs.declared.Answer.TheVariants.{Accepted, Damaged, NoWorker, NoCall, WorkerBusy, NotWaiting, EarlierUnfinished, WorkerIdle}
+use Rattle.machine.specs.declared.Answer.TheVariants.{Damaged, NoWorker, NoCall, WorkerBusy, NotWaiting, EarlierUnfinished, WorkerIdle}
 
 pub record Moved : Type 0 where
-  pub answer : Answer
+  pub answer : Result (Unit {0}) Answer
   pub run : Run
 
 abbrev pub stay : Run → Answer → Moved
-stay r a = record { answer = a; run = r }
+stay r a = record { answer = Err a; run = r }
 
 -- The number of keys of a call, and its entries.
 abbrev pub call_key_count : List ℕ → ℕ → ℕ
@@ -71,7 +69,7 @@ begin_checked waits r worker call =
     then stay r EarlierUnfinished
     else if not (restorable (call_key_count r.plan call) (own_entries r.plan call))
     then stay r Damaged
-    else record { answer = Accepted; run = begin_call r worker call }
+    else record { answer = Ok tt; run = begin_call r worker call }
 
 -- The number of calls, 22; the worker's held call, 23.
 unfoldable pub begin_by : (waits : Run → ℕ → Waits) → Run → ℕ → ℕ → Moved
@@ -121,7 +119,7 @@ unfoldable pub stepped : Run → ℕ → ℕ → Stepped → Moved
 stepped r worker call damaged = stay r Damaged
 stepped r worker call (more l cells) =
     record {
-      answer = Accepted;
+      answer = Ok tt;
       run =
           record {
             head = r.head;
@@ -138,7 +136,7 @@ stepped r worker call (done outcome count cells) =
     then stay r Damaged
     else
     record {
-      answer = Accepted;
+      answer = Ok tt;
       run =
           record {
             head = with_held r.head worker 0;
@@ -152,9 +150,9 @@ stepped r worker call (done outcome count cells) =
     }
 
 -- The call's record, whole in the lent block, its fields in their ranges.
-unfoldable pub step_record : List ℕ → Run → ℕ → ℕ → CallBody → Moved
-step_record block r worker call OutOfRange = stay r Damaged
-step_record block r worker call (InRange body) = stepped r worker call (step_call (view_of block r call body) (local_of r worker call) r.cells)
+unfoldable pub step_record : List ℕ → Run → ℕ → ℕ → Option Call → Moved
+step_record block r worker call None = stay r Damaged
+step_record block r worker call (Some body) = stepped r worker call (step_call (view_of block r call body) (local_of r worker call) r.cells)
 
 -- The place (entry, or 0 to the code's length), and the call's record; the count is tested with the record's fuel.
 unfoldable pub step_held : List ℕ → Run → ℕ → ℕ → Moved
@@ -169,7 +167,7 @@ cancel_held r worker call =
     if restorable (call_key_count r.plan call) (own_entries r.plan call)
     then
     record {
-      answer = Accepted;
+      answer = Ok tt;
       run =
           record {
             head = with_held r.head worker 0;
@@ -184,29 +182,25 @@ cancel_held r worker call =
     else stay r Damaged
 
 -- 20 for the run's sizes and numbers, 21, 26, and 20 for a held call that is none of the run: what STEP and CANCEL test first.
-pub data Held : Type 0 where
-  answered : Answer → Held
-  holds : ℕ → Held
-
-unfoldable pub held_by : Run → ℕ → Held
+unfoldable pub held_by : Run → ℕ → Result ℕ Answer
 held_by r worker =
     if not (large_enough (sizes_of r)) || eqb r.head.workers 0 || ltb max_workers r.head.workers
-    then answered Damaged
+    then Err Damaged
     else if leb r.head.workers worker
-    then answered NoWorker
+    then Err NoWorker
     else if eqb (held_at r.head worker) 0
-    then answered WorkerIdle
+    then Err WorkerIdle
     else if ltb max_calls r.head.calls || ltb r.head.calls (held_at r.head worker)
-    then answered Damaged
-    else holds (held_at r.head worker - 1)
+    then Err Damaged
+    else Ok (held_at r.head worker - 1)
 
-unfoldable pub step_for : List ℕ → Run → ℕ → Held → Moved
-step_for block r worker (answered a) = stay r a
-step_for block r worker (holds call) = step_held block r worker call
+unfoldable pub step_for : List ℕ → Run → ℕ → Result ℕ Answer → Moved
+step_for block r worker (Err a) = stay r a
+step_for block r worker (Ok call) = step_held block r worker call
 
-unfoldable pub cancel_for : Run → ℕ → Held → Moved
-cancel_for r worker (answered a) = stay r a
-cancel_for r worker (holds call) = cancel_held r worker call
+unfoldable pub cancel_for : Run → ℕ → Result ℕ Answer → Moved
+cancel_for r worker (Err a) = stay r a
+cancel_for r worker (Ok call) = cancel_held r worker call
 
 abbrev pub step_of : List ℕ → Run → ℕ → Moved
 step_of block r worker = step_for block r worker (held_by r worker)

@@ -1,20 +1,18 @@
 -- The opening: what the head and every lent buffer hold afterwards, accepted or refused.
-use Rattle.std.specs.Prelude.{◌||◌, not, List, ℕ, pos, eqb, ltb}
+use Rattle.std.specs.Prelude.{◌||◌, not, List, ℕ, pos, eqb, ltb, Err, Ok, Result}
 use Rattle.std.specs.Prelude.{if◌then◌else◌}
 use Rattle.wire.specs.Bytes.{repeated}
 use Rattle.block.specs.Limits.{max_workers}
 use Rattle.block.specs.Reader.{read_block}
 use Rattle.block.specs.declared.Refusal.{Refusal}
 use Rattle.block.specs.declared.Refusal.TheVariants.{Workers, Buffers}
-use Rattle.block.specs.declared.Verdict.{Verdict}
-use Rattle.block.specs.declared.Verdict.TheVariants as verdict
 use Rattle.footprint.specs.Plan.{Prepared, prepare_read}
 use Rattle.machine.specs.Run.{Run, Sizes, fixed_sizes, room_in, large_enough}
 use Rattle.machine.specs.Waits.{waits_set}
 use Rattle.machine.specs.declared.Head.{Head}
 
 pub record Opened : Type 0 where
-  pub answer : Verdict
+  pub answer : Result (Unit {0}) Refusal
   pub run : Run
 
 abbrev pub head_of : (workers calls cells start : ℕ) → Head
@@ -25,7 +23,7 @@ head_of workers calls cells start =
 unfoldable pub refused_run : Sizes → Refusal → Opened
 refused_run s why =
     record {
-      answer = verdict.Refused why;
+      answer = Err why;
       run =
           record {
             head = head_of 0 0 0 0;
@@ -39,11 +37,11 @@ refused_run s why =
     }
 
 -- Every call waits, with the number of the calls that it waits for, and no worker holds one.
-unfoldable pub open_prepared : Sizes → ℕ → Prepared → Verdict → Opened
-open_prepared s workers p (verdict.Refused why) = refused_run s why
-open_prepared s workers p verdict.Accepted =
+unfoldable pub open_prepared : Sizes → ℕ → Prepared → Result (Unit {0}) Refusal → Opened
+open_prepared s workers p (Err why) = refused_run s why
+open_prepared s workers p (Ok tt) =
     record {
-      answer = verdict.Accepted;
+      answer = Ok tt;
       run =
           record {
             head = head_of workers p.calls p.cells p.first_call;

@@ -1,6 +1,7 @@
 -- "A call, step by step": one step of one call. It depends on the view of the call, its local state and the cells, and on nothing
 -- else.
-use Rattle.std.specs.Prelude.{Bool, true, ◌&&◌, ◌||◌, not, List, [], ◌∷◌, ℕ, ◌+◌, ◌-◌, ◌*◌, ◌%◌, ℤ, pos, ◌+ℤ◌, ◌-ℤ◌, eqb, leb, ltb, length, get_or, drop, set}
+use Rattle.block.specs.declared.Instr.{Instr}
+use Rattle.std.specs.Prelude.{Bool, true, ◌&&◌, ◌||◌, not, List, [], ◌∷◌, ℕ, ◌+◌, ◌-◌, ◌*◌, ◌%◌, ℤ, pos, ◌+ℤ◌, ◌-ℤ◌, eqb, leb, ltb, length, get_or, drop, set, None, Option, Some}
 use Rattle.std.specs.Int.Signed.{lt_z, le_z, non_neg}
 use Rattle.std.specs.Prelude.{if◌then◌else◌}
 use Rattle.arith.specs.Balance.{largest}
@@ -8,8 +9,6 @@ use Rattle.block.specs.Limits.{max_call_keys, max_keys}
 use Rattle.block.specs.Key.{is_balance}
 use Rattle.block.specs.Instruction.{instr_bytes, decode}
 use Rattle.block.specs.declared.Call.{Call}
-use Rattle.block.specs.declared.Decoded.{Decoded}
-use Rattle.block.specs.declared.Decoded.TheVariants.{Valid, Invalid}
 use Rattle.footprint.specs.Access.{Access, reading, accesses, entry_accesses}
 use Rattle.machine.specs.Run.{has_key}
 use Rattle.footprint.specs.Plan.{entry_cell, entry_reads, entry_writes, entry_flags}
@@ -18,8 +17,6 @@ use Rattle.block.specs.Outcomes.{ended, unknown_function, thrown, out_of_fuel}
 use Rattle.machine.specs.declared.Action.{Action}
 use Rattle.machine.specs.declared.Next.{Next}
 use Rattle.machine.specs.declared.Next.TheVariants.{Go, End, Load, Store, Transfer}
-use Rattle.machine.specs.declared.Lookup.{Lookup}
-use Rattle.machine.specs.declared.Lookup.TheVariants.{Cell, NoCell}
 
 -- What no move changes of a call: its record, its code in the block (start, and length plus 1, or 0 if unknown), the number of
 -- its keys and its entries, and the table of keys.
@@ -54,17 +51,17 @@ pub data Stepped : Type 0 where
 
 -- The cell that a call's entries keep for a key, with the flags that the access wants; an entry that is looked at has a cell
 -- number of the table.
-unfoldable pub find_entry : List ℕ → List ℕ → Access → Lookup
-find_entry keys [] a = NoCell
+unfoldable pub find_entry : List ℕ → List ℕ → Access → Option ℕ
+find_entry keys [] a = None
 find_entry keys (e ∷ es) a =
     if not (ltb (entry_cell e) max_keys)
-    then NoCell
+    then None
     else if has_key keys (entry_cell e) a.key
-    then (if (not a.reads || entry_reads e) && (not a.writes || entry_writes e) then Cell (entry_cell e) else NoCell)
+    then (if (not a.reads || entry_reads e) && (not a.writes || entry_writes e) then Some (entry_cell e) else None)
     else find_entry keys es a
 
-unfoldable pub lookup : View → Access → Lookup
-lookup v a = if leb v.count max_call_keys then find_entry v.keys v.entries a else NoCell
+unfoldable pub lookup : View → Access → Option ℕ
+lookup v a = if leb v.count max_call_keys then find_entry v.keys v.entries a else None
 
 abbrev pub cell_at : List ℤ → ℕ → ℤ
 cell_at cells n = get_or cells n (pos 0)
@@ -91,21 +88,21 @@ restored (e ∷ es) (old ∷ saved) cells =
     restored es saved (if entry_writes e then set cells (entry_cell e) old else cells)
 
 -- A loaded value; of a balance, "below zero" is 20. `count` is the count with this place's own instruction.
-unfoldable pub load_cell : (place count : ℕ) → List ℤ → ℕ → Access → List ℤ → Lookup → Performed
-load_cell place count regs x a cells NoCell = broken
-load_cell place count regs x a cells (Cell n) =
+unfoldable pub load_cell : (place count : ℕ) → List ℤ → ℕ → Access → List ℤ → Option ℕ → Performed
+load_cell place count regs x a cells None = broken
+load_cell place count regs x a cells (Some n) =
     if is_balance a.key && not (non_neg (cell_at cells n))
     then broken
     else onward (place + 1) count (set regs x (cell_at cells n)) cells
 
-unfoldable pub store_cell : (place count : ℕ) → List ℤ → ℤ → List ℤ → Lookup → Performed
-store_cell place count regs value cells NoCell = broken
-store_cell place count regs value cells (Cell n) = onward (place + 1) count regs (set cells n value)
+unfoldable pub store_cell : (place count : ℕ) → List ℤ → ℤ → List ℤ → Option ℕ → Performed
+store_cell place count regs value cells None = broken
+store_cell place count regs value cells (Some n) = onward (place + 1) count regs (set cells n value)
 
 -- The amount leaves cell n and reaches another; there "a balance .. below zero or passing 2^63 - 1" is 20.
-unfoldable pub deposit_cell : (place count : ℕ) → List ℤ → ℤ → ℕ → List ℤ → Lookup → Performed
-deposit_cell place count regs amount n cells NoCell = broken
-deposit_cell place count regs amount n cells (Cell m) =
+unfoldable pub deposit_cell : (place count : ℕ) → List ℤ → ℤ → ℕ → List ℤ → Option ℕ → Performed
+deposit_cell place count regs amount n cells None = broken
+deposit_cell place count regs amount n cells (Some m) =
     if non_neg (cell_at cells m) && le_z (cell_at cells m +ℤ amount) largest
     then
     onward (place + 1) count regs
@@ -113,9 +110,9 @@ deposit_cell place count regs amount n cells (Cell m) =
     else broken
 
 -- The second cell is looked at only where the first holds enough.
-unfoldable pub transfer_cells : View → (place count : ℕ) → List ℤ → ℤ → ℕ → Access → List ℤ → Lookup → Performed
-transfer_cells v place count regs amount short to cells NoCell = broken
-transfer_cells v place count regs amount short to cells (Cell n) =
+unfoldable pub transfer_cells : View → (place count : ℕ) → List ℤ → ℤ → ℕ → Access → List ℤ → Option ℕ → Performed
+transfer_cells v place count regs amount short to cells None = broken
+transfer_cells v place count regs amount short to cells (Some n) =
     if not (non_neg (cell_at cells n))
     then broken
     else if lt_z (cell_at cells n) amount
@@ -147,9 +144,9 @@ step_entry v place regs cells =
     else perform_action v place 0 (entry_accesses v.call) (entry_action v.call regs) cells
 
 -- "Else one instruction runs and counts 1, also the one that fails."
-unfoldable pub step_decoded : View → (place count : ℕ) → (regs cells : List ℤ) → Decoded → Performed
-step_decoded v place count regs cells Invalid = broken
-step_decoded v place count regs cells (Valid i) =
+unfoldable pub step_decoded : View → (place count : ℕ) → (regs cells : List ℤ) → Option Instr → Performed
+step_decoded v place count regs cells None = broken
+step_decoded v place count regs cells (Some i) =
     perform_action v place (count + 1) (accesses v.call i) (instr_action v.call place regs i) cells
 
 -- The code stretch lies in the lent block, and its instruction at this place is valid; 20 otherwise.

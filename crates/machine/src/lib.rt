@@ -18,10 +18,9 @@ pub struct Head {
     pub held: [u16; MAX_WORKERS],
 }
 
-// What a move, or the closing sheet, answers. specs/Answer.antt has document 01's numbers.
+// Why a move, or the closing sheet, is refused. specs/Answer.antt has document 01's numbers.
 #[derive(Clone, Copy)]
 pub enum Answer {
-    Accepted,
     Damaged,
     NoWorker,
     NoCall,
@@ -50,11 +49,4 @@ pub enum Next {
 pub struct Action {
     pub next: Next,
     pub regs: [i64; REGISTERS],
-}
-
-// Where a call keeps a cell: its number, or nowhere with the flags that are wanted.
-#[derive(Clone, Copy)]
-pub enum Lookup {
-    Cell(usize),
-    NoCell,
 }

@@ -5,11 +5,20 @@ ghost use Rattle.machine.specs.Answer.{answer_number};
 use crate::Answer;
 
 // The number of an answer, 0 if the move is accepted.
-pub fn answer_number(answer: Answer) -> u64
+pub fn answer_number(answer: Result<(), Answer>) -> u64
     ensures { result ≡ answer_number answer }
 {
     match answer {
-        Answer::Accepted => 0,
+        Ok(()) => 0,
+        Err(why) => refused_number(why),
+    }
+}
+
+// The number of a refusal.
+pub fn refused_number(why: Answer) -> u64
+    ensures { result ≡ refused_number why }
+{
+    match why {
         Answer::Damaged => 20,
         Answer::NoWorker => 21,
         Answer::NoCall => 22,

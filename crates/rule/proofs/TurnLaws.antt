@@ -1,9 +1,12 @@
 -- What one turn of the published rule adds to a call's steps: an instruction, whatever it does, counts one, and so does the end behind the last
 -- one, or the end for want of fuel.
+use Rattle.arith.specs.declared.NoResult.TheVariants.{Overflow, ZeroDivisor}
+use Rattle.arith.specs.declared.NoResult.{NoResult}
+use Rattle.std.specs.Prelude.{None, Option, Some, Err, Ok}
+use Rattle.block.specs.declared.address.Account.{Account}
 use mathlib.Core.Path.{◌≡◌, refl}
 use mathlib.Core.Bool.{false, ◌||◌}
 use mathlib.Core.List.{List}
-use mathlib.Core.Option.{Option, none, some}
 use Prim.Native.Nat.{ℕ, zero, suc, ◌+◌}
 use native.Mathlib.Omega.{arith}
 use lib.Dec.{eqb}
@@ -12,18 +15,14 @@ use lib.ListN.{get_or}
 use lib.Signed.{lt_z, non_neg}
 use Rattle.arith.proofs.ChoiceLaws.{if_all}
 use Rattle.arith.specs.Exact.{add_of, sub_of, mul_of, div_of}
-use Rattle.arith.specs.declared.Checked.{Checked}
-use Rattle.arith.specs.declared.Checked.TheVariants as checked
 use Rattle.wire.specs.Rows.{bit}
 use Rattle.block.specs.Key.{contract_balance}
 use Rattle.block.specs.Outcomes.{out_of_range, zero_divisor, out_of_fuel}
 use Rattle.block.specs.declared.Call.{Call}
-use Rattle.block.specs.declared.Payee.{Payee}
-use Rattle.block.specs.declared.Payee.TheVariants.{To, Nobody}
 use Rattle.block.specs.declared.Instr.{Instr}
 use Rattle.block.specs.declared.Instr.TheVariants.{Stop, Throw, Set, Arg, Sender, Value, Add, Sub, Mul, Div, Get, Put, Bal, Pay, Jeq, Jlt}
 use Rattle.block.specs.Naming.{target_of}
-use Rattle.rule.specs.Rule.{State, Result, fails, Course, before, over, assign_checked, transfer, execute, execute_at, unfuelled, run_body, Left, settle}
+use Rattle.rule.specs.Rule.{State, BodyResult, fails, Course, before, over, assign_checked, transfer, execute, execute_at, unfuelled, run_body, Left, settle}
 
 -- The steps of a body that is over: its counted instructions, and one for reaching the end or for running out of fuel.
 abbrev pub body_steps : Left → ℕ
@@ -42,16 +41,16 @@ module _ (start : State) (c : Call) (p : ℕ) (ρ : List ℤ) (n : ℕ) (σ : St
   unfolding settle
   failed outcome e = rw e (omega arith)
 
-  checked_one : (x : ℕ) (v : Checked) → Ok (assign_checked p ρ (n + 1) σ x v)
+  checked_one : (x : ℕ) (v : Result ℤ NoResult) → Ok (assign_checked p ρ (n + 1) σ x v)
   unfolding assign_checked
-  checked_one x (checked.Value v) = refl
-  checked_one x checked.Overflow = failed out_of_range refl
-  checked_one x checked.ZeroDivisor = failed zero_divisor refl
+  checked_one x (Ok v) = refl
+  checked_one x (Err Overflow) = failed out_of_range refl
+  checked_one x (Err ZeroDivisor) = failed zero_divisor refl
 
-  transfer_one : (amount : ℤ) (payee : Payee) → Ok (transfer c p ρ (n + 1) σ amount payee)
+  transfer_one : (amount : ℤ) (payee : Option Account) → Ok (transfer c p ρ (n + 1) σ amount payee)
   unfolding transfer
-  transfer_one amount Nobody = failed 5 refl
-  transfer_one amount (To account) =
+  transfer_one amount None = failed 5 refl
+  transfer_one amount (Some account) =
       if_all Ok (non_neg amount) (λ e. if_all Ok (lt_z (σ (contract_balance c.contract)) amount) (λ f. failed 5 refl) (λ f. refl)) (λ e. failed 5 refl)
 
   execute_one : (i : Instr) → Ok (execute c p ρ (n + 1) σ i)
@@ -76,17 +75,17 @@ module _ (start : State) (c : Call) (p : ℕ) (ρ : List ℤ) (n : ℕ) (σ : St
   -- A turn of the rule is one step.
   pub turn_one : (i : Option Instr) → OneMore start n (execute_at c p ρ n σ i)
   unfolding execute_at settle
-  turn_one none = refl
-  turn_one (some i) = execute_one i
+  turn_one None = refl
+  turn_one (Some i) = execute_one i
 
   -- With no fuel left, the end is one step.
   pub last_one : (i : Option Instr) → OneMore start n (over (unfuelled n σ i))
   unfolding unfuelled settle
-  last_one none = refl
-  last_one (some i) = refl
+  last_one None = refl
+  last_one (Some i) = refl
 
 -- What has ended stays so.
-pub body_over : (turns : ℕ) (c : Call) (body : List Instr) (r : Result) → run_body turns c body (over r) ≡ r
+pub body_over : (turns : ℕ) (c : Call) (body : List Instr) (r : BodyResult) → run_body turns c body (over r) ≡ r
 unfolding run_body
 body_over zero c body r = refl
 body_over (suc turns) c body r = refl

@@ -1,23 +1,18 @@
 -- The published transaction rule: document 003, figure 1, over the instruction set of document 01. States are functions from keys to
 -- values; nothing here mentions a run, a step or a worker.
-use Rattle.std.specs.Prelude.{Bool, true, false, ◌||◌, List, [], ◌∷◌, map, ℕ, zero, suc, ◌+◌, ℤ, pos, ◌+ℤ◌, ◌-ℤ◌, eqb, get_or, drop, set}
-use Rattle.std.proofs.Math.Option.{Option, none, some}
+use Rattle.arith.specs.declared.NoResult.TheVariants.{Overflow, ZeroDivisor}
+use Rattle.arith.specs.declared.NoResult.{NoResult}
+use Rattle.block.specs.declared.address.Account.{Account}
+use Rattle.std.specs.Prelude.{Bool, true, false, ◌||◌, List, [], ◌∷◌, map, ℕ, zero, suc, ◌+◌, ℤ, pos, ◌+ℤ◌, ◌-ℤ◌, eqb, get_or, drop, set, None, Option, Some, slice_get, Err, Ok, Result}
 use Rattle.std.specs.Int.Signed.{lt_z, non_neg}
-use Rattle.std.proofs.Math.ListN.{get_elem?}
 use Rattle.block.specs.Outcomes.{ended, unknown_function, balance_too_low, thrown, out_of_range, not_paid, zero_divisor, out_of_fuel}
 use Rattle.std.specs.Prelude.{if◌then◌else◌}
 use Rattle.arith.specs.Exact.{add_of, sub_of, mul_of, div_of}
 use Rattle.arith.specs.Balance.{within_limit}
-use Rattle.arith.specs.declared.Checked.{Checked}
-use Rattle.arith.specs.declared.Checked.TheVariants as checked
 use Rattle.block.specs.Key.{key_of, account_balance, contract_balance, addresses}
 use Rattle.block.specs.Instruction.{instr_bytes, decode}
 use Rattle.block.specs.Record.{Function, argument, code_at}
 use Rattle.block.specs.declared.Call.{Call}
-use Rattle.block.specs.declared.Payee.{Payee}
-use Rattle.block.specs.declared.Payee.TheVariants.{To, Nobody}
-use Rattle.block.specs.declared.Decoded.{Decoded}
-use Rattle.block.specs.declared.Decoded.TheVariants.{Valid, Invalid}
 use Rattle.block.specs.declared.Instr.{Instr}
 use Rattle.block.specs.declared.Instr.TheVariants.{Stop, Throw, Set, Arg, Sender, Value, Add, Sub, Mul, Div, Get, Put, Bal, Pay, Jeq, Jlt}
 use Rattle.block.specs.Naming.{cell_key, target_of, function_of}
@@ -48,14 +43,14 @@ state_within_limit σ = within_limit (balances_in σ)
 
 -- ⟦S⟧: the body ends in a state, behind its last instruction or by STOP, or fails (the figure's ⊥) with an outcome; both with the number of
 -- executed instructions.
-pub data Result : Type 0 where
-  ends : State → (count : ℕ) (behind : Bool) → Result
-  fails : (outcome count : ℕ) → Result
+pub data BodyResult : Type 0 where
+  ends : State → (count : ℕ) (behind : Bool) → BodyResult
+  fails : (outcome count : ℕ) → BodyResult
 
 -- Where a body is: before an instruction, with registers, count and state; or at its result.
 pub data Course : Type 0 where
   before : (instr : ℕ) (regs : List ℤ) (count : ℕ) → State → Course
-  over : Result → Course
+  over : BodyResult → Course
 
 -- The value of a register.
 abbrev value : List ℤ → ℕ → ℤ
@@ -66,15 +61,15 @@ abbrev assign : ℕ → List ℤ → ℕ → State → ℕ → ℤ → Course
 assign p ρ n σ x v = before (p + 1) (set ρ x v) n σ
 
 -- x := an exact result, or failure: with 4 where it is outside 64 signed bits, by M-103 with 6 where the divisor is zero.
-unfoldable pub assign_checked : ℕ → List ℤ → ℕ → State → ℕ → Checked → Course
-assign_checked p ρ n σ x (checked.Value v) = assign p ρ n σ x v
-assign_checked p ρ n σ x checked.Overflow = over (fails out_of_range n)
-assign_checked p ρ n σ x checked.ZeroDivisor = over (fails zero_divisor n)
+unfoldable pub assign_checked : ℕ → List ℤ → ℕ → State → ℕ → Result ℤ NoResult → Course
+assign_checked p ρ n σ x (Ok v) = assign p ρ n σ x v
+assign_checked p ρ n σ x (Err Overflow) = over (fails out_of_range n)
+assign_checked p ρ n σ x (Err ZeroDivisor) = over (fails zero_divisor n)
 
 -- B.transfer(amount): failure with 5 where the amount is negative, B no account (or, by M-101, account 0: nobody is paid), or the contract's balance lower.
-unfoldable pub transfer : Call → ℕ → List ℤ → ℕ → State → ℤ → Payee → Course
-transfer c p ρ n σ amount Nobody = over (fails not_paid n)
-transfer c p ρ n σ amount (To account) =
+unfoldable pub transfer : Call → ℕ → List ℤ → ℕ → State → ℤ → Option Account → Course
+transfer c p ρ n σ amount None = over (fails not_paid n)
+transfer c p ρ n σ amount (Some account) =
     if non_neg amount
     then
     (if lt_z (σ (contract_balance c.contract)) amount
@@ -106,25 +101,25 @@ execute c p ρ n σ (Jlt x y to) = before (if lt_z (value ρ x) (value ρ y) the
 
 -- Behind the last instruction the body has ended.
 unfoldable pub execute_at : Call → ℕ → List ℤ → ℕ → State → Option Instr → Course
-execute_at c p ρ n σ none = over (ends σ n true)
-execute_at c p ρ n σ (some i) = execute c p ρ (n + 1) σ i
+execute_at c p ρ n σ None = over (ends σ n true)
+execute_at c p ρ n σ (Some i) = execute c p ρ (n + 1) σ i
 
 -- M-104: with no fuel left an instruction that is due "doesn't run", and the body fails with 7; "Reaching the end needs no fuel."
-unfoldable pub unfuelled : (count : ℕ) → State → Option Instr → Result
-unfuelled n σ none = ends σ n true
-unfuelled n σ (some i) = fails out_of_fuel n
+unfoldable pub unfuelled : (count : ℕ) → State → Option Instr → BodyResult
+unfuelled n σ None = ends σ n true
+unfuelled n σ (Some i) = fails out_of_fuel n
 
 -- The body with so much fuel left; each instruction takes 1 of it.
-unfoldable pub run_body : (fuel : ℕ) → Call → List Instr → Course → Result
-run_body zero c body (before p ρ n σ) = unfuelled n σ (get_elem? body p)
+unfoldable pub run_body : (fuel : ℕ) → Call → List Instr → Course → BodyResult
+run_body zero c body (before p ρ n σ) = unfuelled n σ (slice_get body p)
 run_body zero c body (over r) = r
-run_body (suc fuel) c body (before p ρ n σ) = run_body fuel c body (execute_at c p ρ n σ (get_elem? body p))
+run_body (suc fuel) c body (before p ρ n σ) = run_body fuel c body (execute_at c p ρ n σ (slice_get body p))
 run_body (suc fuel) c body (over r) = r
 
 -- The instructions of a code, from its bytes. In an accepted block every one is valid, and stands in the body at its index: `bodies` of `Demand2`.
-unfoldable pub with_instr : Decoded → List Instr → List Instr
-with_instr (Valid i) body = i ∷ body
-with_instr Invalid body = body
+unfoldable pub with_instr : Option Instr → List Instr → List Instr
+with_instr (Some i) body = i ∷ body
+with_instr None body = body
 
 unfoldable pub body_of : ℕ → ℕ → List ℕ → List Instr
 body_of zero size s = []
@@ -147,7 +142,7 @@ abbrev pub unbegun : State → (outcome : ℕ) → Left
 unbegun σ outcome = record { outcome = outcome; count = 0; behind = false; state = σ }
 
 -- [Tx1]: the body ended well, and its state stands. [Tx2]: it failed, and the state is as it was.
-unfoldable pub settle : State → Result → Left
+unfoldable pub settle : State → BodyResult → Left
 settle σ (ends σ' n behind) = record { outcome = ended; count = n; behind = behind; state = σ' }
 settle σ (fails outcome n) = record { outcome = outcome; count = n; behind = false; state = σ }
 
@@ -162,8 +157,8 @@ run_function block c σ f =
 
 -- ⟦A →n C : f(v)⟧σ. [Tx2] also where A's balance is below n; that the function may be unknown is document 01's addition: outcome 1.
 unfoldable pub transaction_by : List ℕ → Call → State → Option Function → Left
-transaction_by block c σ none = unbegun σ unknown_function
-transaction_by block c σ (some f) =
+transaction_by block c σ None = unbegun σ unknown_function
+transaction_by block c σ (Some f) =
     if lt_z (σ (account_balance c.sender)) c.value
     then unbegun σ balance_too_low
     else run_function block c σ f

@@ -1,5 +1,6 @@
 -- The offsets of a sheet's records: each is a head and a body, so its head says where the next one stands; a written sheet answers the one behind
 -- them all.
+use Rattle.machine.specs.declared.Answer.{Answer}
 use mathlib.Core.Path.{◌≡◌, refl, ap, ap₂, subst, subst⁻¹, ◌∙◌}
 use mathlib.Core.Bool.{Bool, true, false}
 use mathlib.Core.List.{List, [], ◌∷◌, ◌++◌, flatten}
@@ -9,7 +10,7 @@ use lib.Dec.{eqb}
 use lib.IntN.{ℤ}
 use lib.ListN.{length, get_or, take, drop, length-append}
 use lib.Seq.{take-append_seam, get_or-append_seam}
-use Rattle.std.specs.Prelude.{if◌then◌else◌}
+use Rattle.std.specs.Prelude.{if◌then◌else◌, Err, Ok, Result}
 use Rattle.arith.specs.Exact.{unsigned}
 use Rattle.arith.proofs.ChoiceLaws.{if_all}
 use Rattle.wire.specs.Bytes.{number, read_le, bytes_of}
@@ -21,8 +22,6 @@ use Rattle.machine.specs.Run.{Run, status_word}
 use Rattle.machine.specs.Step.{cell_at}
 use Rattle.sheet.specs.Sheet.{Closed, key_high, key_low, key_bytes, records_at, receipt_at, cell_records, receipt_records, sheet_records, sheet_bytes, record_offset, offset_behind, filled, sheet_of}
 use Rattle.sheet.specs.Offsets.{cells_before, receipts_before, bytes_before, record_at, offset_at, SheetOffsetsHold}
-use Rattle.sheet.specs.declared.Closing.{Closing}
-use Rattle.sheet.specs.declared.Closing.TheVariants.{Written, Refused}
 use Rattle.sheet.proofs.RecordLists.{joined_one, joined_append, behind_whole, offset_next, at_offset, lengths_none}
 use Rattle.sheet.proofs.SheetRecords.{cell_body_lem, receipt_body, end_length}
 use Rattle.sheet.proofs.SheetTests.{sheet_all}
@@ -160,9 +159,9 @@ module _ (r : Run) (output : List ℕ) where
       ∙ ap (λ (n : ℕ). offset_at r last + n) (ap length last_is ∙ end_length)
 
   -- What a written sheet answers and leaves.
-  abbrev Says : List ℕ → Closing → Type 0
-  Says left (Written n) = (n ≡ offset_behind rs) × (left ≡ sheet_bytes r ++ drop n output)
-  Says left (Refused a) = Unit {0}
+  abbrev Says : List ℕ → Result ℕ Answer → Type 0
+  Says left (Ok n) = (n ≡ offset_behind rs) × (left ≡ sheet_bytes r ++ drop n output)
+  Says left (Err a) = Unit {0}
 
   record Told (c : Closed) : Type 0 where
     says : Says c.output c.answer
@@ -175,7 +174,7 @@ module _ (r : Run) (output : List ℕ) where
   sheet_says : Told (sheet_of r output)
   sheet_says = sheet_all Told r output (λ a. record { says = tt }) (λ b. filled_says)
 
-  written : (n : ℕ) → (sheet_of r output).answer ≡ Written n → Says (sheet_of r output).output (Written n)
+  written : (n : ℕ) → (sheet_of r output).answer ≡ Ok n → Says (sheet_of r output).output (Ok n)
   written n e = subst (Says (sheet_of r output).output) e sheet_says.says
 
 pub sheet_offsets : SheetOffsetsHold

@@ -1,6 +1,6 @@
 -- Request M-102 of document 02, "Sheet offsets": the offset of each record of a sheet, by the sheet's own bytes, and what a sheet answers. That
 -- the writer carries these offsets from record to record is `Carried` of the crate `closing`.
-use Rattle.std.specs.Prelude.{◌≡◌, List, [], ◌++◌, ℕ, zero, suc, ◌+◌, ◌-◌, ◌<◌, ℤ, eqb, length, get_or, take, drop}
+use Rattle.std.specs.Prelude.{◌≡◌, List, [], ◌++◌, ℕ, zero, suc, ◌+◌, ◌-◌, ◌<◌, ℤ, eqb, length, get_or, take, drop, Ok}
 use Rattle.std.specs.Prelude.{if◌then◌else◌}
 use Rattle.arith.specs.Exact.{unsigned}
 use Rattle.wire.specs.Bytes.{read_le, bytes_of}
@@ -8,7 +8,6 @@ use Rattle.block.specs.Record.{head_bytes, recordOf, cell_kind, receipt_kind, en
 use Rattle.machine.specs.Run.{Run, status_word, outcome_word, count_word}
 use Rattle.machine.specs.Step.{cell_at}
 use Rattle.sheet.specs.Sheet.{key_high, key_low, key_bytes, sheet_records, sheet_bytes, record_offset, offset_behind, sheet_of}
-use Rattle.sheet.specs.declared.Closing.TheVariants.{Written}
 
 -- ---- the bytes before the request
 
@@ -50,12 +49,12 @@ pub record SheetOffsets (r : Run) (output : List ℕ) : Type 0 where
   -- Record k stands whole at its offset.
   pub stands : (k : ℕ) → k < length (sheet_records r) → take (length (record_at r k)) (drop (offset_at r k) (sheet_bytes r)) ≡ record_at r k
   -- "an accepted sheet answers the one behind its last record": the last is the end, which is a head alone; and it is the sheet's length.
-  pub answers : (n : ℕ) → (sheet_of r output).answer ≡ Written n → n ≡ offset_behind (sheet_records r)
+  pub answers : (n : ℕ) → (sheet_of r output).answer ≡ Ok n → n ≡ offset_behind (sheet_records r)
   pub end : record_at r (length (sheet_records r) - 1) ≡ recordOf end_kind []
   pub behind : offset_behind (sheet_records r) ≡ offset_at r (length (sheet_records r) - 1) + head_bytes
   pub whole : offset_behind (sheet_records r) ≡ length (sheet_bytes r)
   -- The sheet stands at the front of the output, and the bytes behind it are unchanged.
-  pub front : (n : ℕ) → (sheet_of r output).answer ≡ Written n → (sheet_of r output).output ≡ sheet_bytes r ++ drop n output
+  pub front : (n : ℕ) → (sheet_of r output).answer ≡ Ok n → (sheet_of r output).output ≡ sheet_bytes r ++ drop n output
 
 abbrev pub SheetOffsetsHold : Type 0
 SheetOffsetsHold = (r : Run) (output : List ℕ) → SheetOffsets r output

@@ -1,5 +1,5 @@
 -- "Closing sheet": its records and their offsets, its bytes, and the refusals 20, 27 and 28.
-use Rattle.std.specs.Prelude.{Bool, true, ◌&&◌, ◌||◌, not, ℕ, zero, suc, ◌+◌, ◌*◌, ◌/◌, ◌%◌, ◌^◌, ℤ, eqb, leb, ltb, length, get_or, take}
+use Rattle.std.specs.Prelude.{Bool, true, ◌&&◌, ◌||◌, not, ℕ, zero, suc, ◌+◌, ◌*◌, ◌/◌, ◌%◌, ◌^◌, ℤ, eqb, leb, ltb, length, get_or, take, Err, Ok, Result}
 use mathlib.Core.List.{List, [], ◌∷◌, ◌++◌, map, flatten, sum}
 use Rattle.std.specs.Int.Signed.{non_neg}
 use Rattle.std.specs.Prelude.{if◌then◌else◌}
@@ -9,24 +9,22 @@ use Rattle.block.specs.Limits.{max_calls, max_keys}
 use Rattle.block.specs.Record.{head_bytes, cell_bytes, receipt_bytes, recordOf, cell_kind, receipt_kind, end_kind}
 use Rattle.block.specs.Encoding.{Routine, function_record, call_record, records}
 use Rattle.block.specs.declared.Call.{Call}
-use Rattle.machine.specs.Answer.{answer_number}
+use Rattle.machine.specs.Answer.{refused_number}
 use Rattle.machine.specs.Run.{Run, sizes_of, large_enough, status_word, state_of, is_state, finished, outcome_word, count_word}
 use Rattle.block.specs.Outcomes.{last_outcome, max_count}
 use Rattle.machine.specs.Step.{cell_at}
 use Rattle.machine.specs.declared.Answer.{Answer}
 use Rattle.machine.specs.declared.Answer.TheVariants.{Damaged, CallUnfinished, SheetTooLong}
-use Rattle.sheet.specs.declared.Closing.{Closing}
-use Rattle.sheet.specs.declared.Closing.TheVariants.{Written, Refused}
 
 -- The number of a closing's answer; 0 stands for written.
-unfoldable pub closing_number : Closing → ℕ
-closing_number (Written n) = 0
-closing_number (Refused a) = answer_number a
+unfoldable pub closing_number : Result ℕ Answer → ℕ
+closing_number (Ok n) = 0
+closing_number (Err a) = refused_number a
 
 -- The length of a written sheet, which is the offset behind its last record; 0 stands for a refusal.
-unfoldable pub closing_length : Closing → ℕ
-closing_length (Written n) = n
-closing_length (Refused a) = 0
+unfoldable pub closing_length : Result ℕ Answer → ℕ
+closing_length (Ok n) = n
+closing_length (Err a) = 0
 
 -- The two words of a cell's key: address, field and a; then b.
 abbrev pub key_high : List ℕ → ℕ → ℕ
@@ -119,15 +117,15 @@ balances_allowed keys cells (suc n) =
 -- What the sheet's caller gets: the answer, and the output with the sheet at its front. "Bytes of the output behind the sheet are
 -- unchanged."
 pub record Closed : Type 0 where
-  pub answer : Closing
+  pub answer : Result ℕ Answer
   pub output : List ℕ
 
 abbrev pub unwritten : List ℕ → Answer → Closed
-unwritten output a = record { answer = Refused a; output = output }
+unwritten output a = record { answer = Err a; output = output }
 
 -- "an accepted sheet answers the one behind its last record"
 abbrev pub filled : List ℕ → List (List ℕ) → Closed
-filled output rs = record { answer = Written (offset_behind rs); output = stored output 0 (flatten rs) }
+filled output rs = record { answer = Ok (offset_behind rs); output = stored output 0 (flatten rs) }
 
 -- The last answers, of a run whose calls are finished and whose cells are in their ranges: 28, "sheet longer than the output buffer"; 20 for the
 -- receipts, which only the writing uses; or the sheet.

@@ -3,16 +3,8 @@
 
 use block::format::{CELL_BYTES, HEAD_BYTES, RECEIPT_BYTES};
 use block::limits::{MAX_CALLS, MAX_KEYS};
-use machine::Answer;
 
 // The longest sheet: its cells, its receipts and its end.
 pub const MAX_SHEET: usize = MAX_KEYS * (HEAD_BYTES + CELL_BYTES)
     + MAX_CALLS * (HEAD_BYTES + RECEIPT_BYTES)
     + HEAD_BYTES;
-
-// What the closing sheet answers: the offset behind its last record, which is its length, or why it is refused.
-#[derive(Clone, Copy)]
-pub enum Closing {
-    Written(usize),
-    Refused(Answer),
-}

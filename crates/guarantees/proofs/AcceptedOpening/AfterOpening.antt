@@ -1,4 +1,5 @@
 -- What holds of a run after an accepted opening.
+use Rattle.std.specs.Prelude.{Ok}
 use mathlib.Core.Path.{◌≡◌, refl, sym, ap, subst, subst⁻¹, ◌∙◌}
 use mathlib.Core.Bool.{true, ◌&&◌}
 use mathlib.Core.List.{List, [], map}
@@ -16,7 +17,6 @@ use Rattle.block.specs.Reader.{accepted, read_block}
 use Rattle.block.proofs.ReaderLaws.{EndsFile, opening_within}
 use Rattle.block.proofs.ReaderRight.{accepted_laws}
 use Rattle.block.specs.declared.Call.{Call}
-use Rattle.block.specs.declared.Verdict.TheVariants.{Accepted}
 use Rattle.footprint.specs.Access.{Access}
 use Rattle.footprint.specs.Conflict.{member, conflict}
 use Rattle.footprint.specs.Plan.{plans, table_words, opening_value}
@@ -168,7 +168,7 @@ record From (s : Sizes) (file : List ℕ) (workers : ℕ) (table : List ℕ) (r 
   is : r ≡ run_with s workers b sets table
 
 pub after_opening : (s : Sizes) (file : List ℕ) (workers : ℕ) → ((i : ℕ) → get_or file i 0 < 256)
-    → (opening_of s file workers).answer ≡ Accepted → AfterOpening s file workers
+    → (opening_of s file workers).answer ≡ (Ok tt) → AfterOpening s file workers
 after_opening s file workers bytes answer =
     let m : Made s file workers (opening_of s file workers) = opening_made s file workers answer in
     let r : Run = (opening_of s file workers).run in

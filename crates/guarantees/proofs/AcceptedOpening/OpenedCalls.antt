@@ -1,13 +1,14 @@
 -- What an opened run has of each call of its block: its record, its words in the plan, its view, and its function.
+use Rattle.std.proofs.lemmas.Option.{none-some}
+use Rattle.std.proofs.lemmas.Option.{same_Some}
 use mathlib.Core.Path.{◌≡◌, refl, sym, ap, subst, ◌∙◌}
 use mathlib.Core.Bool.{Bool, true, false}
 use mathlib.Core.List.{List, [], ◌∷◌, map}
-use mathlib.Core.Option.{Option, none, some, some-injective, none-ne-some}
 use Prim.Native.Nat.{ℕ, zero, suc, ◌+◌, ◌*◌, ◌≤◌, ◌<◌}
 use native.Mathlib.Omega.{arith}
 use lib.Dec.{eqb}
-use lib.ListN.{length, get_or, get_elem?, take, drop, length-map}
-use Rattle.std.specs.Prelude.{if◌then◌else◌}
+use lib.ListN.{length, get_or, take, drop, length-map}
+use Rattle.std.specs.Prelude.{if◌then◌else◌, None, Option, Some, slice_get}
 use Rattle.wire.specs.Bytes.{padded}
 use Rattle.wire.specs.All.{All}
 use Rattle.block.specs.Limits.{max_call_keys}
@@ -17,7 +18,6 @@ use Rattle.block.proofs.ReaderLaws.{EndsFile}
 use Rattle.block.proofs.BodyLaws.{call_fuel_most}
 use Rattle.block.specs.Encoding.{AreBytes}
 use Rattle.block.specs.declared.Call.{Call}
-use Rattle.block.specs.declared.CallBody.TheVariants.{InRange}
 use Rattle.footprint.specs.Access.{Access}
 use Rattle.footprint.specs.Sets.{function_sets, sets_of, access_keys}
 use Rattle.block.specs.Naming.{function_of}
@@ -47,9 +47,9 @@ pub record EntryPlaced (table : List ℕ) (e : Access) : Type 0 where
 
 -- Call c of the block is call j of the run, whose buffer of keys has `room` words.
 pub record CallOpened (file : List ℕ) (b : Block) (table : List ℕ) (room : ℕ) (r : Run) (j : ℕ) (c : Call) : Type 0 where
-  pub at : get_elem? b.calls j ≡ some c
+  pub at : slice_get b.calls j ≡ Some c
   -- Its record, within the file.
-  pub body : call_of (drop (b.first_call + call_record_bytes * j + head_bytes) file) ≡ InRange c
+  pub body : call_of (drop (b.first_call + call_record_bytes * j + head_bytes) file) ≡ Some c
   pub within : b.first_call + call_record_bytes * j + call_record_bytes ≤ length file
   -- "fuel .. 1 to 65,535"
   pub fuel : FuelInRange c.fuel
@@ -67,14 +67,14 @@ pub record CallOpened (file : List ℕ) (b : Block) (table : List ℕ) (room : �
   pub row : row_in r.plan j ≡ row_for (take j (all_sets file b)) (sets_of file b.functions c)
   pub view : view_of file r j c ≡ made_view file room b.functions table c
   -- The function that it names.
-  pub sound : (f : Function) → function_of b.functions c ≡ some f → reading.FunctionSound file f
+  pub sound : (f : Function) → function_of b.functions c ≡ Some f → reading.FunctionSound file f
 
 -- ---- places of lists
 
 -- The element at a place.
 record At {A : Type 0} (l : List A) (j : ℕ) : Type 0 where
   element : A
-  found : get_elem? l j ≡ some element
+  found : slice_get l j ≡ Some element
   same : get_or l j element ≡ element
 
 element_at : {A : Type 0} (l : List A) (j : ℕ) → j < length l → At l j
@@ -98,17 +98,17 @@ all_placed table (e ∷ es) all =
 
 function_distinct : (file : List ℕ) (c : Call) (f : Option Function) → Distinct (access_keys (function_sets file c f))
 unfolding function_sets
-function_distinct file c none = tt
-function_distinct file c (some f) = merged_distinct _ _ (merged_distinct [] _ tt)
+function_distinct file c None = tt
+function_distinct file c (Some f) = merged_distinct _ _ (merged_distinct [] _ tt)
 
 -- The function that a call names is one of the block's.
-function_of_lem : (P : Function → Type 0) (fs : List Function) (c : Call) (f : Function) → reading.EachAt (λ i g. P g) fs → function_of fs c ≡ some f → P f
+function_of_lem : (P : Function → Type 0) (fs : List Function) (c : Call) (f : Function) → reading.EachAt (λ i g. P g) fs → function_of fs c ≡ Some f → P f
 unfolding function_of
-function_of_lem P [] c f all e = absurd (none-ne-some f e)
+function_of_lem P [] c f all e = absurd (none-some f e)
 function_of_lem P (g ∷ fs) c f all e = go (eqb (function_id g) (call_id c)) e (function_of_lem P fs c f (λ i d h. all (suc i) d (omega arith)))
   where
-    go : (t : Bool) → (if t then some g else function_of fs c) ≡ some f → (function_of fs c ≡ some f → P f) → P f
-    go true h ih = subst P (some-injective g f h) (all 0 g (omega arith))
+    go : (t : Bool) → (if t then Some g else function_of fs c) ≡ Some f → (function_of fs c ≡ Some f → P f) → P f
+    go true h ih = subst P (same_Some g f h) (all 0 g (omega arith))
     go false h ih = ih h
 
 -- ---- a call of the run
@@ -118,7 +118,7 @@ module _ (file : List ℕ) (bytes : AreBytes file) (b : Block) (whole : EndsFile
     (r : Run) (size room : ℕ)
     (plan : r.plan ≡ padded size 0 (plans b.functions table [] b.calls (all_sets file b)))
     (keys : r.keys ≡ padded room 0 (table_words table)) where
-  module _ (j : ℕ) (less : j < length b.calls) (c : Call) (found : get_elem? b.calls j ≡ some c) (same : get_or b.calls j c ≡ c) where
+  module _ (j : ℕ) (less : j < length b.calls) (c : Call) (found : slice_get b.calls j ≡ Some c) (same : get_or b.calls j c ≡ c) where
     abbrev es : List Access
     es = sets_of file b.functions c
 
@@ -137,8 +137,8 @@ module _ (file : List ℕ) (bytes : AreBytes file) (b : Block) (whole : EndsFile
     inside : b.first_call + call_record_bytes * j + call_record_bytes ≤ length file
     inside = let end : b.first_call + call_record_bytes * length b.calls + 4 ≡ length file = whole.end in omega arith
 
-    record_of : call_of (drop (b.first_call + call_record_bytes * j + head_bytes) file) ≡ InRange c
-    record_of = whole.laws.calls j c less ∙ ap InRange same
+    record_of : call_of (drop (b.first_call + call_record_bytes * j + head_bytes) file) ≡ Some c
+    record_of = whole.laws.calls j c less ∙ ap Some same
 
     opened : CallOpened file b table room r j c
     opened =

@@ -1,5 +1,6 @@
 -- What an accepted opening went through: its tests passed, the file is a block, the analysis refused nothing, and the run is the one made
 -- of them. The other way, what passes them is accepted; and what a refused opening leaves.
+use Rattle.std.specs.Prelude.{Err, Ok, Result}
 use mathlib.Core.Path.{◌≡◌, refl, sym, ap}
 use mathlib.Core.Bool.{true, false, ◌||◌, not, false≢true}
 use mathlib.Core.List.{List, [], map}
@@ -17,8 +18,6 @@ use Rattle.block.specs.Record.{Block}
 use Rattle.block.specs.Reader.{Read, accepted, refused, read_block}
 use Rattle.block.specs.declared.Refusal.{Refusal}
 use Rattle.block.specs.declared.Refusal.TheVariants.{Workers, Buffers}
-use Rattle.block.specs.declared.Verdict.{Verdict}
-use Rattle.block.specs.declared.Verdict.TheVariants as verdict
 use Rattle.footprint.specs.Access.{Access}
 use Rattle.footprint.specs.Table as table
 use Rattle.footprint.specs.Table.{Analysis}
@@ -31,7 +30,7 @@ use Rattle.guarantees.specs.Demand1.{Large, Cleared}
 
 -- ---- the tests
 
-never : {A : Type 0} {why : Refusal} → verdict.Refused why ≡ verdict.Accepted → A
+never : {A : Type 0} {why : Refusal} → Err why ≡ (Ok tt) → A
 unfolding is_accepted
 never e = absurd (false≢true (ap is_accepted e))
 
@@ -71,7 +70,7 @@ sizes_large s l =
 abbrev pub prepared_with : Room → Block → List (List Access) → List ℕ → Prepared
 prepared_with r b sets keys =
     record {
-      verdict = verdict.Accepted;
+      verdict = Ok tt;
       calls = length b.calls;
       cells = length keys;
       first_call = b.first_call;
@@ -89,13 +88,13 @@ record Ready (r : Room) (file : List ℕ) (p : Prepared) : Type 0 where
   is : p ≡ prepared_with r block sets keys
 
 ready_analysed : (r : Room) (file : List ℕ) (b : Block) → read_block file ≡ accepted b → (a : Analysis) → analysis_of file b ≡ a
-    → (prepare_analysed r b a).verdict ≡ verdict.Accepted → Ready r file (prepare_analysed r b a)
+    → (prepare_analysed r b a).verdict ≡ (Ok tt) → Ready r file (prepare_analysed r b a)
 unfolding prepare_analysed unprepared
 ready_analysed r file b read (table.refused why) e h = never h
 ready_analysed r file b read (table.analysed sets keys) e h =
     record { block = b; sets = sets; keys = keys; read = read; analysis = e; is = refl }
 
-ready_read : (r : Room) (file : List ℕ) (g : Read) → read_block file ≡ g → (prepare_read r file g).verdict ≡ verdict.Accepted → Ready r file (prepare_read r file g)
+ready_read : (r : Room) (file : List ℕ) (g : Read) → read_block file ≡ g → (prepare_read r file g).verdict ≡ (Ok tt) → Ready r file (prepare_read r file g)
 unfolding prepare_read unprepared
 ready_read r file (refused why) e h = never h
 ready_read r file (accepted b) e h = ready_analysed r file b e (analysis_of file b) refl h
@@ -126,12 +125,12 @@ pub record Made (s : Sizes) (file : List ℕ) (workers : ℕ) (o : Opened) : Typ
   pub analysis : analysis_of file block ≡ table.analysed sets keys
   pub is : o.run ≡ run_with s workers block sets keys
 
-made_prepared : (s : Sizes) (file : List ℕ) (workers : ℕ) (p : Prepared) → (p.verdict ≡ verdict.Accepted → Ready (room_in s) file p)
-    → large_enough s ≡ true → 0 < workers → workers ≤ max_workers → (v : Verdict) → p.verdict ≡ v
-    → (open_prepared s workers p v).answer ≡ verdict.Accepted → Made s file workers (open_prepared s workers p v)
+made_prepared : (s : Sizes) (file : List ℕ) (workers : ℕ) (p : Prepared) → (p.verdict ≡ (Ok tt) → Ready (room_in s) file p)
+    → large_enough s ≡ true → 0 < workers → workers ≤ max_workers → (v : Result (Unit {0}) Refusal) → p.verdict ≡ v
+    → (open_prepared s workers p v).answer ≡ (Ok tt) → Made s file workers (open_prepared s workers p v)
 unfolding open_prepared refused_run
-made_prepared s file workers p given large low high (verdict.Refused why) e h = never h
-made_prepared s file workers p given large low high verdict.Accepted e h =
+made_prepared s file workers p given large low high (Err why) e h = never h
+made_prepared s file workers p given large low high (Ok tt) e h =
     let q : Ready (room_in s) file p = given e in
     record {
       large = large;
@@ -142,15 +141,15 @@ made_prepared s file workers p given large low high verdict.Accepted e h =
       keys = q.keys;
       read = q.read;
       analysis = q.analysis;
-      is = ap (λ (t : Prepared). (open_prepared s workers t verdict.Accepted).run) q.is;
+      is = ap (λ (t : Prepared). (open_prepared s workers t (Ok tt)).run) q.is;
     }
 
-pub opening_made : (s : Sizes) (file : List ℕ) (workers : ℕ) → (opening_of s file workers).answer ≡ verdict.Accepted → Made s file workers (opening_of s file workers)
+pub opening_made : (s : Sizes) (file : List ℕ) (workers : ℕ) → (opening_of s file workers).answer ≡ (Ok tt) → Made s file workers (opening_of s file workers)
 unfolding opening_of refused_run
 opening_made s file workers =
     let p : Prepared = prepare_read (room_in s) file (read_block file) in
-    if_all (λ (o : Opened). o.answer ≡ verdict.Accepted → Made s file workers o) (not (large_enough s)) (λ e h. never h) λ large.
-    if_all (λ (o : Opened). o.answer ≡ verdict.Accepted → Made s file workers o) (eqb workers 0 || ltb max_workers workers) (λ e h. never h) λ few.
+    if_all (λ (o : Opened). o.answer ≡ (Ok tt) → Made s file workers o) (not (large_enough s)) (λ e h. never h) λ large.
+    if_all (λ (o : Opened). o.answer ≡ (Ok tt) → Made s file workers o) (eqb workers 0 || ltb max_workers workers) (λ e h. never h) λ few.
     let n : (eqb workers 0 ≡ false) × (ltb max_workers workers ≡ false) = neither (eqb workers 0) (ltb max_workers workers) few in
     let some : workers ≡ 0 → ⊥ = eqb-false workers 0 n.0 in
     made_prepared s file workers p (ready_read (room_in s) file (read_block file) refl) (not-false (large_enough s) large) (omega arith) (ltb-false max_workers workers n.1) p.verdict refl
@@ -160,13 +159,13 @@ opening_made s file workers =
 -- What passes every test is prepared and opened.
 prepared_accepted : (s : Sizes) (file : List ℕ) (b : Block) (sets : List (List Access)) (keys : List ℕ) → Large s
     → read_block file ≡ accepted b → analysis_of file b ≡ table.analysed sets keys
-    → (prepare_read (room_in s) file (read_block file)).verdict ≡ verdict.Accepted
+    → (prepare_read (room_in s) file (read_block file)).verdict ≡ Ok tt
 unfolding prepare_read prepare_analysed
 prepared_accepted s file b sets keys large read analysis = rw (read, analysis)
 
 pub opening_accepted : (s : Sizes) (file : List ℕ) (workers : ℕ) (b : Block) (sets : List (List Access)) (keys : List ℕ) → Large s
     → 0 < workers → workers ≤ max_workers → read_block file ≡ accepted b → analysis_of file b ≡ table.analysed sets keys
-    → (opening_of s file workers).answer ≡ verdict.Accepted
+    → (opening_of s file workers).answer ≡ Ok tt
 unfolding opening_of open_prepared
 opening_accepted s file workers b sets keys large low high read analysis =
     rw (
@@ -178,16 +177,16 @@ opening_accepted s file workers b sets keys large low high read analysis =
 
 -- What a refusal leaves.
 record Zeroed (s : Sizes) (why : Refusal) (o : Opened) : Type 0 where
-  cleared : o.answer ≡ verdict.Refused why → Cleared s o.run
+  cleared : o.answer ≡ Err why → Cleared s o.run
 
 zeroed_refused : (s : Sizes) (why because : Refusal) → Zeroed s why (refused_run s because)
 unfolding refused_run
 zeroed_refused s why because = record { cleared = λ e. record { head = refl; plan = refl; keys = refl; cells = refl; status = refl; seats = refl; frames = refl } }
 
-zeroed_prepared : (s : Sizes) (workers : ℕ) (why : Refusal) (p : Prepared) (v : Verdict) → Zeroed s why (open_prepared s workers p v)
+zeroed_prepared : (s : Sizes) (workers : ℕ) (why : Refusal) (p : Prepared) (v : Result (Unit {0}) Refusal) → Zeroed s why (open_prepared s workers p v)
 unfolding open_prepared
-zeroed_prepared s workers why p (verdict.Refused because) = zeroed_refused s why because
-zeroed_prepared s workers why p verdict.Accepted = record { cleared = λ e. never (sym e) }
+zeroed_prepared s workers why p (Err because) = zeroed_refused s why because
+zeroed_prepared s workers why p (Ok tt) = record { cleared = λ e. never (sym e) }
 
 opening_zeroed : (s : Sizes) (file : List ℕ) (workers : ℕ) (why : Refusal) → Zeroed s why (opening_of s file workers)
 unfolding opening_of
@@ -195,6 +194,6 @@ opening_zeroed s file workers why =
     if_all (Zeroed s why) (not (large_enough s)) (λ e. zeroed_refused s why Buffers) λ e.
     if_all (Zeroed s why) (eqb workers 0 || ltb max_workers workers) (λ f. zeroed_refused s why Workers) λ f. zeroed_prepared s workers why _ _
 
-pub opening_cleared : (s : Sizes) (file : List ℕ) (workers : ℕ) (why : Refusal) → (opening_of s file workers).answer ≡ verdict.Refused why
+pub opening_cleared : (s : Sizes) (file : List ℕ) (workers : ℕ) (why : Refusal) → (opening_of s file workers).answer ≡ Err why
     → Cleared s (opening_of s file workers).run
 opening_cleared s file workers why = (opening_zeroed s file workers why).cleared

@@ -1,7 +1,7 @@
 -- Where the plan of a block keeps the words of each call: 32 words a call, in block order.
+use Rattle.std.specs.Prelude.{None, Option, Some}
 use mathlib.Core.Path.{◌≡◌, refl, sym, ap, ap₂, ◌∙◌}
 use mathlib.Core.List.{List, [], ◌∷◌, ◌++◌, map, append_assoc, append-nil}
-use mathlib.Core.Option.{Option, none, some}
 use Prim.Native.Nat.{ℕ, zero, suc, ◌+◌, ◌-◌, ◌*◌, ◌≤◌, ◌<◌}
 use native.Mathlib.Omega.{arith}
 use lib.ListN.{length, get_or, take, drop, length-append, length-map}
@@ -42,28 +42,28 @@ call_words f n entries row = code_words f ++ (n ∷ []) ++ entries ++ row ++ (0 
 module _ (n : ℕ) (e r more : List ℕ) where
   words_length : (f : Option Function) → length (call_words f n e r) ≡ 4 + length e + length r
   unfolding code_words
-  words_length none = simp length-append (omega arith)
-  words_length (some f) = simp length-append (omega arith)
+  words_length None = simp length-append (omega arith)
+  words_length (Some f) = simp length-append (omega arith)
 
   words_start : (f : Option Function) → get_or (call_words f n e r ++ more) 0 0 ≡ get_or (code_words f) 0 0
   unfolding code_words
-  words_start none = refl
-  words_start (some f) = refl
+  words_start None = refl
+  words_start (Some f) = refl
 
   words_code : (f : Option Function) → get_or (call_words f n e r ++ more) 1 0 ≡ get_or (code_words f) 1 0
   unfolding code_words
-  words_code none = refl
-  words_code (some f) = refl
+  words_code None = refl
+  words_code (Some f) = refl
 
   words_count : (f : Option Function) → get_or (call_words f n e r ++ more) 2 0 ≡ n
   unfolding code_words
-  words_count none = refl
-  words_count (some f) = refl
+  words_count None = refl
+  words_count (Some f) = refl
 
   words_behind : (f : Option Function) → drop 3 (call_words f n e r ++ more) ≡ ((e ++ r) ++ (0 ∷ [])) ++ more
   unfolding code_words
-  words_behind none = refl
-  words_behind (some f) = refl
+  words_behind None = refl
+  words_behind (Some f) = refl
 
 -- What the plan has for a call, at the place n.
 pub record Planned (functions : List Function) (table : List ℕ) (earlier : List (List Access)) (c : Call) (es : List Access) (plan : List ℕ) (n : ℕ) : Type 0 where

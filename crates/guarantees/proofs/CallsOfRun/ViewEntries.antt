@@ -10,7 +10,7 @@ use lib.IntN.{ℤ, pos}
 use lib.Dec.{eqb, leb, ltb}
 use lib.ListN.{length, set}
 use lib.Seq.{get_or-set_same, get_or-set_other}
-use Rattle.std.specs.Prelude.{if◌then◌else◌}
+use Rattle.std.specs.Prelude.{if◌then◌else◌, None, Option, Some}
 use Rattle.arith.proofs.ChoiceLaws.{both, by_test, if_all}
 use Rattle.schedule.proofs.RunLaws as runs
 use Rattle.block.specs.Limits.{max_call_keys, max_keys}
@@ -20,8 +20,6 @@ use Rattle.machine.specs.Run.{has_key}
 use Rattle.footprint.specs.Plan.{entry_cell, entry_reads, entry_writes}
 use Rattle.machine.proofs.RestoreLaws.{one_restored, onward_length, restored_other, restored_back}
 use Rattle.machine.specs.Step.{View, find_entry, lookup, cell_at, saved_of, restored}
-use Rattle.machine.specs.declared.Lookup.{Lookup}
-use Rattle.machine.specs.declared.Lookup.TheVariants.{Cell, NoCell}
 use Rattle.guarantees.proofs.CallsOfRun.ViewCalls.{any_entry, Proper}
 
 -- ---- what a lookup finds
@@ -33,9 +31,9 @@ pub record EntryFound (keys es : List ℕ) (a : Access) (n : ℕ) : Type 0 where
   pub read : a.reads ≡ true → any_entry entry_reads es n ≡ true
   pub written : a.writes ≡ true → any_entry entry_writes es n ≡ true
 
-abbrev pub Finds : (keys es : List ℕ) → Access → Lookup → Type 0
-Finds keys es a (Cell n) = EntryFound keys es a n
-Finds keys es a NoCell = Unit {0}
+abbrev pub Finds : (keys es : List ℕ) → Access → Option ℕ → Type 0
+Finds keys es a (Some n) = EntryFound keys es a n
+Finds keys es a None = Unit {0}
 
 any_first : (test : ℕ → Bool) (e : ℕ) (es : List ℕ) → test e ≡ true → any_entry test (e ∷ es) (entry_cell e) ≡ true
 unfolding any_entry
@@ -67,15 +65,15 @@ wanted : (want flag : Bool) → (not want || flag) ≡ true → want ≡ true �
 wanted true flag h w = h
 wanted false flag h w = absurd (false≢true w)
 
-later : (keys : List ℕ) (e : ℕ) (es : List ℕ) (a : Access) (k : Lookup) → Finds keys es a k → Finds keys (e ∷ es) a k
-later keys e es a (Cell n) f =
+later : (keys : List ℕ) (e : ℕ) (es : List ℕ) (a : Access) (k : Option ℕ) → Finds keys es a k → Finds keys (e ∷ es) a k
+later keys e es a (Some n) f =
     record {
       low = f.low;
       key = f.key;
       read = λ r. any_later entry_reads e es n (f.read r);
       written = λ w. any_later entry_writes e es n (f.written w);
     }
-later keys e es a NoCell f = tt
+later keys e es a None f = tt
 
 find_finds : (keys es : List ℕ) (a : Access) → Finds keys es a (find_entry keys es a)
 unfolding find_entry

@@ -8,7 +8,7 @@ use lib.IntN.{ℤ, ◌+ℤ◌, ◌-ℤ◌}
 use lib.Signed.{lt_z, le_z, non_neg}
 use lib.Dec.{ltb}
 use lib.ListN.{length, set, length-set}
-use Rattle.std.specs.Prelude.{if◌then◌else◌}
+use Rattle.std.specs.Prelude.{if◌then◌else◌, None, Option, Some}
 use Rattle.arith.specs.Balance.{largest}
 use Rattle.block.specs.Limits.{max_keys}
 use Rattle.block.specs.Key.{is_balance}
@@ -21,8 +21,6 @@ use Rattle.machine.proofs.StepLaws.{NextFits}
 use Rattle.machine.proofs.PlaceLaws.{place_all}
 use Rattle.machine.specs.declared.Next.{Next}
 use Rattle.machine.specs.declared.Next.TheVariants.{Go, End, Load, Store, Transfer}
-use Rattle.machine.specs.declared.Lookup.{Lookup}
-use Rattle.machine.specs.declared.Lookup.TheVariants.{Cell, NoCell}
 use Rattle.guarantees.proofs.CallsOfRun.ViewCalls.{point_of, any_entry, Proper}
 use Rattle.guarantees.proofs.CallsOfRun.ViewLeaves.{AfterStore, AfterTransfer, AfterNext, fitting_leaves}
 use Rattle.guarantees.proofs.CallsOfRun.ViewEntries.{Finds, lookup_finds, set_alike, set_outside, restored_frame, restored_alike}
@@ -49,15 +47,15 @@ module _ (v : View) (l : Local) (s : List ℤ) where
         frame = λ x h. set_outside v.entries t n z x w h ∙ k.frame x h;
       }
 
-  store_kept : (z : ℤ) (a : Access) → a.writes ≡ true → (k : Lookup) → Finds v.keys v.entries a k → AfterStore K s z k
-  store_kept z a w NoCell f = tt
-  store_kept z a w (Cell n) f = set_kept s n z (f.written w) unmoved
+  store_kept : (z : ℤ) (a : Access) → a.writes ≡ true → (k : Option ℕ) → Finds v.keys v.entries a k → AfterStore K s z k
+  store_kept z a w None f = tt
+  store_kept z a w (Some n) f = set_kept s n z (f.written w) unmoved
 
-  transfer_kept : (amount : ℤ) (a to : Access) → a.writes ≡ true → to.writes ≡ true → (k k' : Lookup) → Finds v.keys v.entries a k
+  transfer_kept : (amount : ℤ) (a to : Access) → a.writes ≡ true → to.writes ≡ true → (k k' : Option ℕ) → Finds v.keys v.entries a k
       → Finds v.keys v.entries to k' → AfterTransfer K s amount k k'
-  transfer_kept amount a to w w' NoCell k' f f' = tt
-  transfer_kept amount a to w w' (Cell n) NoCell f f' = tt
-  transfer_kept amount a to w w' (Cell n) (Cell m) f f' =
+  transfer_kept amount a to w w' None k' f f' = tt
+  transfer_kept amount a to w w' (Some n) None f f' = tt
+  transfer_kept amount a to w w' (Some n) (Some m) f f' =
       set_kept (set s n (cell_at s n -ℤ amount)) m (cell_at s m +ℤ amount) (f'.written w')
       (set_kept s n (cell_at s n -ℤ amount) (f.written w) unmoved)
 
@@ -140,25 +138,25 @@ module _ (v : View) (proper : Proper v.entries) (l : Local) (s s' : List ℤ) (r
       (λ x m. restored_alike v.entries proper l.saved s s' x room room' (same x m)))
       like_damaged)
 
-  load_like : (place count : ℕ) (regs : List ℤ) (x : ℕ) (a : Access) (k : Lookup) → Finds v.keys v.entries a k → a.reads ≡ true
+  load_like : (place count : ℕ) (regs : List ℤ) (x : ℕ) (a : Access) (k : Option ℕ) → Finds v.keys v.entries a k → a.reads ≡ true
       → C' (load_cell place count regs x a s k) (load_cell place count regs x a s' k)
   unfolding load_cell
-  load_like place count regs x a NoCell f r = like_broken
-  load_like place count regs x a (Cell n) f r =
+  load_like place count regs x a None f r = like_broken
+  load_like place count regs x a (Some n) f r =
       rw (at_read n (f.read r)) (like_test (is_balance a.key && not (non_neg (cell_at s' n))) _ _ _ _ like_broken (like_onward _ count _ s s' same))
 
-  store_like : (place count : ℕ) (regs : List ℤ) (z : ℤ) (a : Access) (k : Lookup) → Finds v.keys v.entries a k
+  store_like : (place count : ℕ) (regs : List ℤ) (z : ℤ) (a : Access) (k : Option ℕ) → Finds v.keys v.entries a k
       → C' (store_cell place count regs z s k) (store_cell place count regs z s' k)
   unfolding store_cell
-  store_like place count regs z a NoCell f = like_broken
-  store_like place count regs z a (Cell n) f = like_onward _ count _ (set s n z) (set s' n z) (set_same s s' n z f.low refl refl same)
+  store_like place count regs z a None f = like_broken
+  store_like place count regs z a (Some n) f = like_onward _ count _ (set s n z) (set s' n z) (set_same s s' n z f.low refl refl same)
 
   deposit_like : (place count : ℕ) (regs : List ℤ) (amount : ℤ) (n : ℕ) → n < max_keys → any_entry entry_reads v.entries n ≡ true
-      → (a : Access) (k : Lookup) → Finds v.keys v.entries a k → a.writes ≡ true
+      → (a : Access) (k : Option ℕ) → Finds v.keys v.entries a k → a.writes ≡ true
       → C' (deposit_cell place count regs amount n s k) (deposit_cell place count regs amount n s' k)
   unfolding deposit_cell
-  deposit_like place count regs amount n low r a NoCell f w = like_broken
-  deposit_like place count regs amount n low r a (Cell m) f w =
+  deposit_like place count regs amount n low r a None f w = like_broken
+  deposit_like place count regs amount n low r a (Some m) f w =
       rw (at_read n r, at_written m (f.written w))
       (like_test (non_neg (cell_at s' m) && le_z (cell_at s' m +ℤ amount) largest) _ _ _ _
       (like_onward _ count _
@@ -169,11 +167,11 @@ module _ (v : View) (proper : Proper v.entries) (l : Local) (s s' : List ℤ) (r
       like_broken)
 
   transfer_like : (place count : ℕ) (regs : List ℤ) (amount : ℤ) (short : ℕ) (to : Access) → to.writes ≡ true
-      → (a : Access) (k : Lookup) → Finds v.keys v.entries a k → a.reads ≡ true
+      → (a : Access) (k : Option ℕ) → Finds v.keys v.entries a k → a.reads ≡ true
       → C' (transfer_cells v place count regs amount short to s k) (transfer_cells v place count regs amount short to s' k)
   unfolding transfer_cells
-  transfer_like place count regs amount short to w a NoCell f r = like_broken
-  transfer_like place count regs amount short to w a (Cell n) f r =
+  transfer_like place count regs amount short to w a None f r = like_broken
+  transfer_like place count regs amount short to w a (Some n) f r =
       rw (at_read n (f.read r))
       (like_test (not (non_neg (cell_at s' n))) _ _ _ _ like_broken
       (like_test (lt_z (cell_at s' n) amount) _ _ _ _ (ending_like short count)

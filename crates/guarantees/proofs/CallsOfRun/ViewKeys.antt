@@ -1,5 +1,6 @@
 -- Views that differ in their buffers of keys alone, where the buffers have the same word at every place: a step of a call is the same by
 -- both.
+use Rattle.block.specs.declared.Instr.{Instr}
 use mathlib.Core.Path.{◌≡◌, refl, ap, ap₂, ◌∙◌}
 use mathlib.Core.Bool.{Bool, ◌&&◌, ◌||◌, not}
 use mathlib.Core.List.{List, [], ◌∷◌}
@@ -8,11 +9,9 @@ use lib.IntN.{ℤ}
 use lib.Signed.{lt_z, non_neg}
 use lib.Dec.{eqb, leb, ltb}
 use lib.ListN.{length, get_or, drop}
-use Rattle.std.specs.Prelude.{if◌then◌else◌}
+use Rattle.std.specs.Prelude.{if◌then◌else◌, None, Option, Some}
 use Rattle.block.specs.Limits.{max_call_keys, max_keys}
 use Rattle.block.specs.Instruction.{instr_bytes, decode}
-use Rattle.block.specs.declared.Decoded.{Decoded}
-use Rattle.block.specs.declared.Decoded.TheVariants.{Valid, Invalid}
 use Rattle.footprint.specs.Access.{Access, accesses, entry_accesses}
 use Rattle.footprint.specs.Plan.{high_word, low_word, entry_cell, entry_reads, entry_writes}
 use Rattle.machine.specs.Run.{has_key}
@@ -21,8 +20,6 @@ use Rattle.block.specs.Outcomes.{ended, unknown_function, out_of_fuel}
 use Rattle.machine.specs.Step.{View, Local, Performed, broken, onward, ending, cell_at, find_entry, lookup, finish, concluded, load_cell, store_cell, deposit_cell, transfer_cells, access_at, perform, step_entry, step_decoded, fuel_broken, step_instr, step_body, step_place, step_call}
 use Rattle.machine.specs.declared.Next.{Next}
 use Rattle.machine.specs.declared.Next.TheVariants.{Go, End, Load, Store, Transfer}
-use Rattle.machine.specs.declared.Lookup.{Lookup}
-use Rattle.machine.specs.declared.Lookup.TheVariants.{Cell, NoCell}
 
 -- ---- one step
 
@@ -51,11 +48,11 @@ unfolding find_entry
 find_same keys keys' same [] a = refl
 find_same keys keys' same (e ∷ es) a =
     ap₂
-    (λ (t : Bool) (rest : Lookup).
+    (λ (t : Bool) (rest : Option ℕ).
     if not (ltb (entry_cell e) max_keys)
-    then NoCell
+    then None
     else if t
-    then (if (not a.reads || entry_reads e) && (not a.writes || entry_writes e) then Cell (entry_cell e) else NoCell)
+    then (if (not a.reads || entry_reads e) && (not a.writes || entry_writes e) then Some (entry_cell e) else None)
     else rest)
     (has_same keys keys' same (entry_cell e) a.key) (find_same keys keys' same es a)
 
@@ -66,15 +63,15 @@ module _ (v : View) (keys : List ℕ) (same : SameWords v.keys keys) (cells : Li
   lookup_same : (a : Access) → lookup v a ≡ lookup w a
   unfolding lookup
   lookup_same a =
-      ap (λ (k : Lookup). if leb v.count max_call_keys then k else NoCell) (find_same v.keys keys same v.entries a)
+      ap (λ (k : Option ℕ). if leb v.count max_call_keys then k else None) (find_same v.keys keys same v.entries a)
 
-  transfer_same : (place count : ℕ) (regs : List ℤ) (amount : ℤ) (short : ℕ) (to : Access) (k : Lookup)
+  transfer_same : (place count : ℕ) (regs : List ℤ) (amount : ℤ) (short : ℕ) (to : Access) (k : Option ℕ)
       → transfer_cells v place count regs amount short to cells k ≡ transfer_cells w place count regs amount short to cells k
   unfolding transfer_cells
-  transfer_same place count regs amount short to NoCell = refl
-  transfer_same place count regs amount short to (Cell n) =
+  transfer_same place count regs amount short to None = refl
+  transfer_same place count regs amount short to (Some n) =
       ap
-      (λ (k : Lookup).
+      (λ (k : Option ℕ).
       if not (non_neg (cell_at cells n))
       then broken
       else if lt_z (cell_at cells n) amount
@@ -101,10 +98,10 @@ module _ (v : View) (keys : List ℕ) (same : SameWords v.keys keys) (cells : Li
         ap (λ (t : Performed). if eqb v.code 0 then ending unknown_function 0 else t)
         (perform_same place 0 (entry_accesses v.call) (entry_action v.call regs).regs (entry_action v.call regs).next)
 
-    decoded_same : (d : Decoded) → step_decoded v place count regs cells d ≡ step_decoded w place count regs cells d
+    decoded_same : (d : Option Instr) → step_decoded v place count regs cells d ≡ step_decoded w place count regs cells d
     unfolding step_decoded
-    decoded_same Invalid = refl
-    decoded_same (Valid i) =
+    decoded_same None = refl
+    decoded_same (Some i) =
         perform_same place (count + 1) (accesses v.call i) (instr_action v.call place regs i).regs (instr_action v.call place regs i).next
 
     instr_same : step_instr v place count regs cells ≡ step_instr w place count regs cells

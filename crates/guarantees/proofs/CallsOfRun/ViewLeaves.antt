@@ -1,4 +1,5 @@
 -- What holds of the cells before a step, and of those that a restore, a store or a transfer of its place leaves, holds of those that the step leaves.
+use Rattle.std.specs.Prelude.{None, Option, Some}
 use mathlib.Core.Bool.{◌&&◌, not}
 use mathlib.Core.List.{List}
 use Prim.Native.Nat.{ℕ}
@@ -16,21 +17,19 @@ use Rattle.machine.specs.Action.{entry_action, instr_action}
 use Rattle.machine.specs.Step.{View, Local, Performed, ending, Stepped, cell_at, lookup, restorable, restored, finish, concluded, load_cell, store_cell, deposit_cell, transfer_cells, access_at, perform, step_call}
 use Rattle.machine.specs.declared.Next.{Next}
 use Rattle.machine.specs.declared.Next.TheVariants.{Go, End, Load, Store, Transfer}
-use Rattle.machine.specs.declared.Lookup.{Lookup}
-use Rattle.machine.specs.declared.Lookup.TheVariants.{Cell, NoCell}
 use Rattle.machine.proofs.StepLaws.{NextFits}
 use Rattle.machine.proofs.PlaceLaws.{place_each, place_all}
 use Rattle.guarantees.proofs.CallsOfRun.ViewCalls.{point_of}
 
 -- It holds of the cells s with a value stored in the cell that was found, and with an amount moved from one to another.
-abbrev pub AfterStore : (K : List ℤ → Type 0) (s : List ℤ) → ℤ → Lookup → Type 0
-AfterStore K s z (Cell n) = K (set s n z)
-AfterStore K s z NoCell = Unit {0}
+abbrev pub AfterStore : (K : List ℤ → Type 0) (s : List ℤ) → ℤ → Option ℕ → Type 0
+AfterStore K s z (Some n) = K (set s n z)
+AfterStore K s z None = Unit {0}
 
-abbrev pub AfterTransfer : (K : List ℤ → Type 0) (s : List ℤ) → ℤ → Lookup → Lookup → Type 0
-AfterTransfer K s amount (Cell n) (Cell m) = K (set (set s n (cell_at s n -ℤ amount)) m (cell_at s m +ℤ amount))
-AfterTransfer K s amount (Cell n) NoCell = Unit {0}
-AfterTransfer K s amount NoCell to = Unit {0}
+abbrev pub AfterTransfer : (K : List ℤ → Type 0) (s : List ℤ) → ℤ → Option ℕ → Option ℕ → Type 0
+AfterTransfer K s amount (Some n) (Some m) = K (set (set s n (cell_at s n -ℤ amount)) m (cell_at s m +ℤ amount))
+AfterTransfer K s amount (Some n) None = Unit {0}
+AfterTransfer K s amount None to = Unit {0}
 
 -- It holds of what an action stores or transfers.
 abbrev pub AfterNext : (K : List ℤ → Type 0) (s : List ℤ) → View → List Access → Next → Type 0
@@ -53,28 +52,28 @@ module _ (v : View) (l : Local) (s : List ℤ) (K : List ℤ → Type 0) (now : 
   ending_leaves outcome n =
       if_all D (ltb outcome thrown) (λ h. now) λ h. if_all D (restorable v.count v.entries) (λ h. back) (λ h. now)
 
-  load_leaves : (place count : ℕ) (regs : List ℤ) (x : ℕ) (a : Access) (k : Lookup) → C (load_cell place count regs x a s k)
+  load_leaves : (place count : ℕ) (regs : List ℤ) (x : ℕ) (a : Access) (k : Option ℕ) → C (load_cell place count regs x a s k)
   unfolding load_cell concluded point_of
-  load_leaves place count regs x a NoCell = now
-  load_leaves place count regs x a (Cell n) = if_all C (is_balance a.key && not (non_neg (cell_at s n))) (λ h. now) (λ h. now)
+  load_leaves place count regs x a None = now
+  load_leaves place count regs x a (Some n) = if_all C (is_balance a.key && not (non_neg (cell_at s n))) (λ h. now) (λ h. now)
 
-  store_leaves : (place count : ℕ) (regs : List ℤ) (z : ℤ) (k : Lookup) → AfterStore K s z k → C (store_cell place count regs z s k)
+  store_leaves : (place count : ℕ) (regs : List ℤ) (z : ℤ) (k : Option ℕ) → AfterStore K s z k → C (store_cell place count regs z s k)
   unfolding store_cell concluded point_of
-  store_leaves place count regs z NoCell f = now
-  store_leaves place count regs z (Cell n) f = f
+  store_leaves place count regs z None f = now
+  store_leaves place count regs z (Some n) f = f
 
-  deposit_leaves : (place count : ℕ) (regs : List ℤ) (amount : ℤ) (n : ℕ) (k : Lookup) → AfterTransfer K s amount (Cell n) k
+  deposit_leaves : (place count : ℕ) (regs : List ℤ) (amount : ℤ) (n : ℕ) (k : Option ℕ) → AfterTransfer K s amount (Some n) k
       → C (deposit_cell place count regs amount n s k)
   unfolding deposit_cell concluded point_of
-  deposit_leaves place count regs amount n NoCell f = now
-  deposit_leaves place count regs amount n (Cell m) f =
+  deposit_leaves place count regs amount n None f = now
+  deposit_leaves place count regs amount n (Some m) f =
       if_all C (non_neg (cell_at s m) && le_z (cell_at s m +ℤ amount) largest) (λ h. f) (λ h. now)
 
-  transfer_leaves : (place count : ℕ) (regs : List ℤ) (amount : ℤ) (short : ℕ) (to : Access) (k : Lookup) → AfterTransfer K s amount k (lookup v to)
+  transfer_leaves : (place count : ℕ) (regs : List ℤ) (amount : ℤ) (short : ℕ) (to : Access) (k : Option ℕ) → AfterTransfer K s amount k (lookup v to)
       → C (transfer_cells v place count regs amount short to s k)
   unfolding transfer_cells concluded point_of
-  transfer_leaves place count regs amount short to NoCell f = now
-  transfer_leaves place count regs amount short to (Cell n) f =
+  transfer_leaves place count regs amount short to None f = now
+  transfer_leaves place count regs amount short to (Some n) f =
       if_all C (not (non_neg (cell_at s n))) (λ h. now) λ h.
       if_all C (lt_z (cell_at s n) amount) (λ h. ending_leaves short count) (λ h. deposit_leaves place count regs amount n (lookup v to) f)
 

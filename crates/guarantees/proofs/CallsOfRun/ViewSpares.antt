@@ -1,4 +1,5 @@
 -- A step adds nothing to a cell in whose key no place of the call stores or deposits: it leaves there what was there, less an amount, or the old value.
+use Rattle.std.specs.Prelude.{None, Option, Some}
 use mathlib.Core.Path.{◌≡◌, sym, ap, subst⁻¹, ◌∙◌}
 use mathlib.Core.Bool.{true}
 use mathlib.Core.List.{List}
@@ -22,8 +23,6 @@ use Rattle.machine.specs.Action.{entry_action, instr_action}
 use Rattle.machine.specs.Step.{View, Local, cell_at, lookup, restored, access_at, step_call}
 use Rattle.machine.specs.declared.Next.{Next}
 use Rattle.machine.specs.declared.Next.TheVariants.{Go, End, Load, Store, Transfer}
-use Rattle.machine.specs.declared.Lookup.{Lookup}
-use Rattle.machine.specs.declared.Lookup.TheVariants.{Cell, NoCell}
 use Rattle.guarantees.proofs.CallsOfRun.ViewCalls.{point_of}
 use Rattle.guarantees.proofs.CallsOfRun.ViewEntries.{Finds, lookup_finds}
 use Rattle.guarantees.proofs.CallsOfRun.ViewLeaves.{AfterStore, AfterTransfer, AfterNext, each_leaves}
@@ -64,15 +63,15 @@ module _ (v : View) (x : ℕ) (K : ℤ → Type 0) (lower : (z m : ℤ) → non_
         go (yes e) = rw e (subst⁻¹ K (get_or-set_same s n (cell_at s n -ℤ amount) (pos 0) (omega arith)) (lower (cell_at s n) amount sign (rw (sym e) now)))
         go (no apart) = set_spares s n (cell_at s n -ℤ amount) apart now
 
-    store_spares : (z : ℤ) (a : Access) → (a.key ≡ key_at v.keys x → ⊥) → (k : Lookup) → Finds v.keys v.entries a k → AfterStore At s z k
-    store_spares z a other NoCell f = tt
-    store_spares z a other (Cell n) f = set_spares s n z (other_cell v.keys x n a.key f.key other) now
+    store_spares : (z : ℤ) (a : Access) → (a.key ≡ key_at v.keys x → ⊥) → (k : Option ℕ) → Finds v.keys v.entries a k → AfterStore At s z k
+    store_spares z a other None f = tt
+    store_spares z a other (Some n) f = set_spares s n z (other_cell v.keys x n a.key f.key other) now
 
-    transfer_spares : (amount : ℤ) (a to : Access) → non_neg amount ≡ true → (to.key ≡ key_at v.keys x → ⊥) → (k k' : Lookup)
+    transfer_spares : (amount : ℤ) (a to : Access) → non_neg amount ≡ true → (to.key ≡ key_at v.keys x → ⊥) → (k k' : Option ℕ)
         → Finds v.keys v.entries a k → Finds v.keys v.entries to k' → AfterTransfer At s amount k k'
-    transfer_spares amount a to sign other NoCell k' f f' = tt
-    transfer_spares amount a to sign other (Cell n) NoCell f f' = tt
-    transfer_spares amount a to sign other (Cell n) (Cell m) f f' =
+    transfer_spares amount a to sign other None k' f f' = tt
+    transfer_spares amount a to sign other (Some n) None f f' = tt
+    transfer_spares amount a to sign other (Some n) (Some m) f f' =
         set_spares (set s n (cell_at s n -ℤ amount)) m (cell_at s m +ℤ amount) (other_cell v.keys x m to.key f'.key other)
         (less_spares n amount f.low sign)
 

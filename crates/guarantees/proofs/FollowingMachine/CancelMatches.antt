@@ -1,4 +1,5 @@
 -- CANCEL on a lent run follows the machine: the held call's old values are restored, it waits again, and its worker is free.
+use Rattle.std.specs.Prelude.{Ok}
 use mathlib.Core.Path.{◌≡◌, refl, sym, ap, subst⁻¹, ◌∙◌}
 use mathlib.Core.Bool.{Bool}
 use mathlib.Core.List.{List}
@@ -15,7 +16,7 @@ use Rattle.machine.specs.Run.{Run, saved_in, with_state, waiting}
 use Rattle.machine.specs.Step.{restored}
 use Rattle.machine.specs.Moves.{stay, call_key_count, own_entries, cancel_held, cancel_for, cancel_of}
 use Rattle.machine.specs.Answer.{answer_number}
-use Rattle.machine.specs.declared.Answer.TheVariants.{Accepted, Damaged}
+use Rattle.machine.specs.declared.Answer.TheVariants.{Damaged}
 use Rattle.machine.proofs.RestoreLaws.{restored_length}
 use Rattle.guarantees.proofs.FollowingMachine.RunMatches.{no_receipt, Base, calls_in, HoldsRunning, Matches}
 use Rattle.guarantees.proofs.FollowingMachine.BufferLaws.{state_here, state_beside, state_there, state_wait, state_length, seat_stays}
@@ -82,7 +83,7 @@ module _ (file : List ℕ) (workers n : ℕ) (before : ℕ → ℕ → Bool) (r�
     unfolding cancel_held answer_number
     cancelled =
         subst⁻¹ (Follows file workers n before r₀ M (cancel_worker (calls_in file n before r₀) M w (M.seat w)) 0)
-        (if_true (record { answer = Accepted; run = left }) (stay r Damaged)
+        (if_true (record { answer = Ok tt; run = left }) (stay r Damaged)
         (can_restore file workers n before r₀ base M r m c k.call))
         (record {
           same = refl;

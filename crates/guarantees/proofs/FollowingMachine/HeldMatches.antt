@@ -1,4 +1,5 @@
 -- What STEP and CANCEL test first, 20 for the run, 21 and 26: a move behind these tests follows the machine if it does so for a held call.
+use Rattle.std.specs.Prelude.{Err}
 use mathlib.Core.Path.{◌≡◌, refl, ap, subst⁻¹, ◌∙◌}
 use mathlib.Core.Bool.{Bool, true, false, cond, ◌||◌}
 use mathlib.Core.List.{List}
@@ -12,7 +13,7 @@ use Rattle.schedule.specs.Machine.{Machine}
 use Rattle.arith.proofs.ChoiceLaws.{if_true, if_false}
 use Rattle.machine.specs.Run.{Run, held_at}
 use Rattle.machine.specs.Moves as machine
-use Rattle.machine.specs.Moves.{Moved, stay, answered, held_by}
+use Rattle.machine.specs.Moves.{Moved, stay, held_by}
 use Rattle.machine.specs.Answer.{answer_number}
 use Rattle.machine.specs.declared.Answer.{Answer}
 use Rattle.machine.specs.declared.Answer.TheVariants.{NoWorker, WorkerIdle}
@@ -25,13 +26,13 @@ numbers calls call few known = rw (le-ltb max_calls calls few, le-ltb calls call
 
 module _ (file : List ℕ) (workers n : ℕ) (before : ℕ → ℕ → Bool) (r₀ : Run) (base : Base file workers n before r₀)
     (M : Machine (calls_in file n before r₀)) (r : Run) (m : Matches file workers n before r₀ M r) (w : ℕ) where
-  no_worker : leb workers w ≡ true → held_by r w ≡ answered NoWorker
+  no_worker : leb workers w ≡ true → held_by r w ≡ Err NoWorker
   unfolding held_by
   no_worker e =
       if_false _ _ (sized file workers n before r₀ base M r m)
       ∙ if_true _ _ (ap (λ (k : ℕ). leb k w) m.worker_count ∙ e)
 
-  no_call : leb workers w ≡ false → M.seat w ≡ tally.idle → held_by r w ≡ answered WorkerIdle
+  no_call : leb workers w ≡ false → M.seat w ≡ tally.idle → held_by r w ≡ Err WorkerIdle
   unfolding held_by
   no_call e q =
       let seat : SeatRead file workers n before r₀ base M r m w = follows_seat file workers n before r₀ base M r m w (leb-false workers w e) in
@@ -54,7 +55,7 @@ module _ (file : List ℕ) (workers n : ℕ) (before : ℕ → ℕ → Bool) (r�
       ∙ ap machine.holds number
 
   -- A move that stays where nothing is held.
-  pub held_follows : (after : Machine (calls_in file n before r₀)) (move : machine.Held → Moved) → ((a : Answer) → move (answered a) ≡ stay r a)
+  pub held_follows : (after : Machine (calls_in file n before r₀)) (move : machine.Held → Moved) → ((a : Answer) → move (Err a) ≡ stay r a)
       → ((c : ℕ) → M.seat w ≡ tally.holds c → Follows file workers n before r₀ M after 0 (move (machine.holds c)))
       → Follows file workers n before r₀ M after (cond (leb workers w) 21 (cond (tally.is_idle (M.seat w)) 26 0)) (move (held_by r w))
   unfolding answer_number

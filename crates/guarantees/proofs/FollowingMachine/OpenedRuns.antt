@@ -1,9 +1,9 @@
 -- The calls of an opened run as the theorem on schedules takes them: each view is tidy and is the one made of the block, calls that do not conflict
 -- are apart, and the run is one that moves start from.
+use Rattle.std.specs.Prelude.{None, Option, Some}
 use mathlib.Core.Path.{◌≡◌, refl, sym, ap, ap₂, subst⁻¹, ◌∙◌}
 use mathlib.Core.Bool.{Bool, false, ◌&&◌}
 use mathlib.Core.List.{List}
-use mathlib.Core.Option.{Option, none, some}
 use Prim.Native.Nat.{ℕ, ◌+◌, ◌*◌, ◌≤◌, ◌<◌}
 use native.Mathlib.Omega.{arith}
 use borrow.Author.Tests.{lt-ltb}
@@ -15,7 +15,6 @@ use Rattle.block.specs.Limits.{max_code, max_call_keys}
 use Rattle.block.specs.Record.{Function, Block, head_bytes, call_record_bytes, call_of}
 use Rattle.block.proofs.ReaderLaws.{FunctionSound}
 use Rattle.block.specs.declared.Call.{Call}
-use Rattle.block.specs.declared.CallBody.TheVariants.{InRange}
 use Rattle.schedule.specs.Calls.{Calls, Apart}
 use Rattle.schedule.specs.Tally as tally
 use Rattle.schedule.specs.Tally.{unfinished_earlier}
@@ -62,10 +61,10 @@ OpenedWhole s file workers M m = UndamagedMove file (call_count file) (is_before
 
 -- ---- one call
 
-code_few : (file : List ℕ) (f : Option Function) → ((g : Function) → f ≡ some g → FunctionSound file g) → get_or (code_words f) 1 0 ≤ max_code + 1
+code_few : (file : List ℕ) (f : Option Function) → ((g : Function) → f ≡ Some g → FunctionSound file g) → get_or (code_words f) 1 0 ≤ max_code + 1
 unfolding code_words
-code_few file none h = omega arith
-code_few file (some g) h = let few : g.size ≤ 64 = (h g refl).few in omega arith
+code_few file None h = omega arith
+code_few file (Some g) h = let few : g.size ≤ 64 = (h g refl).few in omega arith
 
 module _ (s : Sizes) (file : List ℕ) (workers : ℕ) (after : AfterOpening s file workers) where
   abbrev r₀ : Run
@@ -81,7 +80,7 @@ module _ (s : Sizes) (file : List ℕ) (workers : ℕ) (after : AfterOpening s f
   first = ap (λ (h : Head). h.first_call) after.opened.head
 
   -- Its record in the file.
-  body : (j : ℕ) (c : Call) → Opened j c → call_of (drop (r₀.head.first_call + call_record_bytes * j + head_bytes) file) ≡ InRange c
+  body : (j : ℕ) (c : Call) → Opened j c → call_of (drop (r₀.head.first_call + call_record_bytes * j + head_bytes) file) ≡ Some c
   body j c o = ap (λ (at : ℕ). call_of (drop (at + call_record_bytes * j + head_bytes) file)) first ∙ o.body
 
   view_is : (j : ℕ) (c : Call) → Opened j c → run_view file r₀ j ≡ made_view file s.keys b.functions after.table c
@@ -114,13 +113,13 @@ module _ (s : Sizes) (file : List ℕ) (workers : ℕ) (after : AfterOpening s f
       let below : i < call_count file = omega arith in
       let o = after.opened.calls i below in
       let p = after.opened.calls j l in
-      let none : entries_wait (own_entries r₀.plan i) (own_entries r₀.plan j) ≡ false =
+      let None : entries_wait (own_entries r₀.plan i) (own_entries r₀.plan j) ≡ false =
       ap₂ entries_wait o.1.entries p.1.entries
       ∙ waits_conflict after.table (sets_of file b.functions o.0) o.1.listed (sets_of file b.functions p.0) p.1.listed
       ∙ ap₂ conflict (sym o.1.own) (sym p.1.own) ∙ free in
       record {
-        left = left_apart (own_entries r₀.plan i) (own_entries r₀.plan j) none;
-        right = right_apart (own_entries r₀.plan i) (own_entries r₀.plan j) none;
+        left = left_apart (own_entries r₀.plan i) (own_entries r₀.plan j) None;
+        right = right_apart (own_entries r₀.plan i) (own_entries r₀.plan j) None;
       }
 
   -- The opened run is one that moves start from.

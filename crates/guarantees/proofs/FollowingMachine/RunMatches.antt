@@ -1,4 +1,5 @@
 -- When a lent run stands for a state of the worker machine over the calls of an opened block.
+use Rattle.std.specs.Prelude.{Some}
 use mathlib.Core.Path.{◌≡◌}
 use mathlib.Core.Bool.{Bool, true, false, true≢false}
 use mathlib.Core.List.{List}
@@ -9,7 +10,6 @@ use Rattle.wire.specs.Rows.{in_row}
 use Rattle.block.specs.Limits.{max_calls, max_workers}
 use Rattle.block.specs.Record.{head_bytes, call_record_bytes, call_of}
 use Rattle.block.specs.declared.Call.{Call}
-use Rattle.block.specs.declared.CallBody.TheVariants.{InRange}
 use Rattle.schedule.specs.Calls.{Calls}
 use Rattle.schedule.specs.Tally as tally
 use Rattle.schedule.specs.Tally.{unfinished_earlier}
@@ -67,7 +67,7 @@ pub record Base (file : List ℕ) (workers n : ℕ) (before : ℕ → ℕ → Bo
   pub few_workers : workers ≤ max_workers
   pub few_calls : n ≤ max_calls
   pub tidy : (c : ℕ) → c < n → Tidy (run_view file r₀ c)
-  pub body : (c : ℕ) → c < n → (call : Call) × (call_of (drop (r₀.head.first_call + call_record_bytes * c + head_bytes) file) ≡ InRange call)
+  pub body : (c : ℕ) → c < n → (call : Call) × (call_of (drop (r₀.head.first_call + call_record_bytes * c + head_bytes) file) ≡ Some call)
   pub row : (i c : ℕ) → i < c → c < n → in_row (row_in r₀.plan c) i ≡ before i c
 
 -- The calls of the run.

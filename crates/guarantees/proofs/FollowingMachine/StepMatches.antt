@@ -1,4 +1,5 @@
 -- STEP on a lent run follows the machine: place, count and record pass the tests, and what the step leaves is what the machine's call leaves.
+use Rattle.std.specs.Prelude.{Some}
 use mathlib.Core.Path.{◌≡◌, refl, sym, ap, subst, subst⁻¹, ◌∙◌}
 use mathlib.Core.Bool.{Bool, false, not, ◌||◌}
 use mathlib.Core.List.{List}
@@ -13,7 +14,6 @@ use Rattle.wire.proofs.BytesLaws.{stored_length}
 use Rattle.block.specs.Limits.{max_code}
 use Rattle.block.specs.Record.{head_bytes, call_record_bytes, call_of}
 use Rattle.block.specs.declared.Call.{Call}
-use Rattle.block.specs.declared.CallBody.TheVariants.{InRange}
 use Rattle.schedule.specs.Tally as tally
 use Rattle.schedule.specs.Tally.{refusal}
 use Rattle.schedule.specs.declared.Move.TheVariants.{Step}
@@ -183,7 +183,7 @@ module _ (file : List ℕ) (workers n : ℕ) (before : ℕ → ℕ → Bool) (r�
         })
 
     -- The lent run's view, local state and cells are those of the machine.
-    view_same : (call : Call) → call_of (drop (r₀.head.first_call + call_record_bytes * c + head_bytes) file) ≡ InRange call
+    view_same : (call : Call) → call_of (drop (r₀.head.first_call + call_record_bytes * c + head_bytes) file) ≡ Some call
         → view_of file r c call ≡ run_view file r₀ c
     unfolding body_call
     view_same call body =

@@ -6,7 +6,7 @@ use Prim.Native.Nat.{ℕ, ◌%◌}
 use native.Mathlib.Omega.{arith}
 use borrow.Author.Tests.{ltb-false, le-ltb, lt-leb, leb-true, leb-false, le-leb, eqb-true, eqb-false, eq-eqb, ne_eqb, not-true, not-false}
 use lib.Dec.{eqb, leb, ltb}
-use Rattle.std.specs.Prelude.{if◌then◌else◌}
+use Rattle.std.specs.Prelude.{if◌then◌else◌, Ok, Err}
 use Rattle.arith.proofs.ChoiceLaws.{if_all, neither}
 use Rattle.block.specs.Limits.{max_calls, max_call_keys, max_keys, max_workers}
 use Rattle.wire.specs.All.{All}
@@ -71,8 +71,8 @@ of_answer e = ap (λ (m : Moved). m.answer) e
 
 -- What a move gives, and that a refusal leaves the run.
 record BeginTold (r : Run) (w c : ℕ) (m : Moved) : Type 0 where
-  unmoved : (m.answer ≡ answer.Accepted → ⊥) → m.run ≡ r
-  gives : (m.answer ≡ answer.Damaged → ⊥) → BeginGives r w c (answer_number m.answer)
+  unmoved : (m.answer ≡ Ok tt → ⊥) → m.run ≡ r
+  gives : (m.answer ≡ Err answer.Damaged → ⊥) → BeginGives r w c (answer_number m.answer)
 
 module _ (r : Run) (w c : ℕ) where
   -- The number that the call carries.
@@ -86,7 +86,7 @@ module _ (r : Run) (w c : ℕ) where
       then stay r answer.EarlierUnfinished
       else if not (restorable (call_key_count r.plan c) (own_entries r.plan c))
       then stay r answer.Damaged
-      else record { answer = answer.Accepted; run = begin_call r w c }
+      else record { answer = Ok tt; run = begin_call r w c }
 
   abbrev from24 : Moved
   from24 =
@@ -205,7 +205,7 @@ module _ (r : Run) (w c : ℕ) where
   told : BeginTold r w c (begin_of r w c)
   told = subst⁻¹ (BeginTold r w c) begin_is (if_all (BeginTold r w c) (unsized r) (λ e. damaged) λ e. told_21 ((sized_exact r).0 e))
 
-  pub begin_unmoved : ((begin_of r w c).answer ≡ answer.Accepted → ⊥) → (begin_of r w c).run ≡ r
+  pub begin_unmoved : ((begin_of r w c).answer ≡ Ok tt → ⊥) → (begin_of r w c).run ≡ r
   begin_unmoved = told.unmoved
 
   pub begin_numbers : (n : ℕ) → (n ≡ 20 → ⊥) → Exactly (answer_number (begin_of r w c).answer ≡ n) (BeginGives r w c n)

@@ -1,4 +1,5 @@
 -- From answers to the numbers of document 01: what is found for each answer is what is found for its number.
+use Rattle.std.specs.Prelude.{Ok, Err}
 use mathlib.Core.Path.{◌≡◌, refl, sym, ap, subst, subst⁻¹, ◌∙◌}
 use mathlib.Core.Bool.{Bool, true, false}
 use Prim.Native.Nat.{ℕ}
@@ -19,7 +20,7 @@ chosen C false f g h = g refl h
 
 -- ---- the numbers of the answers
 
-pub accepted_number : {a : Answer} → a ≡ answer.Accepted → answer_number a ≡ 0
+pub accepted_number : {a : Answer} → a ≡ Ok tt → answer_number a ≡ 0
 unfolding answer_number
 accepted_number e = ap answer_number e
 
@@ -27,7 +28,7 @@ pub damaged_number : {a : Answer} → a ≡ answer.Damaged → answer_number a �
 unfolding answer_number
 damaged_number e = ap answer_number e
 
-pub number_accepted : (a : Answer) → answer_number a ≡ 0 → a ≡ answer.Accepted
+pub number_accepted : (a : Answer) → answer_number a ≡ 0 → a ≡ Ok tt
 unfolding answer_number
 number_accepted answer.Accepted e = refl
 number_accepted answer.Damaged e = absurd (omega (arith, e))
@@ -54,10 +55,10 @@ number_damaged answer.CallUnfinished e = absurd (omega (arith, e))
 number_damaged answer.SheetTooLong e = absurd (omega (arith, e))
 
 -- Accepted by its number, and 20 by its.
-pub accepted_exactly : (given : Answer) {B : Type 0} → Exactly (given ≡ answer.Accepted) B → Exactly (answer_number given ≡ 0) B
+pub accepted_exactly : (given : Answer) {B : Type 0} → Exactly (given ≡ Ok tt) B → Exactly (answer_number given ≡ 0) B
 accepted_exactly given x = (λ e. x.0 (number_accepted given e), λ b. accepted_number (x.1 b))
 
-pub damaged_exactly : (given : Answer) {B : Type 0} → Exactly (given ≡ answer.Damaged) B → Exactly (answer_number given ≡ 20) B
+pub damaged_exactly : (given : Answer) {B : Type 0} → Exactly (given ≡ Err answer.Damaged) B → Exactly (answer_number given ≡ 20) B
 damaged_exactly given x = (λ e. x.0 (number_damaged given e), λ b. damaged_number (x.1 b))
 
 -- The answer of a number.
@@ -68,7 +69,7 @@ Numbered n = (a : Answer) × (answer_number a ≡ n)
 
 module _ (given : Answer) (G : ℕ → Type 0) where
   -- Of every number but 20.
-  pub by_number : ((given ≡ answer.Damaged → ⊥) → G (answer_number given)) → ((a : Answer) → G (answer_number a) → given ≡ a)
+  pub by_number : ((given ≡ Err answer.Damaged → ⊥) → G (answer_number given)) → ((a : Answer) → G (answer_number a) → given ≡ a)
       → ((n : ℕ) → G n → Numbered n) → (n : ℕ) → (n ≡ 20 → ⊥) → Exactly (answer_number given ≡ n) (G n)
   by_number gives from known n d = (λ e. subst G e (gives (λ f. d (sym e ∙ damaged_number f))), back)
     where
@@ -76,7 +77,7 @@ module _ (given : Answer) (G : ℕ → Type 0) where
       back g = let o : Numbered n = known n g in ap answer_number (from o.0 (subst⁻¹ G o.1 g)) ∙ o.1
 
   -- Of every number but 0 and 20.
-  pub by_refusal : ((given ≡ answer.Accepted → ⊥) → (given ≡ answer.Damaged → ⊥) → G (answer_number given)) → ((a : Answer) → G (answer_number a) → given ≡ a)
+  pub by_refusal : ((given ≡ Ok tt → ⊥) → (given ≡ Err answer.Damaged → ⊥) → G (answer_number given)) → ((a : Answer) → G (answer_number a) → given ≡ a)
       → ((n : ℕ) → G n → Numbered n) → (n : ℕ) → (n ≡ 0 → ⊥) → (n ≡ 20 → ⊥) → Exactly (answer_number given ≡ n) (G n)
   by_refusal gives from known n z d = (λ e. subst G e (gives (λ f. z (sym e ∙ accepted_number f)) (λ f. d (sym e ∙ damaged_number f))), back)
     where

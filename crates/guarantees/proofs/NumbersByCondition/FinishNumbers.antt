@@ -1,4 +1,5 @@
 -- The number of a step that ends a call, by the numbers that the calls waiting for it carry: when it is 20, exactly, and what it leaves of them.
+use Rattle.std.specs.Prelude.{Ok}
 use mathlib.Core.Path.{◌≡◌, refl, sym, ap, ◌∙◌}
 use mathlib.Core.Bool.{Bool, true, false, ◌&&◌, not}
 use mathlib.Core.List.{List}
@@ -55,10 +56,10 @@ module _ (r : Run) (call : ℕ) where
     abbrev left : Moved
     left = stepped r worker call (done outcome count cells)
 
-    pub finish_answers : Exactly ((stepped r worker call (done outcome count cells)).answer ≡ answer.Accepted) (Lowerable r call)
+    pub finish_answers : Exactly ((stepped r worker call (done outcome count cells)).answer ≡ Ok tt) (Lowerable r call)
     unfolding stepped
     finish_answers = (
-      if_all (λ (m : Moved). m.answer ≡ answer.Accepted → Lowerable r call) (not can)
+      if_all (λ (m : Moved). m.answer ≡ Ok tt → Lowerable r call) (not can)
           (λ e h. absurd (accepted_not_damaged (sym h))) (λ e h. can_exact.0 (not-false can e)),
       λ h. rw (can_exact.1 h),
     )

@@ -6,14 +6,14 @@ use Prim.Native.Nat.{ℕ, ◌+◌, ◌-◌, ◌≤◌, ◌<◌}
 use native.Mathlib.Omega.{arith}
 use borrow.Author.Tests.{ltb-false, le-ltb, leb-true, leb-false, le-leb, lt-leb, eqb-true, eqb-false, eq-eqb, ne_eqb}
 use lib.Dec.{eqb, leb, ltb}
-use Rattle.std.specs.Prelude.{if◌then◌else◌}
+use Rattle.std.specs.Prelude.{if◌then◌else◌, Ok, Err, Result}
 use Rattle.arith.proofs.ChoiceLaws.{if_all, neither}
 use Rattle.schedule.specs.declared.Move.{Move}
 use Rattle.schedule.specs.declared.Move.TheVariants.{Begin, Step, Cancel}
 use Rattle.block.specs.Limits.{max_calls}
 use Rattle.machine.specs.Run.{Run}
 use Rattle.machine.specs.Step.{restorable}
-use Rattle.machine.specs.Moves.{Moved, stay, call_key_count, own_entries, Held, answered, holds, held_by, step_for, step_of, cancel_held, cancel_for, cancel_of, move_of}
+use Rattle.machine.specs.Moves.{Moved, stay, call_key_count, own_entries, held_by, step_for, step_of, cancel_held, cancel_for, cancel_of, move_of}
 use Rattle.machine.specs.Answer.{answer_number}
 use Rattle.machine.specs.declared.Answer.{Answer}
 use Rattle.machine.specs.declared.Answer.TheVariants as answer
@@ -25,31 +25,31 @@ use Rattle.guarantees.proofs.NumbersByCondition.BeginNumbers.{unsized, sized_exa
 -- ---- STEP and CANCEL
 
 -- What is found of the held call.
-abbrev pub HeldTold : Run → ℕ → Held → Type 0
-HeldTold r w (answered a) = (a ≡ answer.Damaged → ⊥) → HeldRefuses r w (answer_number a)
-HeldTold r w (holds c) = HoldsCall r w c
+abbrev pub HeldTold : Run → ℕ → Result ℕ Answer → Type 0
+HeldTold r w (Err a) = (a ≡ answer.Damaged → ⊥) → HeldRefuses r w (answer_number a)
+HeldTold r w (Ok c) = HoldsCall r w c
 
 pub accepted_not_damaged : answer.Accepted ≡ answer.Damaged → ⊥
 accepted_not_damaged e = let z : ◌≡◌ {A = ℕ} 0 1 = cc in omega arith
 
 module _ (r : Run) (w : ℕ) where
-  abbrev call_from : Held
+  abbrev call_from : Result ℕ Answer
   call_from =
       if ltb max_calls r.head.calls || ltb r.head.calls (held_in r w)
-      then answered answer.Damaged
-      else holds (held_in r w - 1)
+      then Err answer.Damaged
+      else Ok (held_in r w - 1)
 
-  abbrev held_from_lem : Held
-  held_from_lem = if leb r.head.workers w then answered answer.NoWorker else if eqb (held_in r w) 0 then answered answer.WorkerIdle else call_from
+  abbrev held_from_lem : Result ℕ Answer
+  held_from_lem = if leb r.head.workers w then Err answer.NoWorker else if eqb (held_in r w) 0 then Err answer.WorkerIdle else call_from
 
-  held_is : held_by r w ≡ (if unsized r then answered answer.Damaged else held_from_lem)
+  held_is : held_by r w ≡ (if unsized r then Err answer.Damaged else held_from_lem)
   unfolding held_by
   held_is = refl
 
   held_21 : Before21 r → held_by r w ≡ held_from_lem
   held_21 b = held_is ∙ rw ((sized_exact r).1 b)
 
-  held_given : (a : Answer) → HeldRefuses r w (answer_number a) → held_by r w ≡ answered a
+  held_given : (a : Answer) → HeldRefuses r w (answer_number a) → held_by r w ≡ Err a
   unfolding answer_number
   held_given answer.Accepted g = absurd g
   held_given answer.Damaged g = absurd g
@@ -62,7 +62,7 @@ module _ (r : Run) (w : ℕ) where
   held_given answer.CallUnfinished g = absurd g
   held_given answer.SheetTooLong g = absurd g
 
-  pub held_holds : (c : ℕ) → HoldsCall r w c → held_by r w ≡ holds c
+  pub held_holds : (c : ℕ) → HoldsCall r w c → held_by r w ≡ Ok c
   held_holds c h =
       let held : held_in r w ≡ c + 1 = h.held in
       let less : c < r.head.calls = h.known_call in
@@ -100,18 +100,18 @@ module _ (r : Run) (w : ℕ) where
       })
 
   -- A move that a refusal of these tests ends, and that goes on with the held call.
-  module _ (move : Held → Moved) (stops : (a : Answer) → move (answered a) ≡ stay r a) (on : (c : ℕ) → StaysDamaged r (move (holds c))) where
+  module _ (move : Result ℕ Answer → Moved) (stops : (a : Answer) → move (Err a) ≡ stay r a) (on : (c : ℕ) → StaysDamaged r (move (Ok c))) where
     refuses : (n : ℕ) → (n ≡ 0 → ⊥) → (n ≡ 20 → ⊥) → Exactly (answer_number (move (held_by r w)).answer ≡ n) (HeldRefuses r w n)
     refuses =
         by_refusal (move (held_by r w)).answer (HeldRefuses r w) (go (held_by r w) held_told)
         (λ a g. of_answer (ap move (held_given a g) ∙ stops a)) (held_known r w)
       where
-        go : (h : Held) → HeldTold r w h → ((move h).answer ≡ answer.Accepted → ⊥) → ((move h).answer ≡ answer.Damaged → ⊥)
+        go : (h : Result ℕ Answer) → HeldTold r w h → ((move h).answer ≡ Ok tt → ⊥) → ((move h).answer ≡ Err answer.Damaged → ⊥)
             → HeldRefuses r w (answer_number (move h).answer)
-        go (answered b) t n d =
-            let same : b ≡ (move (answered b)).answer = sym (of_answer (stops b)) in
+        go (Err b) t n d =
+            let same : b ≡ (move (Err b)).answer = sym (of_answer (stops b)) in
             subst (λ (a : Answer). HeldRefuses r w (answer_number a)) same (t (λ f. d (sym same ∙ f)))
-        go (holds c) t n d = absurd (d (of_answer ((on c).stays n)))
+        go (Ok c) t n d = absurd (d (of_answer ((on c).stays n)))
 
 -- ---- STEP
 
@@ -131,26 +131,26 @@ module _ (r : Run) (w : ℕ) where
   unfolding cancel_for
   cancels = refuses r w (cancel_for r w) (λ a. refl) cancel_stays
 
-  cancel_unmoved : ((cancel_of r w).answer ≡ answer.Accepted → ⊥) → (cancel_of r w).run ≡ r
+  cancel_unmoved : ((cancel_of r w).answer ≡ Ok tt → ⊥) → (cancel_of r w).run ≡ r
   unfolding cancel_for
   cancel_unmoved = unmoved_held r w (cancel_for r w) (λ a. refl) cancel_stays
 
   -- The held call waits again exactly if its entries can be restored.
-  held_cancelled : (c : ℕ) → Exactly ((cancel_held r w c).answer ≡ answer.Accepted) (EntriesIn r c)
+  held_cancelled : (c : ℕ) → Exactly ((cancel_held r w c).answer ≡ Ok tt) (EntriesIn r c)
   unfolding cancel_held
   held_cancelled c = (
-    if_all (λ (m : Moved). m.answer ≡ answer.Accepted → EntriesIn r c) (restorable (call_key_count r.plan c) (own_entries r.plan c))
+    if_all (λ (m : Moved). m.answer ≡ Ok tt → EntriesIn r c) (restorable (call_key_count r.plan c) (own_entries r.plan c))
         (λ e h. (entries_exact r c).0 e) (λ e h. absurd (accepted_not_damaged (sym h))),
     λ h. rw ((entries_exact r c).1 h),
   )
 
-  cancel_answers : Exactly ((cancel_of r w).answer ≡ answer.Accepted) ((c : ℕ) × HoldsCall r w c × EntriesIn r c)
+  cancel_answers : Exactly ((cancel_of r w).answer ≡ Ok tt) ((c : ℕ) × HoldsCall r w c × EntriesIn r c)
   unfolding cancel_for answer_number
   cancel_answers = (go (held_by r w) (held_told r w), λ h. of_answer (ap (cancel_for r w) (held_holds r w h.0 h.1)) ∙ (held_cancelled h.0).1 h.2)
     where
-      go : (h : Held) → HeldTold r w h → (cancel_for r w h).answer ≡ answer.Accepted → (c : ℕ) × HoldsCall r w c × EntriesIn r c
-      go (answered a) t e = absurd (subst (λ (b : Answer). HeldRefuses r w (answer_number b)) e (t (λ d. accepted_not_damaged (sym e ∙ d))))
-      go (holds c) t e = (c, t, (held_cancelled c).0 e)
+      go : (h : Result ℕ Answer) → HeldTold r w h → (cancel_for r w h).answer ≡ Ok tt → (c : ℕ) × HoldsCall r w c × EntriesIn r c
+      go (Err a) t e = absurd (subst (λ (b : Answer). HeldRefuses r w (answer_number b)) e (t (λ d. accepted_not_damaged (sym e ∙ d))))
+      go (Ok c) t e = (c, t, (held_cancelled c).0 e)
 
   pub cancel_accepted : Exactly (answer_number (cancel_of r w).answer ≡ 0) ((c : ℕ) × HoldsCall r w c × EntriesIn r c)
   cancel_accepted = accepted_exactly (cancel_of r w).answer cancel_answers

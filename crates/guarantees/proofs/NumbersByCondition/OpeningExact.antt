@@ -1,4 +1,5 @@
 -- Which openings are accepted, exactly, given that the reader reads exactly the blocks.
+use Rattle.std.specs.Prelude.{Ok}
 use mathlib.Core.Path.{◌≡◌, refl, sym, ap, subst, ◌∙◌}
 use mathlib.Core.Bool.{Bool, true, false}
 use mathlib.Core.List.{List, [], ◌∷◌, ◌++◌, map, append-nil, append_assoc}
@@ -14,7 +15,6 @@ use Rattle.wire.specs.All.{All}
 use Rattle.block.specs.Encoding.{AreBytes, Contents, block_for, ReaderExact}
 use Rattle.block.specs.declared.Call.{Call}
 use Rattle.block.specs.declared.Refusal.{Refusal}
-use Rattle.block.specs.declared.Verdict.TheVariants as verdict
 use Rattle.footprint.specs.Access.{Access}
 use Rattle.footprint.specs.Sets.{sets_of}
 use Rattle.footprint.specs.Table.{analysed, refused, analyse, insert_keys}
@@ -88,7 +88,7 @@ module _ (file : List ℕ) (functions : List Function) where
 -- ---- the opening
 
 module _ (reader : ReaderExact) (s : Sizes) (file : List ℕ) (workers : ℕ) where
-  accepts : Openable s file workers → (opening_of s file workers).answer ≡ verdict.Accepted
+  accepts : Openable s file workers → (opening_of s file workers).answer ≡ Ok tt
   accepts o =
       let b : Block = block_for o.contents in
       opening_accepted s file workers b (all_sets file b) (keys_together (opening_keys b) (all_sets file b)) o.large o.some.0 o.some.1
@@ -116,5 +116,5 @@ module _ (reader : ReaderExact) (s : Sizes) (file : List ℕ) (workers : ℕ) wh
         together = within.together;
       }
 
-  pub opening_exact : AreBytes file → Exactly ((opening_of s file workers).answer ≡ verdict.Accepted) (Openable s file workers)
+  pub opening_exact : AreBytes file → Exactly ((opening_of s file workers).answer ≡ (Ok tt)) (Openable s file workers)
   opening_exact bytes = (λ e. openable bytes (opening_made s file workers e), accepts)

@@ -1,4 +1,5 @@
 -- The number and offset of a refused opening, each exactly under its condition; those of records are the reader's.
+use Rattle.std.specs.Prelude.{Err, Ok, Result}
 use mathlib.Core.Path.{◌≡◌, refl, sym, ap, subst, subst⁻¹, ◌∙◌}
 use mathlib.Core.Bool.{Bool, true, false, ◌||◌, not, false≢true}
 use mathlib.Core.List.{List, [], ◌∷◌, ◌++◌, map}
@@ -20,8 +21,6 @@ use Rattle.block.proofs.FileFaults.{fault_range, long_refused_lem, refusals_exac
 use Rattle.block.specs.declared.Call.{Call}
 use Rattle.block.specs.declared.Refusal.{Refusal}
 use Rattle.block.specs.declared.Refusal.TheVariants.{InputTooLong, Missing, Kind, Length, Field, NotRising, BeyondLimit, Behind, Balances, Code, CallKeys, AllKeys, Workers, Buffers}
-use Rattle.block.specs.declared.Verdict.{Verdict}
-use Rattle.block.specs.declared.Verdict.TheVariants as verdict
 use Rattle.footprint.specs.Access.{Access}
 use Rattle.footprint.specs.Sets.{sets_of}
 use Rattle.footprint.specs.Plan.{Prepared, unprepared, prepare_analysed, prepare_read}
@@ -202,11 +201,11 @@ module _ (file : List ℕ) (functions : List Function) where
 
 -- ---- the numbers of verdicts
 
-accepted_number : verdict_number verdict.Accepted ≡ 0
+accepted_number : verdict_number (Ok tt) ≡ 0
 unfolding verdict_number
 accepted_number = refl
 
-refused_numbers : (why : Refusal) → (verdict_number (verdict.Refused why) ≡ number_of why) × (verdict_offset (verdict.Refused why) ≡ offset_of why)
+refused_numbers : (why : Refusal) → (verdict_number (Err why) ≡ number_of why) × (verdict_offset (Err why) ≡ offset_of why)
 unfolding verdict_number verdict_offset
 refused_numbers why = (refl, refl)
 
@@ -227,17 +226,17 @@ refusal_some (AllKeys at) = omega arith
 refusal_some Workers = omega arith
 refusal_some Buffers = omega arith
 
-number_accepted : (v : Verdict) → verdict_number v ≡ 0 → v ≡ verdict.Accepted
-number_accepted verdict.Accepted e = refl
-number_accepted (verdict.Refused why) e = absurd (omega (arith, (refused_numbers why).0, e, refusal_some why))
+number_accepted : (v : Result (Unit {0}) Refusal) → verdict_number v ≡ 0 → v ≡ Ok tt
+number_accepted (Ok tt) e = refl
+number_accepted (Err why) e = absurd (omega (arith, (refused_numbers why).0, e, refusal_some why))
 
 -- ---- the opening
 
 -- The answer of an opening whose sizes and workers are right is that of the file.
-prepared_answer : (s : Sizes) (workers : ℕ) (p : Prepared) (v : Verdict) → (open_prepared s workers p v).answer ≡ v
+prepared_answer : (s : Sizes) (workers : ℕ) (p : Prepared) (v : Result (Unit {0}) Refusal) → (open_prepared s workers p v).answer ≡ v
 unfolding open_prepared refused_run
-prepared_answer s workers p verdict.Accepted = refl
-prepared_answer s workers p (verdict.Refused why) = refl
+prepared_answer s workers p (Ok tt) = refl
+prepared_answer s workers p (Err why) = refl
 
 -- The tests of the sizes and of the workers, by their conditions.
 small_sizes : (s : Sizes) → (Large s → ⊥) → large_enough s ≡ false
@@ -271,25 +270,25 @@ module _ (s : Sizes) (file : List ℕ) (workers : ℕ) where
       rw (sizes_large s b.0, ne_eqb workers 0 some, le-ltb max_workers workers b.1.1) (prepared_answer s workers prepared prepared.verdict)
 
   -- The file's refusals by the reader, and by the analysis.
-  read_refused : (why : Refusal) → read_block file ≡ refused why → prepared.verdict ≡ verdict.Refused why
+  read_refused : (why : Refusal) → read_block file ≡ refused why → prepared.verdict ≡ Err why
   unfolding prepare_read unprepared
   read_refused why e = rw e
 
   analysis_refused : (b : Block) (why : Refusal) → read_block file ≡ accepted b → analysis_of file b ≡ table.refused why
-      → prepared.verdict ≡ verdict.Refused why
+      → prepared.verdict ≡ Err why
   unfolding prepare_read prepare_analysed unprepared
   analysis_refused b why e f = rw (e, f)
 
   -- ---- what refuses it
 
-  given_reader : (why : Refusal) → Before1 s workers → read_block file ≡ refused why → (opening_of s file workers).answer ≡ verdict.Refused why
+  given_reader : (why : Refusal) → Before1 s workers → read_block file ≡ refused why → (opening_of s file workers).answer ≡ Err why
   given_reader why b e = file_answers b ∙ read_refused why e
 
-  given_buffers : (Large s → ⊥) → (opening_of s file workers).answer ≡ verdict.Refused Buffers
+  given_buffers : (Large s → ⊥) → (opening_of s file workers).answer ≡ Err Buffers
   unfolding opening_of refused_run
   given_buffers h = rw (small_sizes s h)
 
-  given_workers : Large s → ((1 ≤ workers) × (workers ≤ max_workers) → ⊥) → (opening_of s file workers).answer ≡ verdict.Refused Workers
+  given_workers : Large s → ((1 ≤ workers) × (workers ≤ max_workers) → ⊥) → (opening_of s file workers).answer ≡ Err Workers
   unfolding opening_of refused_run
   given_workers large h = rw (sizes_large s large, few_workers_lem workers h)
 
@@ -297,7 +296,7 @@ module _ (s : Sizes) (file : List ℕ) (workers : ℕ) where
   abbrev Answers : (n offset : ℕ) → Type 0
   Answers n offset = (verdict_number (opening_of s file workers).answer ≡ n) × (verdict_offset (opening_of s file workers).answer ≡ offset)
 
-  of_refusal : (why : Refusal) → (opening_of s file workers).answer ≡ verdict.Refused why
+  of_refusal : (why : Refusal) → (opening_of s file workers).answer ≡ Err why
       → (n offset : ℕ) → number_of why ≡ n → offset_of why ≡ offset → Answers n offset
   unfolding verdict_number verdict_offset
   of_refusal why e n offset f g = (ap verdict_number e ∙ f, ap verdict_offset e ∙ g)
@@ -306,9 +305,9 @@ module _ (s : Sizes) (file : List ℕ) (workers : ℕ) where
   read_as t h = ap read_block h.bytes ∙ reader_exact.whole t h.keeps
 
   -- What a verdict says of the opening.
-  abbrev Told : Verdict → Type 0
-  Told verdict.Accepted = Unit {0}
-  Told (verdict.Refused why) = OpeningRefuses s file workers (number_of why) (offset_of why)
+  abbrev Told : Result (Unit {0}) Refusal → Type 0
+  Told (Ok tt) = Unit {0}
+  Told (Err why) = OpeningRefuses s file workers (number_of why) (offset_of why)
 
 module _ (s : Sizes) (file : List ℕ) (workers : ℕ) (bytes : AreBytes file) where
   -- ---- what refuses it
@@ -365,7 +364,7 @@ module _ (s : Sizes) (file : List ℕ) (workers : ℕ) (bytes : AreBytes file) w
       (subst⁻¹ (λ (r : Read). RefusedBy r (number_of why) (offset_of why)) e (refl, refl)) in
       omega (arith, f.number, fault_range f.fault)
 
-  by_reader : Before1 s workers → (why : Refusal) → read_block file ≡ refused why → Told s file workers (verdict.Refused why)
+  by_reader : Before1 s workers → (why : Refusal) → read_block file ≡ refused why → Told s file workers (Err why)
   unfolding number_of offset_of
   by_reader b InputTooLong e = (b, (refusals_exact.tooLong file bytes 0 (subst⁻¹ (λ (r : Read). RefusedBy r 1 0) e (refl, refl))).0, refl)
   by_reader b (Missing at) e = by_record b (Missing at) e (omega arith)
@@ -383,7 +382,7 @@ module _ (s : Sizes) (file : List ℕ) (workers : ℕ) (bytes : AreBytes file) w
   by_reader b Buffers e = absurd (no_record Buffers e (omega arith))
 
   by_analysis : Before1 s workers → (block : Block) → read_block file ≡ accepted block → (why : Refusal)
-      → Refuses (all_sets file block) (opening_keys block) block.first_call why → Told s file workers (verdict.Refused why)
+      → Refuses (all_sets file block) (opening_keys block) block.first_call why → Told s file workers (Err why)
   unfolding number_of offset_of
   by_analysis b block e InputTooLong h = absurd h
   by_analysis b block e (Missing at) h = absurd h
@@ -439,9 +438,9 @@ module _ (s : Sizes) (file : List ℕ) (workers : ℕ) (bytes : AreBytes file) w
   pub opens_not : (n offset : ℕ) → (n ≡ 0 → ⊥) → Exactly (Answers s file workers n offset) (OpeningRefuses s file workers n offset)
   opens_not n offset some = (said (opening_of s file workers).answer opening_told.told, given n offset)
     where
-      said : (v : Verdict) → Told s file workers v → (verdict_number v ≡ n) × (verdict_offset v ≡ offset) → OpeningRefuses s file workers n offset
-      said verdict.Accepted t e = absurd (some (sym e.0 ∙ accepted_number))
-      said (verdict.Refused why) t e =
+      said : (v : Result (Unit {0}) Refusal) → Told s file workers v → (verdict_number v ≡ n) × (verdict_offset v ≡ offset) → OpeningRefuses s file workers n offset
+      said (Ok tt) t e = absurd (some (sym e.0 ∙ accepted_number))
+      said (Err why) t e =
           subst (λ (k : ℕ). OpeningRefuses s file workers n k) (sym (refused_numbers why).1 ∙ e.1)
           (subst (λ (m : ℕ). OpeningRefuses s file workers m (offset_of why)) (sym (refused_numbers why).0 ∙ e.0) t)
 
@@ -454,6 +453,6 @@ module _ (s : Sizes) (file : List ℕ) (workers : ℕ) (bytes : AreBytes file) w
 pub cleared : (s : Sizes) (file : List ℕ) (workers : ℕ) → (verdict_number (opening_of s file workers).answer ≡ 0 → ⊥) → Cleared s (opening_of s file workers).run
 cleared s file workers n = go (opening_of s file workers).answer refl n
   where
-    go : (v : Verdict) → (opening_of s file workers).answer ≡ v → (verdict_number v ≡ 0 → ⊥) → Cleared s (opening_of s file workers).run
-    go verdict.Accepted e n = absurd (n accepted_number)
-    go (verdict.Refused why) e n = opening_cleared s file workers why e
+    go : (v : Result (Unit {0}) Refusal) → (opening_of s file workers).answer ≡ v → (verdict_number v ≡ 0 → ⊥) → Cleared s (opening_of s file workers).run
+    go (Ok tt) e n = absurd (n accepted_number)
+    go (Err why) e n = opening_cleared s file workers why e

@@ -1,4 +1,5 @@
 -- The number of the sheet: when it is written and which answer refuses it, exactly, and that a refusal leaves the output as it was.
+use Rattle.machine.specs.declared.Answer.{Answer}
 use mathlib.Core.Path.{◌≡◌, refl, sym, ap, subst, ◌∙◌}
 use mathlib.Core.Bool.{true, ◌&&◌, ◌||◌, not}
 use mathlib.Core.List.{List}
@@ -8,7 +9,7 @@ use lib.Dec.{eqb, leb, ltb}
 use lib.IntN.{ℤ}
 use lib.ListN.{length}
 use lib.Signed.{non_neg}
-use Rattle.std.specs.Prelude.{if◌then◌else◌}
+use Rattle.std.specs.Prelude.{if◌then◌else◌, Err, Ok, Result}
 use Rattle.block.specs.Limits.{max_calls, max_keys}
 use Rattle.block.specs.Outcomes.{last_outcome, max_count}
 use Rattle.machine.specs.Run.{Run, sizes_of, large_enough, status_word, state_of, is_state, finished}
@@ -16,8 +17,6 @@ use Rattle.machine.specs.Step.{cell_at}
 use Rattle.machine.specs.Answer.{answer_number}
 use Rattle.machine.specs.declared.Answer.TheVariants as answer
 use Rattle.sheet.specs.Sheet.{closing_number, Closed, field_of, sheet_records, sheet_bytes, offset_behind, states_allowed, all_finished, receipts_allowed, balances_allowed, unwritten, filled, written_if, written, sheet_of}
-use Rattle.sheet.specs.declared.Closing.{Closing}
-use Rattle.sheet.specs.declared.Closing.TheVariants.{Written, Refused}
 use Rattle.sheet.proofs.SheetTests.{FoundBefore27, FoundBefore28, sheet_each}
 use Rattle.guarantees.specs.Demand1.{Exactly, CallFinished, Before27, Before28, Writable, SheetGives}
 use Rattle.guarantees.proofs.NumbersByCondition.ByNumbers.{chosen}
@@ -62,14 +61,14 @@ balances_exact keys cells =
 -- ---- the sheet
 
 -- What a closing says, and that a refusal leaves the output.
-abbrev ClosingTold : Run → (output left : List ℕ) → Closing → Type 0
-ClosingTold r output left (Written n) = Writable r output
-ClosingTold r output left (Refused a) = (left ≡ output) × ((a ≡ answer.Damaged → ⊥) → SheetGives r output (answer_number a))
+abbrev ClosingTold : Run → (output left : List ℕ) → Result ℕ Answer → Type 0
+ClosingTold r output left (Ok n) = Writable r output
+ClosingTold r output left (Err a) = (left ≡ output) × ((a ≡ answer.Damaged → ⊥) → SheetGives r output (answer_number a))
 
 record SheetTold (r : Run) (output : List ℕ) (m : Closed) : Type 0 where
   told : ClosingTold r output m.output m.answer
 
-written_number : (m : ℕ) → closing_number (Written m) ≡ 0
+written_number : (m : ℕ) → closing_number (Ok m) ≡ 0
 unfolding closing_number
 written_number m = refl
 
@@ -123,7 +122,7 @@ module _ (r : Run) (output : List ℕ) where
       → sheet_of r output ≡ written output (sheet_records r)
   sheet_written b receipts = sheet_28 b ∙ rw ((receipts_exact r.status r.head.calls).every.1 receipts)
 
-  sheet_too_long : Before28 r → length output < length (sheet_bytes r) → (sheet_of r output).answer ≡ Refused answer.SheetTooLong
+  sheet_too_long : Before28 r → length output < length (sheet_bytes r) → (sheet_of r output).answer ≡ Err answer.SheetTooLong
   unfolding written_if
   sheet_too_long b h = of_answer (sheet_28 b) ∙ rw (lt-ltb (length output) (length (sheet_bytes r)) h)
 
@@ -161,14 +160,14 @@ module _ (r : Run) (output : List ℕ) where
       let receipts = (receipts_exact r.status r.head.calls).every.0 e in
       record { told = record { so_far = before_28 b; fits = fits; outcomes = λ c l. (receipts c l).0; counts = λ c l. (receipts c l).1 } }
 
-  found : (k : Closing) → (sheet_of r output).answer ≡ k → ClosingTold r output (sheet_of r output).output k
+  found : (k : Result ℕ Answer) → (sheet_of r output).answer ≡ k → ClosingTold r output (sheet_of r output).output k
   found k e = subst (ClosingTold r output (sheet_of r output).output) e sheet_told.told
 
   -- What a closing other than 20 says, by its number.
-  closing_gives : (k : Closing) → (sheet_of r output).answer ≡ k → (closing_number k ≡ 20 → ⊥) → SheetGives r output (closing_number k)
+  closing_gives : (k : Result ℕ Answer) → (sheet_of r output).answer ≡ k → (closing_number k ≡ 20 → ⊥) → SheetGives r output (closing_number k)
   unfolding closing_number answer_number
-  closing_gives (Written n) e d = found (Written n) e
-  closing_gives (Refused a) e d = (found (Refused a) e).1 (λ f. d (ap answer_number f))
+  closing_gives (Ok n) e d = found (Ok n) e
+  closing_gives (Err a) e d = (found (Err a) e).1 (λ f. d (ap answer_number f))
 
   pub closes : (n : ℕ) → (n ≡ 20 → ⊥) → Exactly (closing_number (sheet_of r output).answer ≡ n) (SheetGives r output n)
   unfolding closing_number answer_number
@@ -182,12 +181,12 @@ module _ (r : Run) (output : List ℕ) where
   )
 
   pub sheet_writes : Exactly (sheet_of r output ≡ filled output (sheet_records r)) (Writable r output)
-  sheet_writes = (λ e. found (Written (offset_behind (sheet_records r))) (of_answer e), given_whole)
+  sheet_writes = (λ e. found (Ok (offset_behind (sheet_records r))) (of_answer e), given_whole)
 
   -- "a refused .. sheet leaves them unchanged"
   pub unwritten_left : (closing_number (sheet_of r output).answer ≡ 0 → ⊥) → (sheet_of r output).output ≡ output
   unwritten_left n = go (sheet_of r output).answer refl n
     where
-      go : (k : Closing) → (sheet_of r output).answer ≡ k → (closing_number k ≡ 0 → ⊥) → (sheet_of r output).output ≡ output
-      go (Written m) e n = absurd (n (written_number m))
-      go (Refused a) e n = (found (Refused a) e).0
+      go : (k : Result ℕ Answer) → (sheet_of r output).answer ≡ k → (closing_number k ≡ 0 → ⊥) → (sheet_of r output).output ≡ output
+      go (Ok m) e n = absurd (n (written_number m))
+      go (Err a) e n = (found (Err a) e).0

@@ -1,4 +1,7 @@
 -- The numbers of STEP: it is accepted exactly if every value that it uses is in its range, and it is 20 exactly if one is not.
+use Rattle.arith.specs.declared.NoResult.TheVariants.{Overflow, ZeroDivisor}
+use Rattle.arith.specs.declared.NoResult.{NoResult}
+use Rattle.block.specs.declared.address.Account.{Account}
 use mathlib.Core.Path.{◌≡◌, refl, sym, ap, subst, subst⁻¹, ◌∙◌}
 use mathlib.Core.Bool.{Bool, true, false, ◌&&◌, ◌||◌, not, true≢false, false≢true}
 use mathlib.Core.List.{List, [], ◌∷◌, ◌++◌}
@@ -11,10 +14,8 @@ use lib.Signed.{lt_z, le_z, non_neg}
 use lib.Dec.{eqb, leb, ltb}
 use lib.ListN.{length, get_or, drop}
 use Rattle.arith.specs.Balance.{largest}
-use Rattle.std.specs.Prelude.{if◌then◌else◌}
+use Rattle.std.specs.Prelude.{if◌then◌else◌, None, Option, Some, Ok, Err, Result}
 use Rattle.arith.specs.Exact.{signed, fits64, floor_by, checked, add_of, sub_of, mul_of, div_of}
-use Rattle.arith.specs.declared.Checked.{Checked}
-use Rattle.arith.specs.declared.Checked.TheVariants as checked_as
 use Rattle.arith.proofs.ChoiceLaws.{if_all, by_test, both, neither}
 use Rattle.wire.specs.All.{All}
 use Rattle.wire.specs.Bytes.{number, read_le}
@@ -25,11 +26,6 @@ use Rattle.block.specs.Naming.{target_of, cell_key}
 use Rattle.block.specs.Outcomes.{thrown, balance_too_low, not_paid}
 use Rattle.block.specs.Record.{call_bytes, call_of}
 use Rattle.block.specs.declared.Call.{Call}
-use Rattle.block.specs.declared.CallBody.{CallBody}
-use Rattle.block.specs.declared.Decoded.{Decoded}
-use Rattle.block.specs.declared.Decoded.TheVariants.{Valid, Invalid}
-use Rattle.block.specs.declared.Payee.{Payee}
-use Rattle.block.specs.declared.Payee.TheVariants.{To, Nobody}
 use Rattle.block.specs.declared.Instr.{Instr}
 use Rattle.block.specs.declared.Instr.TheVariants.{Stop, Throw, Set, Arg, Sender, Value, Add, Sub, Mul, Div, Get, Put, Bal, Pay, Jeq, Jlt}
 use Rattle.footprint.specs.Access.{Access, reading, writing, changing, entry_accesses, pay_accesses, accesses}
@@ -37,12 +33,10 @@ use Rattle.footprint.specs.Plan.{key_words, high_word, low_word, code_start, ent
 use Rattle.machine.specs.Action.{place_of, doing, register, pay_action, checked_action, instr_action, entry_action}
 use Rattle.machine.specs.Run.{Run, has_key, regs_in, plan_word}
 use Rattle.machine.specs.Step.{View, Performed, broken, onward, ending, Stepped, damaged, done, find_entry, lookup, restorable, restored, load_cell, store_cell, deposit_cell, transfer_cells, perform, perform_action, fuel_broken, step_entry, step_decoded, step_instr, step_body, step_place, finish, concluded, step_call}
-use Rattle.machine.specs.Moves.{Moved, call_key_count, own_entries, view_of, Held, answered, holds, held_by, stepped, step_record, step_held, step_for, step_of}
+use Rattle.machine.specs.Moves.{Moved, call_key_count, own_entries, view_of, held_by, stepped, step_record, step_held, step_for, step_of}
 use Rattle.machine.specs.declared.Answer.{Answer}
 use Rattle.machine.specs.declared.Answer.TheVariants as answer
 use Rattle.machine.specs.declared.Next.TheVariants.{Go, End, Transfer}
-use Rattle.machine.specs.declared.Lookup.{Lookup}
-use Rattle.machine.specs.declared.Lookup.TheVariants.{Cell, NoCell}
 use Rattle.machine.proofs.RefusedLaws.{step_stays}
 use Rattle.guarantees.specs.ZeroDivisors.{Reckoned, exactly, quotient, reckoned, is_by_zero, is_outside}
 use Rattle.guarantees.specs.StepNeeds.{record_bytes, lent_call, RecordNeeds, KeyAt, EntryAmong, EntryFor, value_in, BalanceNeeds, ReadNeeds, WriteNeeds, ReachNeeds, TransferNeeds, ReckonNeeds, PayNeeds, InstrNeeds, code_in, place_on, count_on, EntryNeeds, DueNeeds, BodyNeeds}
@@ -65,10 +59,10 @@ second_fails false t e q = absurd (false≢true q)
 
 -- ---- a cell among the entries
 
-nowhere : (n : ℕ) → NoCell ≡ Cell n → ⊥
+nowhere : (n : ℕ) → None ≡ Some n → ⊥
 nowhere n e = let z : ◌≡◌ {A = ℕ} 0 1 = cc in omega arith
 
-same_cell : (m n : ℕ) → Cell m ≡ Cell n → m ≡ n
+same_cell : (m n : ℕ) → Some m ≡ Some n → m ≡ n
 same_cell m n e = cc
 
 key_exact : (keys : List ℕ) (n k : ℕ) → Exactly (has_key keys n k ≡ true) (KeyAt keys n k)
@@ -103,15 +97,15 @@ module _ (keys : List ℕ) (a : Access) where
         writes = f.writes;
       }
 
-  found_among : (es : List ℕ) (cell : ℕ) → find_entry keys es a ≡ Cell cell → EntryAmong keys es a cell
+  found_among : (es : List ℕ) (cell : ℕ) → find_entry keys es a ≡ Some cell → EntryAmong keys es a cell
   unfolding find_entry
   found_among [] cell = λ q. absurd (nowhere cell q)
   found_among (e ∷ es) cell =
-      if_all (λ (l : Lookup). l ≡ Cell cell → EntryAmong keys (e ∷ es) a cell) (not (ltb (entry_cell e) max_keys)) (λ h q. absurd (nowhere cell q)) λ low.
+      if_all (λ (l : Option ℕ). l ≡ Some cell → EntryAmong keys (e ∷ es) a cell) (not (ltb (entry_cell e) max_keys)) (λ h q. absurd (nowhere cell q)) λ low.
       let small : entry_cell e < max_keys = ltb-true (entry_cell e) max_keys (not-false (ltb (entry_cell e) max_keys) low) in
-      if_all (λ (l : Lookup). l ≡ Cell cell → EntryAmong keys (e ∷ es) a cell) (has_key keys (entry_cell e) a.key)
+      if_all (λ (l : Option ℕ). l ≡ Some cell → EntryAmong keys (e ∷ es) a cell) (has_key keys (entry_cell e) a.key)
       (λ own.
-      if_all (λ (l : Lookup). l ≡ Cell cell → EntryAmong keys (e ∷ es) a cell) (flags e)
+      if_all (λ (l : Option ℕ). l ≡ Some cell → EntryAmong keys (e ∷ es) a cell) (flags e)
       (λ f q.
       let same : entry_cell e ≡ cell = same_cell (entry_cell e) cell q in
       record {
@@ -131,7 +125,7 @@ module _ (keys : List ℕ) (a : Access) where
       behind_other e es cell (small, λ k. true≢false (sym ((key_exact keys (entry_cell e) a.key).1 k) ∙ other)) (found_among es cell q))
 
   among_found : (before : List ℕ) (entry : ℕ) (behind : List ℕ) → All Other before → entry_cell entry < max_keys → KeyAt keys (entry_cell entry) a.key
-      → flags entry ≡ true → find_entry keys (before ++ (entry ∷ behind)) a ≡ Cell (entry_cell entry)
+      → flags entry ≡ true → find_entry keys (before ++ (entry ∷ behind)) a ≡ Some (entry_cell entry)
   unfolding find_entry
   among_found [] entry behind o low own f = rw (lt-ltb (entry_cell entry) max_keys low, (key_exact keys (entry_cell entry) a.key).1 own, f)
   among_found (b ∷ before) entry behind o low own f =
@@ -140,14 +134,14 @@ module _ (keys : List ℕ) (a : Access) where
         fails_unless (has_key keys (entry_cell b) a.key) (key_exact keys (entry_cell b) a.key).0 o.0.1,
       ) (among_found before entry behind o.1 low own f)
 
-  among_exact : (es : List ℕ) (cell : ℕ) → Exactly (find_entry keys es a ≡ Cell cell) (EntryAmong keys es a cell)
+  among_exact : (es : List ℕ) (cell : ℕ) → Exactly (find_entry keys es a ≡ Some cell) (EntryAmong keys es a cell)
   among_exact es cell = (
     found_among es cell,
     λ f.
         ap (λ (l : List ℕ). find_entry keys l a) f.listed
         ∙ among_found f.before f.entry f.behind f.others (subst⁻¹ (λ (n : ℕ). n < max_keys) f.named f.known)
         (subst⁻¹ (λ (n : ℕ). KeyAt keys n a.key) f.named f.has_key_lem) ((flags_exact f.entry).1 (f.reads, f.writes))
-        ∙ ap Cell f.named,
+        ∙ ap Some f.named,
   )
 
 -- A contract's balance is one.
@@ -162,14 +156,14 @@ balance_read r call key e = (
 
 -- ---- what an instruction reckons
 
-unfoldable failing : Checked → Bool
-failing (checked_as.Value v) = false
-failing checked_as.Overflow = true
-failing checked_as.ZeroDivisor = true
+unfoldable failing : Result ℤ NoResult → Bool
+failing (Ok v) = false
+failing (Err Overflow) = true
+failing (Err ZeroDivisor) = true
 
 exact_fails : (z : ℤ) → failing (checked z) ≡ (is_outside (exactly z) || is_by_zero (exactly z))
 unfolding checked failing is_outside is_by_zero
-exact_fails z = by_test (λ t. failing (if t then checked_as.Value z else checked_as.Overflow) ≡ (not t || false)) (fits64 z) (λ e. refl) (λ e. refl)
+exact_fails z = by_test (λ t. failing (if t then Ok z else (Err Overflow)) ≡ (not t || false)) (fits64 z) (λ e. refl) (λ e. refl)
 
 quotient_fails : (a b : ℤ) → failing (div_of a b) ≡ (is_outside (quotient a b) || is_by_zero (quotient a b))
 unfolding div_of quotient failing is_outside is_by_zero
@@ -179,10 +173,10 @@ quotient_fails a (negsuc d) = exact_fails (floor_by (neg_ℤ a) (suc d))
 
 -- ---- one instruction, one record
 
-not_valid : (i : Instr) → Invalid ≡ Valid i → ⊥
+not_valid : (i : Instr) → None ≡ Some i → ⊥
 not_valid i e = let z : ◌≡◌ {A = ℕ} 0 1 = cc in omega arith
 
-same_instr : (i j : Instr) → Valid i ≡ Valid j → i ≡ j
+same_instr : (i j : Instr) → Some i ≡ Some j → i ≡ j
 same_instr i j e = cc
 
 abbrev record_test : List ℕ → Bool
@@ -221,28 +215,28 @@ module _ (block : List ℕ) (r : Run) (worker call : ℕ) (c : Call) (Ends Resto
   nothing_needed : Exactly (Unit {0}) (Unit {0})
   nothing_needed = itself
 
-  find_exact : (a : Access) (cell : ℕ) → Exactly (lookup view a ≡ Cell cell) (EntryFor r call a cell)
+  find_exact : (a : Access) (cell : ℕ) → Exactly (lookup view a ≡ Some cell) (EntryFor r call a cell)
   unfolding lookup
   find_exact a cell = (
-    if_all (λ (l : Lookup). l ≡ Cell cell → EntryFor r call a cell) (leb (call_key_count r.plan call) max_call_keys)
+    if_all (λ (l : Option ℕ). l ≡ Some cell → EntryFor r call a cell) (leb (call_key_count r.plan call) max_call_keys)
         (λ few q. (leb-true (call_key_count r.plan call) max_call_keys few, (among_exact r.keys a (own_entries r.plan call) cell).0 q))
         (λ many q. absurd (nowhere cell q)),
     λ f. rw (le-leb (call_key_count r.plan call) max_call_keys f.0) ((among_exact r.keys a (own_entries r.plan call) cell).1 f.1),
   )
 
   -- Where no cell is found there is none; and where one is found there is no other.
-  none_for : (a : Access) (cell : ℕ) → lookup view a ≡ NoCell → EntryFor r call a cell → ⊥
+  none_for : (a : Access) (cell : ℕ) → lookup view a ≡ None → EntryFor r call a cell → ⊥
   none_for a cell q f = nowhere cell (sym q ∙ (find_exact a cell).1 f)
 
-  one_for : (a : Access) (n cell : ℕ) → lookup view a ≡ Cell n → EntryFor r call a cell → n ≡ cell
+  one_for : (a : Access) (n cell : ℕ) → lookup view a ≡ Some n → EntryFor r call a cell → n ≡ cell
   one_for a n cell q f = same_cell n cell (sym q ∙ (find_exact a cell).1 f)
 
   module _ (place count : ℕ) (regs : List ℤ) where
-    load_exact : (x key : ℕ) (found : Lookup) → lookup view (reading key) ≡ found
+    load_exact : (x key : ℕ) (found : Option ℕ) → lookup view (reading key) ≡ found
         → Exactly (Comes (load_cell place count regs x (reading key) r.cells found)) (ReadNeeds r call key)
     unfolding load_cell
-    load_exact x key NoCell q = (λ h. absurd h, λ h. none_for (reading key) h.cell q h.found)
-    load_exact x key (Cell n) q =
+    load_exact x key None q = (λ h. absurd h, λ h. none_for (reading key) h.cell q h.found)
+    load_exact x key (Some n) q =
         if_all (λ (p : Performed). Exactly (Comes p) (ReadNeeds r call key)) (is_balance key && not (non_neg (value_in r n)))
         (λ low.
         let b = both (is_balance key) (not (non_neg (value_in r n))) low in (
@@ -262,17 +256,17 @@ module _ (block : List ℕ) (r : Run) (worker call : ℕ) (c : Call) (Ends Resto
           λ h. tt,
         ))
 
-    store_exact : (z : ℤ) (key : ℕ) (found : Lookup) → lookup view (writing key) ≡ found
+    store_exact : (z : ℤ) (key : ℕ) (found : Option ℕ) → lookup view (writing key) ≡ found
         → Exactly (Comes (store_cell place count regs z r.cells found)) (WriteNeeds r call key)
     unfolding store_cell
-    store_exact z key NoCell q = (λ h. absurd h, λ h. none_for (writing key) h.cell q h.found)
-    store_exact z key (Cell n) q = (λ h. record { cell = n; found = (find_exact (writing key) n).0 q }, λ h. tt)
+    store_exact z key None q = (λ h. absurd h, λ h. none_for (writing key) h.cell q h.found)
+    store_exact z key (Some n) q = (λ h. record { cell = n; found = (find_exact (writing key) n).0 q }, λ h. tt)
 
-    reach_exact : (to : ℕ) (amount : ℤ) (n : ℕ) (found : Lookup) → lookup view (writing to) ≡ found
+    reach_exact : (to : ℕ) (amount : ℤ) (n : ℕ) (found : Option ℕ) → lookup view (writing to) ≡ found
         → Exactly (Comes (deposit_cell place count regs amount n r.cells found)) (ReachNeeds r call to amount)
     unfolding deposit_cell
-    reach_exact to amount n NoCell q = (λ h. absurd h, λ h. none_for (writing to) h.cell q h.found)
-    reach_exact to amount n (Cell m) q =
+    reach_exact to amount n None q = (λ h. absurd h, λ h. none_for (writing to) h.cell q h.found)
+    reach_exact to amount n (Some m) q =
         if_all (λ (p : Performed). Exactly (Comes p) (ReachNeeds r call to amount)) (non_neg (value_in r m) && le_z (value_in r m +ℤ amount) largest)
         (λ fine.
         let b = both (non_neg (value_in r m)) (le_z (value_in r m +ℤ amount) largest) fine in
@@ -290,12 +284,12 @@ module _ (block : List ℕ) (r : Run) (worker call : ℕ) (c : Call) (Ends Resto
     abbrev Transfers : (from to : ℕ) → ℤ → (short : ℕ) → Type 0
     Transfers from to amount short = TransferNeeds r call from to amount (EndNeeds Ends Restores (ltb short thrown))
 
-    transfer_exact : (from to : ℕ) (amount : ℤ) (short : ℕ) (found : Lookup) → lookup view (changing from) ≡ found
+    transfer_exact : (from to : ℕ) (amount : ℤ) (short : ℕ) (found : Option ℕ) → lookup view (changing from) ≡ found
         → Exactly (Comes (transfer_cells view place count regs amount short (writing to) r.cells found))
         (Transfers from to amount short)
     unfolding transfer_cells
-    transfer_exact from to amount short NoCell q = (λ h. absurd h, λ h. none_for (changing from) h.cell q h.found)
-    transfer_exact from to amount short (Cell n) q =
+    transfer_exact from to amount short None q = (λ h. absurd h, λ h. none_for (changing from) h.cell q h.found)
+    transfer_exact from to amount short (Some n) q =
         if_all (λ (p : Performed). Exactly (Comes p) (Transfers from to amount short)) (not (non_neg (value_in r n)))
         (λ low. (
           λ h. absurd h,
@@ -344,25 +338,25 @@ module _ (block : List ℕ) (r : Run) (worker call : ℕ) (c : Call) (Ends Resto
         via (transfer_exact (account_balance c.sender) (contract_balance c.contract) c.value balance_too_low _ refl) (λ h e. h, λ h. h refl)
     entry_exact false q = (λ h e. absurd (false≢true e), λ h. tt)
 
-    checked_exact : (as' : List Access) (x : ℕ) (z : Checked)
+    checked_exact : (as' : List Access) (x : ℕ) (z : Result ℤ NoResult)
         → Exactly (Comes (perform_action view place count as' (checked_action place regs x z) r.cells)) (failing z ≡ true → Restores)
     unfolding checked_action perform failing
-    checked_exact as' x (checked_as.Value v) = (λ h e. absurd (false≢true e), λ h. tt)
-    checked_exact as' x checked_as.Overflow = (λ h e. h, λ h. h refl)
-    checked_exact as' x checked_as.ZeroDivisor = (λ h e. h, λ h. h refl)
+    checked_exact as' x (Ok v) = (λ h e. absurd (false≢true e), λ h. tt)
+    checked_exact as' x (Err Overflow) = (λ h e. h, λ h. h refl)
+    checked_exact as' x (Err ZeroDivisor) = (λ h e. h, λ h. h refl)
 
-    reckon_exact : (as' : List Access) (x : ℕ) (z : Checked) (y : Reckoned) → failing z ≡ (is_outside y || is_by_zero y)
+    reckon_exact : (as' : List Access) (x : ℕ) (z : Result ℤ NoResult) (y : Reckoned) → failing z ≡ (is_outside y || is_by_zero y)
         → Exactly (Comes (perform_action view place count as' (checked_action place regs x z) r.cells)) (ReckonNeeds Restores y)
     reckon_exact as' x z y e =
         subst
         (λ (t : Bool). Exactly (Comes (perform_action view place count as' (checked_action place regs x z) r.cells)) (t ≡ true → Restores)) e
         (checked_exact as' x z)
 
-    pay_exact : (amount : ℤ) (payee : Payee) → Exactly (Comes (perform_action view place count (pay_accesses c payee) (pay_action regs amount payee) r.cells))
+    pay_exact : (amount : ℤ) (payee : Option Account) → Exactly (Comes (perform_action view place count (pay_accesses c payee) (pay_action regs amount payee) r.cells))
         (PayNeeds r call c amount Restores payee)
     unfolding pay_accesses pay_action perform
-    pay_exact amount Nobody = itself
-    pay_exact amount (To account) =
+    pay_exact amount None = itself
+    pay_exact amount (Some account) =
         by_test
         (λ t. Exactly
         (Comes (perform_action view place count (changing (contract_balance c.contract) ∷ writing (account_balance account) ∷ [])
@@ -416,11 +410,11 @@ module _ (block : List ℕ) (r : Run) (worker call : ℕ) (c : Call) (Ends Resto
   abbrev Due : Type 0
   Due = DueNeeds block r worker call c Ends Restores
 
-  decoded_exact : start + instr_bytes * size ≤ length block → (d : Decoded) → decode size (drop (start + instr_bytes * (place - 1)) block) ≡ d
+  decoded_exact : start + instr_bytes * size ≤ length block → (d : Option Instr) → decode size (drop (start + instr_bytes * (place - 1)) block) ≡ d
       → Exactly (Comes (step_decoded view place count regs r.cells d)) Due
   unfolding step_decoded
-  decoded_exact whole Invalid q = (λ h. absurd h, λ h. not_valid h.instr (sym q ∙ h.valid))
-  decoded_exact whole (Valid i) q =
+  decoded_exact whole None q = (λ h. absurd h, λ h. not_valid h.instr (sym q ∙ h.valid))
+  decoded_exact whole (Some i) q =
       via (instr_exact place (count + 1) regs i) (
         λ h. record { stretch = whole; instr = i; valid = q; needs = h },
         λ h. subst⁻¹ (InstrNeeds r call c regs Ends Restores) (same_instr i h.instr (sym q ∙ h.valid)) h.needs,
@@ -532,7 +526,7 @@ module _ (block : List ℕ) (r : Run) (worker call : ℕ) where
   Restores = EntriesIn r call × Lowerable r call
 
   abbrev Goes : Stepped → Type 0
-  Goes x = (stepped r worker call x).answer ≡ answer.Accepted
+  Goes x = (stepped r worker call x).answer ≡ Ok tt
 
   -- Nothing is accepted that is damaged.
   never : {A : Type 0} → answer.Damaged ≡ answer.Accepted → A
@@ -572,10 +566,10 @@ module _ (block : List ℕ) (r : Run) (worker call : ℕ) where
   bytes = record_bytes block r call
 
   record_exact : code_in r call ≤ max_code + 1 → place_on r worker ≤ code_in r call
-      → Exactly ((step_record block r worker call (call_of bytes)).answer ≡ answer.Accepted) Needs
+      → Exactly ((step_record block r worker call (call_of bytes)).answer ≡ Ok tt) Needs
   unfolding step_record step_call call_of
   record_exact code place =
-      if_all (λ (b : CallBody). Exactly ((step_record block r worker call b).answer ≡ answer.Accepted) Needs) (record_test bytes)
+      if_all (λ (b : Option Call). Exactly ((step_record block r worker call b).answer ≡ Ok tt) Needs) (record_test bytes)
       (λ e.
       via (concluded_exact (lent_call bytes) _ r.cells
       (step_place (view_of block r call (lent_call bytes)) (place_on r worker) (count_on r worker) (regs_in r.frames worker) r.cells))
@@ -585,10 +579,10 @@ module _ (block : List ℕ) (r : Run) (worker call : ℕ) where
       )))
       (λ e. (λ h. never h, λ h. absurd (true≢false (sym ((test_exact bytes).1 h.recorded) ∙ e))))
 
-  held_exact : Exactly ((step_held block r worker call).answer ≡ answer.Accepted) Needs
+  held_exact : Exactly ((step_held block r worker call).answer ≡ Ok tt) Needs
   unfolding step_held
   held_exact =
-      if_all (λ (m : Moved). Exactly (m.answer ≡ answer.Accepted) Needs) outside
+      if_all (λ (m : Moved). Exactly (m.answer ≡ Ok tt) Needs) outside
       (λ e. (
         λ h. never h,
         λ h. absurd (true≢false (sym e ∙ passes h)),
@@ -607,7 +601,7 @@ module _ (block : List ℕ) (r : Run) (worker call : ℕ) where
 abbrev NoneHeld : Run → (worker : ℕ) → Type 0
 NoneHeld r worker = Before21 r × ((r.head.workers ≤ worker) ⊎ (held_in r worker ≡ 0))
 
-answered_as : (r : Run) (worker : ℕ) (a : Answer) → HeldTold r worker (answered a) → (a ≡ answer.Damaged) ⊎ NoneHeld r worker
+answered_as : (r : Run) (worker : ℕ) (a : Answer) → HeldTold r worker (Err a) → (a ≡ answer.Damaged) ⊎ NoneHeld r worker
 unfolding answer_number
 answered_as r worker answer.Accepted t = absurd (t (λ e. let z : ◌≡◌ {A = ℕ} 0 1 = cc in omega arith))
 answered_as r worker answer.Damaged t = inl refl
@@ -625,19 +619,19 @@ answered_as r worker answer.CallUnfinished t = absurd (t (λ e. let z : ◌≡�
 answered_as r worker answer.SheetTooLong t = absurd (t (λ e. let z : ◌≡◌ {A = ℕ} 0 1 = cc in omega arith))
 
 module _ (block : List ℕ) (r : Run) (worker : ℕ) where
-  pub step_accepted : Exactly ((step_of block r worker).answer ≡ answer.Accepted) ((call : ℕ) × HoldsCall r worker call × StepIn block r worker call)
+  pub step_accepted : Exactly ((step_of block r worker).answer ≡ Ok tt) ((call : ℕ) × HoldsCall r worker call × StepIn block r worker call)
   unfolding step_for answer_number
   step_accepted = (
     go (held_by r worker) (held_told r worker),
     λ h. of_answer (ap (step_for block r worker) (held_holds r worker h.0 h.1)) ∙ (held_exact block r worker h.0).1 h.2,
   )
     where
-      go : (h : Held) → HeldTold r worker h → (step_for block r worker h).answer ≡ answer.Accepted
+      go : (h : Result ℕ Answer) → HeldTold r worker h → (step_for block r worker h).answer ≡ Ok tt
           → (call : ℕ) × HoldsCall r worker call × StepIn block r worker call
-      go (answered a) t e = absurd (subst (λ (b : Answer). HeldRefuses r worker (answer_number b)) e (t (λ d. accepted_not_damaged (sym e ∙ d))))
-      go (holds call) t e = (call, t, (held_exact block r worker call).0 e)
+      go (Err a) t e = absurd (subst (λ (b : Answer). HeldRefuses r worker (answer_number b)) e (t (λ d. accepted_not_damaged (sym e ∙ d))))
+      go (Ok call) t e = (call, t, (held_exact block r worker call).0 e)
 
-  only_damaged : StepDamaged block r worker → (step_of block r worker).answer ≡ answer.Damaged
+  only_damaged : StepDamaged block r worker → (step_of block r worker).answer ≡ Err answer.Damaged
   unfolding step_for
   only_damaged d = go (held_by r worker) (held_told r worker)
     where
@@ -657,11 +651,11 @@ module _ (block : List ℕ) (r : Run) (worker : ℕ) where
       unused call h (inl n) s = n h.so_far.so_far
       unused call h (inr x) s = x.3 call h s
 
-      go : (h : Held) → HeldTold r worker h → (step_for block r worker h).answer ≡ answer.Damaged
-      go (answered a) t = answers a (answered_as r worker a t)
-      go (holds call) t = of_answer ((step_stays block r worker call).stays (λ e. unused call t d ((held_exact block r worker call).0 e)))
+      go : (h : Result ℕ Answer) → HeldTold r worker h → (step_for block r worker h).answer ≡ Err answer.Damaged
+      go (Err a) t = answers a (answered_as r worker a t)
+      go (Ok call) t = of_answer ((step_stays block r worker call).stays (λ e. unused call t d ((held_exact block r worker call).0 e)))
 
-  found_damaged : (step_of block r worker).answer ≡ answer.Damaged → StepDamaged block r worker
+  found_damaged : (step_of block r worker).answer ≡ Err answer.Damaged → StepDamaged block r worker
   found_damaged e = by_size (unsized r) refl
     where
       by_held : Before21 r → worker < r.head.workers → (t : Bool) → eqb (held_in r worker) 0 ≡ t → StepDamaged block r worker
@@ -683,5 +677,5 @@ module _ (block : List ℕ) (r : Run) (worker : ℕ) where
       by_size true q = inl (λ b. true≢false (sym q ∙ (sized_exact r).1 b))
       by_size false q = by_worker ((sized_exact r).0 q) (leb r.head.workers worker) refl
 
-  pub step_damaged : Exactly ((step_of block r worker).answer ≡ answer.Damaged) (StepDamaged block r worker)
+  pub step_damaged : Exactly ((step_of block r worker).answer ≡ Err answer.Damaged) (StepDamaged block r worker)
   step_damaged = (found_damaged, only_damaged)

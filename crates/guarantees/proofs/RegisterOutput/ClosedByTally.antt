@@ -4,10 +4,9 @@ use mathlib.Core.Bool.{Bool, true, false}
 use mathlib.Core.List.{List, []}
 use Prim.Native.Nat.{ℕ, ◌≤◌}
 use lib.ListN.{length, take}
-use Rattle.std.specs.Prelude.{if◌then◌else◌}
+use Rattle.std.specs.Prelude.{if◌then◌else◌, Ok}
 use Rattle.block.specs.Limits.{max_workers}
 use Rattle.block.specs.Encoding.{AreBytes}
-use Rattle.block.specs.declared.Verdict.TheVariants as verdict
 use Rattle.schedule.specs.declared.Move.{Move}
 use Rattle.machine.specs.Run.{Run, fixed_sizes}
 use Rattle.machine.specs.Opening.{opening_of}
@@ -51,7 +50,7 @@ session_comes file input = input_comes file (session_start file) (take max_input
 
 -- ---- the close
 
-module _ (file : List ℕ) (bytes : AreBytes file) (accepted : (opening_of fixed_sizes file max_workers).answer ≡ verdict.Accepted) where
+module _ (file : List ℕ) (bytes : AreBytes file) (accepted : (opening_of fixed_sizes file max_workers).answer ≡ (Ok tt)) where
   serial_short : length (sheet_bytes (serial file)) ≤ max_sheet
   serial_short =
       let after : AfterOpening fixed_sizes file max_workers = after_opening fixed_sizes file max_workers bytes accepted in

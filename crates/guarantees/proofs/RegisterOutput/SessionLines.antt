@@ -2,10 +2,9 @@
 use mathlib.Core.Path.{◌≡◌, refl, sym, subst, ◌∙◌}
 use mathlib.Core.Bool.{Bool, true, false}
 use mathlib.Core.List.{List, [], ◌∷◌, ◌++◌, append_assoc, append-nil}
-use mathlib.Core.Option.{Option, none, some}
 use Prim.Native.Nat.{ℕ}
 use lib.Dec.{eqb}
-use Rattle.std.specs.Prelude.{if◌then◌else◌}
+use Rattle.std.specs.Prelude.{if◌then◌else◌, None, Option, Some}
 use Rattle.arith.proofs.ChoiceLaws.{by_test}
 use Rattle.wire.specs.Decimal.{line_feed}
 use Rattle.schedule.specs.declared.Move.{Move}
@@ -24,8 +23,8 @@ pub record Comes (block : List ℕ) (s e : Session) (ls : List (Option Move)) : 
 -- One line more, before others.
 pub line_comes : (block : List ℕ) (s : Session) (m : Option Move) (e : Session) (ls : List (Option Move)) → Comes block (play_move block s m) e ls → Comes block s e (m ∷ ls)
 unfolding play_move moves_of lines_text run_after answers_of
-line_comes block s none e ls h = record { run = h.run; output = h.output ∙ append_assoc s.output _ _ }
-line_comes block s (some m) e ls h = record { run = h.run; output = h.output ∙ append_assoc s.output _ _ }
+line_comes block s None e ls h = record { run = h.run; output = h.output ∙ append_assoc s.output _ _ }
+line_comes block s (Some m) e ls h = record { run = h.run; output = h.output ∙ append_assoc s.output _ _ }
 
 -- None is left.
 pub none_comes : (block : List ℕ) (s : Session) → Comes block s s []
@@ -46,8 +45,8 @@ end_comes block s =
 -- Behind a whole line nothing of the next is read.
 pub next_empty : (block : List ℕ) (s : Session) (m : Option Move) → (play_move block s m).line ≡ Empty
 unfolding play_move
-next_empty block s none = refl
-next_empty block s (some m) = refl
+next_empty block s None = refl
+next_empty block s (Some m) = refl
 
 -- The session behind the rest of the input.
 abbrev pub session_ended : List ℕ → Session → List ℕ → Session

@@ -1,4 +1,5 @@
 -- An opening's verdict, and the number of steps that the serial run takes for a call, do not depend on the sizes of the buffers.
+use Rattle.block.specs.declared.Refusal.{Refusal}
 use mathlib.Core.Path.{◌≡◌, refl, sym, ap, ap₂, subst⁻¹, ◌∙◌}
 use mathlib.Core.Bool.{Bool, true, false, ◌||◌, not}
 use mathlib.Core.List.{List, [], map}
@@ -8,7 +9,7 @@ use borrow.Author.Tests.{le-ltb, ne_eqb}
 use lib.Dec.{eqb, ltb}
 use lib.IntN.{ℤ, pos}
 use lib.ListN.{length, get_or, drop}
-use Rattle.std.specs.Prelude.{if◌then◌else◌}
+use Rattle.std.specs.Prelude.{if◌then◌else◌, Ok, Result}
 use Rattle.wire.specs.Bytes.{padded}
 use Rattle.wire.proofs.BytesLaws.{padded_at}
 use Rattle.block.specs.Limits.{max_workers}
@@ -16,8 +17,6 @@ use Rattle.block.specs.Record.{Function, Block, head_bytes, call_record_bytes, c
 use Rattle.block.specs.Reader.{Read, accepted, read_block}
 use Rattle.block.specs.declared.Call.{Call}
 use Rattle.block.specs.declared.Refusal.TheVariants.{Workers, Buffers}
-use Rattle.block.specs.declared.Verdict.{Verdict}
-use Rattle.block.specs.declared.Verdict.TheVariants.{Accepted}
 use Rattle.footprint.specs.Access.{Access}
 use Rattle.block.specs.Encoding.{AreBytes}
 use Rattle.footprint.specs.Table as table
@@ -45,7 +44,7 @@ use Rattle.guarantees.specs.RuleRun.{body_call}
 -- ---- the verdict
 
 prepared_accepts : (r : Room) (file : List ℕ) (b : Block) (sets : List (List Access)) (keys : List ℕ)
-    → read_block file ≡ accepted b → analysis_of file b ≡ table.analysed sets keys → (prepare_read r file (read_block file)).verdict ≡ Accepted
+    → read_block file ≡ accepted b → analysis_of file b ≡ table.analysed sets keys → (prepare_read r file (read_block file)).verdict ≡ Ok tt
 unfolding prepare_read prepare_analysed
 prepared_accepts r file b sets keys read analysis =
     ap (λ (g : Read). (prepare_read r file g).verdict) read ∙ ap (λ (a : Analysis). (prepare_analysed r b a).verdict) analysis
@@ -56,7 +55,7 @@ workers_allowed workers low high =
 
 -- What is accepted in some buffers is accepted in all that are large enough.
 pub accepted_by_sizes : (s t : Sizes) (file : List ℕ) (workers : ℕ) → large_enough t ≡ true
-    → (opening_of s file workers).answer ≡ Accepted → (opening_of t file workers).answer ≡ Accepted
+    → (opening_of s file workers).answer ≡ (Ok tt) → (opening_of t file workers).answer ≡ Ok tt
 unfolding opening_of open_prepared
 accepted_by_sizes s t file workers large answer =
     let m : Made s file workers (opening_of s file workers) = opening_made s file workers answer in
@@ -71,11 +70,11 @@ accepted_by_sizes s t file workers large answer =
     large
     ∙ ap (λ (b : Bool). (if b then refused_run t Workers else open_prepared t workers p p.verdict).answer)
     (workers_allowed workers m.low m.high)
-    ∙ ap (λ (v : Verdict). (open_prepared t workers p v).answer)
+    ∙ ap (λ (v : Result (Unit {0}) Refusal). (open_prepared t workers p v).answer)
     (prepared_accepts (room_in t) file m.block m.sets m.keys m.read m.analysis)
 
-pub accepted_fixed : (s : Sizes) (file : List ℕ) (workers : ℕ) → (opening_of s file workers).answer ≡ Accepted
-    → (opening_of fixed_sizes file workers).answer ≡ Accepted
+pub accepted_fixed : (s : Sizes) (file : List ℕ) (workers : ℕ) → (opening_of s file workers).answer ≡ Ok tt
+    → (opening_of fixed_sizes file workers).answer ≡ Ok tt
 unfolding large_enough room_enough
 accepted_fixed s file workers = accepted_by_sizes s fixed_sizes file workers refl
 
@@ -167,7 +166,7 @@ module _ (s t : Sizes) (file : List ℕ) (workers : ℕ) (bytes : AreBytes file)
 -- ---- the theorem
 
 -- "the number of steps that the serial run takes for that call": in any buffers as in those of the fixed sizes.
-pub steps_by_sizes : (s : Sizes) (file : List ℕ) (workers : ℕ) → ((i : ℕ) → get_or file i 0 < 256) → (opening_of s file workers).answer ≡ Accepted
+pub steps_by_sizes : (s : Sizes) (file : List ℕ) (workers : ℕ) → ((i : ℕ) → get_or file i 0 < 256) → (opening_of s file workers).answer ≡ Ok tt
     → (c : ℕ) → c < length (block_of file).calls
     → serial_steps file (opening_of s file workers).run c ≡ serial_steps file (opening_of fixed_sizes file workers).run c
 steps_by_sizes s file workers bytes answer =

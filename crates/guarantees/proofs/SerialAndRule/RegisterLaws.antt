@@ -3,13 +3,12 @@
 use mathlib.Core.Path.{◌≡◌, refl, sym, ap, subst⁻¹, ◌∙◌}
 use mathlib.Core.Bool.{Bool, true, false, ◌&&◌, ◌||◌, false≢true}
 use mathlib.Core.List.{List, [], ◌∷◌, map}
-use mathlib.Core.Option.{some}
 use Prim.Native.Nat.{ℕ, zero, suc, ◌<◌}
 use borrow.Author.Tests.{eqb-true}
 use lib.Dec.{eqb}
 use lib.IntN.{ℤ, pos}
-use lib.ListN.{length, get_or, get_elem?}
-use Rattle.std.specs.Prelude.{if◌then◌else◌}
+use lib.ListN.{length, get_or}
+use Rattle.std.specs.Prelude.{if◌then◌else◌, Some, slice_get}
 use Rattle.block.specs.Record.{Function, Cell}
 use Rattle.block.specs.declared.Call.{Call}
 use Rattle.footprint.specs.Access.{Access}
@@ -75,7 +74,7 @@ opening_elsewhere (c ∷ cs) k out = go (eqb k c.key) out (opening_elsewhere cs 
 
 -- What every transaction of a list of calls keeps, all of them keep.
 pub lefts_keep : (file : List ℕ) (functions : List Function) (K : State → Type 0) (calls : List Call)
-    → ((i : ℕ) (c : Call) → get_elem? calls i ≡ some c → (σ : State) → K σ → K (transaction file functions c σ).state)
+    → ((i : ℕ) (c : Call) → slice_get calls i ≡ Some c → (σ : State) → K σ → K (transaction file functions c σ).state)
     → (σ : State) → K σ → K (state_left σ (transactions file functions calls σ))
 unfolding state_left transactions
 lefts_keep file functions K [] each σ holds = holds

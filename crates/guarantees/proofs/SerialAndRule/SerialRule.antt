@@ -1,21 +1,21 @@
 -- The serial run of an opened block gives, call by call, what the published rule folds over its transactions; and each call alone, begun
 -- in any cells that hold a state within the limit, gives its transaction.
+use Rattle.std.specs.Prelude.{None, Option, Some, slice_get}
+use Rattle.std.proofs.lemmas.Option.{none-some}
+use Rattle.std.proofs.lemmas.Option.{same_Some}
 use mathlib.Core.Path.{◌≡◌, refl, ap, ap₂, subst⁻¹, ◌∙◌}
 use mathlib.Core.Bool.{Bool, true, false, ◌||◌, false≢true}
 use mathlib.Core.List.{List, [], ◌∷◌}
-use mathlib.Core.Option.{some, some-injective, none-ne-some}
 use Prim.Native.Nat.{ℕ, zero, suc, ◌+◌, ◌*◌, ◌≤◌, ◌<◌}
 use native.Mathlib.Omega.{arith}
 use borrow.Author.Tests.{eqb-true}
 use lib.Dec.{eqb}
 use lib.IntN.{ℤ}
-use lib.ListN.{length, get_or, get_elem?, drop}
+use lib.ListN.{length, get_or, drop}
 use Rattle.schedule.specs.Calls as calls
 use Rattle.schedule.specs.Calls.{Calls, done, trace, whole, alone, serial}
 use Rattle.block.specs.Record.{Function, Block, head_bytes, call_record_bytes, call_of}
 use Rattle.block.specs.declared.Call.{Call}
-use Rattle.block.specs.declared.CallBody.{CallBody}
-use Rattle.block.specs.declared.CallBody.TheVariants.{OutOfRange}
 use Rattle.footprint.specs.Access.{Access}
 use Rattle.footprint.proofs.SetAccessLaws.{drop_bytes}
 use Rattle.block.specs.Encoding.{AreBytes}
@@ -69,7 +69,7 @@ module _ (file : List ℕ) (functions : List Function) where
 
   -- It stands at its place of the fold.
   pub left_listed : (calls : List Call) (σ : State) (c : ℕ) → c < length calls
-      → get_elem? (transactions file functions calls σ) c ≡ some (left_at calls σ c)
+      → slice_get (transactions file functions calls σ) c ≡ Some (left_at calls σ c)
   unfolding state_after transactions
   left_listed [] σ c h = absurd (omega arith)
   left_listed (x ∷ xs) σ zero h = refl
@@ -85,9 +85,9 @@ module _ (file : List ℕ) (functions : List Function) where
 
 -- ---- lists
 
-pub found_in_lem : {A : Type 0} (l : List A) (j : ℕ) (d x : A) → get_elem? l j ≡ some x → get_or l j d ≡ x
-found_in_lem [] j d x e = absurd (none-ne-some x e)
-found_in_lem (y ∷ l) zero d x e = some-injective y x e
+pub found_in_lem : {A : Type 0} (l : List A) (j : ℕ) (d x : A) → slice_get l j ≡ Some x → get_or l j d ≡ x
+found_in_lem [] j d x e = absurd (none-some x e)
+found_in_lem (y ∷ l) zero d x e = same_Some y x e
 found_in_lem (y ∷ l) (suc j) d x e = found_in_lem l j d x e
 
 -- Keys that are listed are in the table.
@@ -164,7 +164,7 @@ module _ (s : Sizes) (file : List ℕ) (bytes : AreBytes file) (workers : ℕ) (
   unfolding body_call
   view_made c x o =
       ap (λ (h : Head). view_of file r c (body_call (call_of (drop (h.first_call + call_record_bytes * c + head_bytes) file)))) after.opened.head
-      ∙ ap (λ (d : CallBody). view_of file r c (body_call d)) o.body
+      ∙ ap (λ (d : Option Call). view_of file r c (body_call d)) o.body
       ∙ o.view
 
   opened_fits : (c : ℕ) (x : Call) → Opened c x → CallBounded x
@@ -211,7 +211,7 @@ module _ (s : Sizes) (file : List ℕ) (bytes : AreBytes file) (workers : ℕ) (
       (transaction file (block_of file).functions (call_in (block_of file).calls c) σ)
   call_follows c less σ within cells hold =
       let o : (x : Call) × Opened c x = after.opened.calls c less in
-      subst⁻¹ (λ (x : Call). Follows c cells (rule x σ)) (found_in_lem b.calls c (body_call OutOfRange) o.0 o.1.at)
+      subst⁻¹ (λ (x : Call). Follows c cells (rule x σ)) (found_in_lem b.calls c (body_call None) o.0 o.1.at)
       (opened_follows c o.0 o.1 σ within cells hold)
 
   -- ---- the serial run

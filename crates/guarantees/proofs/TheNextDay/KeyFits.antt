@@ -1,9 +1,9 @@
 -- Keys that an opening cell may have, and that the keys of an opened block's table are such keys.
+use Rattle.std.specs.Prelude.{None, Option, Some}
 use mathlib.Core.Path.{◌≡◌, refl, sym, subst, subst⁻¹, ◌∙◌}
 use mathlib.Core.Logic.{⊎_elim}
 use mathlib.Core.Bool.{Bool, true, false, ◌||◌, false≢true}
 use mathlib.Core.List.{List, [], ◌∷◌, ◌++◌, map}
-use mathlib.Core.Option.{Option}
 use Prim.Native.Nat.{ℕ, suc, ◌+◌, ◌*◌, ◌^◌, ◌≤◌, ◌<◌}
 use native.Mathlib.Omega.{arith}
 use borrow.Author.Tests.{le-ltb, eqb-true, ne_eqb}
@@ -22,8 +22,6 @@ use Rattle.block.proofs.ReaderLaws.{BlockLaws}
 use Rattle.block.specs.declared.address.Address.{Address}
 use Rattle.block.specs.declared.address.Address.TheVariants.{OfAccount, OfContract}
 use Rattle.block.specs.declared.Call.{Call}
-use Rattle.block.specs.declared.Decoded.{Decoded}
-use Rattle.block.specs.declared.Decoded.TheVariants.{Valid, Invalid}
 use Rattle.block.specs.declared.Instr.{Instr}
 use Rattle.block.specs.declared.Source.{Source}
 use Rattle.block.proofs.DecodeLaws.{CellSourcesFit, Decodes}
@@ -126,9 +124,9 @@ module _ (c : Call) (fits : CallBounded c) where
       (λ x field a b e.
       ⊎_elim (λ g. named_fits field a b (subst InstrSound g h)) (λ p. named_fits field a b (subst InstrSound p h)) e)
 
-  decoded_fits : (d : Decoded) → Decodes InstrSound d → All (Keyed KeyFits) (decoded_accesses c d)
-  decoded_fits (Valid i) h = instr_fits i h
-  decoded_fits Invalid h = tt
+  decoded_fits : (d : Option Instr) → Decodes InstrSound d → All (Keyed KeyFits) (decoded_accesses c d)
+  decoded_fits (Some i) h = instr_fits i h
+  decoded_fits None h = tt
 
   sets_fit : (block : List ℕ) → AreBytes block → (f : Option Function) → All (Keyed KeyFits) (function_sets block c f)
   sets_fit block h f =

@@ -1,4 +1,5 @@
 -- A run whose kind 2 records are those of cells that keep document 01's rules opens the next block, with any functions and calls.
+use Rattle.std.specs.Prelude.{Ok}
 use mathlib.Core.Path.{◌≡◌, sym, ap, subst, subst⁻¹, ◌∙◌}
 use mathlib.Core.List.{List, [], ◌∷◌, ◌++◌, flatten}
 use Prim.Native.Nat.{ℕ, zero, suc, ◌≤◌}
@@ -17,7 +18,6 @@ use Rattle.block.proofs.EncodingLaws.{function_body, cell_body, call_body}
 use Rattle.block.proofs.OneFile.{all_map, keeps_fits}
 use Rattle.block.proofs.ReaderExact.{reader_exact}
 use Rattle.block.specs.declared.Call.{Call}
-use Rattle.block.specs.declared.Verdict.TheVariants as verdict
 use Rattle.footprint.specs.Plan.{opening_value}
 use Rattle.rule.specs.Rule.{State}
 use Rattle.block.specs.BlockOfFile.{block_in, block_of, opening_keys}
@@ -123,7 +123,7 @@ module _ (r : Run) (σ : State) (cells : List Cell) (carries : Carries r σ cell
 
   module _ (s : Sizes) (workers : ℕ) where
     abbrev Accepts : Type 0
-    Accepts = (opening_of s file workers).answer ≡ verdict.Accepted
+    Accepts = (opening_of s file workers).answer ≡ Ok tt
 
     -- An accepted file holds these contents and no others.
     holds_these : (t : Contents) → HoldsContents file t → t ≡ contents
