@@ -12,7 +12,7 @@ use lib.ListN.{get_or, set}
 use lib.Signed.{lt_z, non_neg}
 use Rattle.wire.specs.All.{All}
 use Rattle.footprint.specs.SafeSets.{AlikeOn, LeftAlike}
-use Rattle.std.specs.Prelude.{if◌then◌else◌, None, Option, Some, slice_get, Err, Ok}
+use Rattle.std.specs.Prelude.{if◌then◌else◌, None, Option, Some, slice_get, Err, Ok, Result}
 use Rattle.arith.specs.Exact.{add_of, sub_of, mul_of, div_of}
 use Rattle.arith.proofs.IntegerLaws.{clash}
 use Rattle.block.specs.Key.{account_balance, contract_balance}

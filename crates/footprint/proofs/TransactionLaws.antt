@@ -13,7 +13,7 @@ use lib.Dec.{lit<}
 use lib.IntN.{ℤ, pos, negsuc, neg_ℤ, ◌+ℤ◌, ◌-ℤ◌, ◌*ℤ◌}
 use lib.ListN.{get_or, set}
 use lib.Signed.{mag, lt_z, non_neg}
-use Rattle.std.specs.Prelude.{if◌then◌else◌, None, Option, Some, slice_get}
+use Rattle.std.specs.Prelude.{if◌then◌else◌, None, Option, Some, slice_get, Result}
 use Rattle.arith.proofs.ChoiceLaws.{if_all, neither}
 use Rattle.arith.specs.Exact.{fits64, checked, floor_by, div_of}
 use Rattle.wire.specs.All.{All}

@@ -24,7 +24,7 @@ module _ (file : List ℕ) (bytes : AreBytes file) (accepted : (opening_of fixed
       (session_comes file input).output ∙ ap (lines_text 1 (lines_of input)) (demand_3 fixed_sizes file max_workers bytes accepted (moves_in input)).answers
 
   closing_is : close_run (session_end file input).run ≡ (if all_done file (moves_in input) then sheet_text (sheet_bytes (serial file)) else refused_text 0 27)
-  unfolding closing_text answer_number
+  unfolding closing_text answer_number refused_number
   closing_is =
       closed_by_tally file bytes accepted (λ c. closing_text c c.answer) input
       ∙ ap (λ (t : List ℕ). if all_done file (moves_in input) then sheet_text t else refused_text 0 27) (serial_front file bytes accepted)

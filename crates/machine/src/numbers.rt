@@ -1,6 +1,6 @@
 // Document 01's numbers of answers.
 ghost use Rattle.std.specs.Prelude.{◌≡◌};
-ghost use Rattle.machine.specs.Answer.{answer_number};
+ghost use Rattle.machine.specs.Answer.{answer_number, refused_number};
 
 use crate::Answer;
 

@@ -2,7 +2,7 @@
 -- one, or the end for want of fuel.
 use Rattle.arith.specs.declared.NoResult.TheVariants.{Overflow, ZeroDivisor}
 use Rattle.arith.specs.declared.NoResult.{NoResult}
-use Rattle.std.specs.Prelude.{None, Option, Some, Err, Ok}
+use Rattle.std.specs.Prelude.{Result, None, Option, Some, Err, Ok}
 use Rattle.block.specs.declared.address.Account.{Account}
 use mathlib.Core.Path.{◌≡◌, refl}
 use mathlib.Core.Bool.{false, ◌||◌}
@@ -34,26 +34,26 @@ OneMore start n (before p ρ m σ) = m ≡ n + 1
 OneMore start n (over r) = body_steps (settle start r) ≡ n + 1
 
 module _ (start : State) (c : Call) (p : ℕ) (ρ : List ℤ) (n : ℕ) (σ : State) where
-  abbrev Ok : Course → Type 0
-  Ok = OneMore start n
+  abbrev OneOn : Course → Type 0
+  OneOn = OneMore start n
 
-  failed : (outcome : ℕ) → eqb outcome out_of_fuel ≡ false → Ok (over (fails outcome (n + 1)))
+  failed : (outcome : ℕ) → eqb outcome out_of_fuel ≡ false → OneOn (over (fails outcome (n + 1)))
   unfolding settle
   failed outcome e = rw e (omega arith)
 
-  checked_one : (x : ℕ) (v : Result ℤ NoResult) → Ok (assign_checked p ρ (n + 1) σ x v)
+  checked_one : (x : ℕ) (v : Result ℤ NoResult) → OneOn (assign_checked p ρ (n + 1) σ x v)
   unfolding assign_checked
   checked_one x (Ok v) = refl
   checked_one x (Err Overflow) = failed out_of_range refl
   checked_one x (Err ZeroDivisor) = failed zero_divisor refl
 
-  transfer_one : (amount : ℤ) (payee : Option Account) → Ok (transfer c p ρ (n + 1) σ amount payee)
+  transfer_one : (amount : ℤ) (payee : Option Account) → OneOn (transfer c p ρ (n + 1) σ amount payee)
   unfolding transfer
   transfer_one amount None = failed 5 refl
   transfer_one amount (Some account) =
-      if_all Ok (non_neg amount) (λ e. if_all Ok (lt_z (σ (contract_balance c.contract)) amount) (λ f. failed 5 refl) (λ f. refl)) (λ e. failed 5 refl)
+      if_all OneOn (non_neg amount) (λ e. if_all OneOn (lt_z (σ (contract_balance c.contract)) amount) (λ f. failed 5 refl) (λ f. refl)) (λ e. failed 5 refl)
 
-  execute_one : (i : Instr) → Ok (execute c p ρ (n + 1) σ i)
+  execute_one : (i : Instr) → OneOn (execute c p ρ (n + 1) σ i)
   unfolding execute settle
   execute_one Stop = omega arith
   execute_one Throw = failed 3 refl

@@ -74,7 +74,7 @@ module _ (block : List ℕ) (r : Run) where
 
   pub steps_refused :
       (left : ℕ) {m : Moved} → m ≡ step_of block r 0 → {number : ℕ} → number ≡ answer_number m.answer → (number ≡ 0 → ⊥) → step_to_end left block r ≡ m.run
-  unfolding answer_number
+  unfolding answer_number refused_number
   steps_refused left {m} made told some =
       let stays : (step_of block r 0).run ≡ r =
       step_unmoved block r 0 (λ e. some (told ∙ ap (λ (x : Moved). answer_number x.answer) made ∙ ap answer_number e)) in

@@ -135,7 +135,7 @@ module _ (file : List ℕ) (workers n : ℕ) (before : ℕ → ℕ → Bool) (r�
 
   checked : w < workers → c < n → tally.is_idle (M.seat w) ≡ true
       → Follow (cond (not (is_ready (M.call c))) 24 (cond (blocked before done c c) 25 0)) (begin_checked (waits_by_count r c) r w c)
-  unfolding begin_checked answer_number
+  unfolding begin_checked answer_number refused_number
   checked worker call free =
       let state : StateRead (state_of r.status c) (M.call c) = call_read file workers n before r₀ base M r m c call in
       passes file workers n before r₀ _ _ _ (ap not state.known)
@@ -150,7 +150,7 @@ module _ (file : List ℕ) (workers n : ℕ) (before : ℕ → ℕ → Bool) (r�
       (record { same = refl; run = begun worker call free (not-false (is_ready (M.call c)) e) })))))
 
   pub begin_follows : Follow (refusal workers n before (λ i. is_ready (M.call i)) done M.seat (Begin w c)) (begin_of r w c)
-  unfolding refusal begin_by answer_number
+  unfolding refusal begin_by answer_number refused_number
   begin_follows =
       passes file workers n before r₀ _ _ _ (sized file workers n before r₀ base M r m)
       (tests file workers n before r₀ 21 _ _ _ _ (leb workers w) (ap (λ (k : ℕ). leb k w) m.worker_count)

@@ -80,7 +80,7 @@ module _ (file : List ℕ) (workers n : ℕ) (before : ℕ → ℕ → Bool) (r�
         (change_matches file workers n before r₀ base M r m w c ready 0 cells (with_state r.status c waiting) r.seats r.frames change)
 
     cancelled : Follows file workers n before r₀ M (cancel_worker (calls_in file n before r₀) M w (M.seat w)) 0 (cancel_held r w c)
-    unfolding cancel_held answer_number
+    unfolding cancel_held answer_number refused_number
     cancelled =
         subst⁻¹ (Follows file workers n before r₀ M (cancel_worker (calls_in file n before r₀) M w (M.seat w)) 0)
         (if_true (record { answer = Ok tt; run = left }) (stay r Damaged)

@@ -58,7 +58,7 @@ module _ (file : List ℕ) (workers n : ℕ) (before : ℕ → ℕ → Bool) (r�
   pub held_follows : (after : Machine (calls_in file n before r₀)) (move : machine.Held → Moved) → ((a : Answer) → move (Err a) ≡ stay r a)
       → ((c : ℕ) → M.seat w ≡ tally.holds c → Follows file workers n before r₀ M after 0 (move (machine.holds c)))
       → Follows file workers n before r₀ M after (cond (leb workers w) 21 (cond (tally.is_idle (M.seat w)) 26 0)) (move (held_by r w))
-  unfolding answer_number
+  unfolding answer_number refused_number
   held_follows after move stays follows = go (leb workers w) refl (M.seat w) refl
     where
       go : (t : Bool) → leb workers w ≡ t → (s : tally.Seat) → M.seat w ≡ s

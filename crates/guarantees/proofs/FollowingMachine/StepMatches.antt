@@ -165,7 +165,7 @@ module _ (file : List ℕ) (workers n : ℕ) (before : ℕ → ℕ → Bool) (r�
     -- By what the step leaves.
     stepped_matches : (result ≡ damaged → ⊥) → (x : Stepped) → result ≡ x → StepLowers (run_view file r₀ c) (place_with_saved k.local k.kept) x
         → length (point_of M.cells x).state ≡ length M.cells → Follows file workers n before r₀ M (settled x) 0 (stepped r w c x)
-    unfolding stepped point_of answer_number
+    unfolding stepped point_of answer_number refused_number
     stepped_matches whole damaged q low size = absurd (whole q)
     stepped_matches whole (more l cells) q low size =
         let eight : length l.regs ≡ 8 = omega (arith, low.registers, ap length k.own.regs, regs_length r.frames w frame_room) in

@@ -130,7 +130,7 @@ module _ (r : Run) (w c : ℕ) where
   begin_25 b = begin_24 b.so_far ∙ rw (eq-eqb (state_of r.status c) waiting b.waits, le-ltb c number b.number)
 
   given : (a : Answer) → BeginGives r w c (answer_number a) → (begin_of r w c).answer ≡ a
-  unfolding answer_number
+  unfolding answer_number refused_number
   given answer.Accepted (b, none, entries) = of_answer (begin_25 b) ∙ rw (eq-eqb number 0 none, (entries_exact r c).1 entries)
   given answer.Damaged g = absurd g
   given answer.NoWorker (b, h) = of_answer (begin_21 b) ∙ rw (le-leb r.head.workers w h)
@@ -150,7 +150,7 @@ module _ (r : Run) (w c : ℕ) where
   refused a g = record { unmoved = λ n. refl; gives = λ d. g }
 
   told_25 : Before25 r w c → BeginTold r w c from25
-  unfolding answer_number
+  unfolding answer_number refused_number
   told_25 b =
       if_all (BeginTold r w c) (not (eqb number 0)) (λ e. refused answer.EarlierUnfinished (b, eqb-false number 0 (not-true (eqb number 0) e))) λ e.
       if_all (BeginTold r w c) (not (restorable (call_key_count r.plan c) (own_entries r.plan c))) (λ f. damaged) λ f.
@@ -164,7 +164,7 @@ module _ (r : Run) (w c : ℕ) where
       }
 
   told_24 : Before24 r w c → BeginTold r w c from24
-  unfolding answer_number
+  unfolding answer_number refused_number
   told_24 b =
       if_all (BeginTold r w c) (not (eqb (state_of r.status c) waiting))
       (λ e. refused answer.NotWaiting (b, eqb-false (state_of r.status c) waiting (not-true (eqb (state_of r.status c) waiting) e)))
@@ -177,7 +177,7 @@ module _ (r : Run) (w c : ℕ) where
       }
 
   told_23 : Before23 r w c → BeginTold r w c from23
-  unfolding answer_number
+  unfolding answer_number refused_number
   told_23 b =
       if_all (BeginTold r w c) (not (eqb (held_in r w) 0))
       (λ e. refused answer.WorkerBusy (b, eqb-false (held_in r w) 0 (not-true (eqb (held_in r w) 0) e))) λ e.
@@ -189,14 +189,14 @@ module _ (r : Run) (w c : ℕ) where
       }
 
   told_22 : Before22 r w → BeginTold r w c from22
-  unfolding answer_number
+  unfolding answer_number refused_number
   told_22 b =
       if_all (BeginTold r w c) (leb r.head.calls c) (λ e. refused answer.NoCall (b, leb-true r.head.calls c e)) λ e.
       if_all (BeginTold r w c) (ltb r.head.calls (held_in r w)) (λ f. damaged) λ f.
       told_23 record { so_far = b; known_call = leb-false r.head.calls c e; held = ltb-false r.head.calls (held_in r w) f }
 
   told_21 : Before21 r → BeginTold r w c from21
-  unfolding answer_number
+  unfolding answer_number refused_number
   told_21 b =
       if_all (BeginTold r w c) (leb r.head.workers w) (λ e. refused answer.NoWorker (b, leb-true r.head.workers w e)) λ e.
       if_all (BeginTold r w c) (ltb max_calls r.head.calls) (λ f. damaged) λ f.

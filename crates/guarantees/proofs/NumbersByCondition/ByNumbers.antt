@@ -21,15 +21,15 @@ chosen C false f g h = g refl h
 -- ---- the numbers of the answers
 
 pub accepted_number : {a : Answer} → a ≡ Ok tt → answer_number a ≡ 0
-unfolding answer_number
+unfolding answer_number refused_number
 accepted_number e = ap answer_number e
 
 pub damaged_number : {a : Answer} → a ≡ answer.Damaged → answer_number a ≡ 20
-unfolding answer_number
+unfolding answer_number refused_number
 damaged_number e = ap answer_number e
 
 pub number_accepted : (a : Answer) → answer_number a ≡ 0 → a ≡ Ok tt
-unfolding answer_number
+unfolding answer_number refused_number
 number_accepted answer.Accepted e = refl
 number_accepted answer.Damaged e = absurd (omega (arith, e))
 number_accepted answer.NoWorker e = absurd (omega (arith, e))
@@ -42,7 +42,7 @@ number_accepted answer.CallUnfinished e = absurd (omega (arith, e))
 number_accepted answer.SheetTooLong e = absurd (omega (arith, e))
 
 number_damaged : (a : Answer) → answer_number a ≡ 20 → a ≡ answer.Damaged
-unfolding answer_number
+unfolding answer_number refused_number
 number_damaged answer.Accepted e = absurd (omega (arith, e))
 number_damaged answer.Damaged e = refl
 number_damaged answer.NoWorker e = absurd (omega (arith, e))
@@ -87,7 +87,7 @@ module _ (given : Answer) (G : ℕ → Type 0) where
 -- ---- each condition is that of an answer
 
 pub begin_known : (r : Run) (worker call n : ℕ) → BeginGives r worker call n → Numbered n
-unfolding answer_number
+unfolding answer_number refused_number
 begin_known r worker call n =
     chosen (Numbered n) (eqb n 0) (λ e g. (answer.Accepted, sym (eqb-true n 0 e)))
     (λ e₁. chosen (Numbered n) (eqb n 21) (λ e g. (answer.NoWorker, sym (eqb-true n 21 e)))
@@ -97,7 +97,7 @@ begin_known r worker call n =
     (λ e₅. chosen (Numbered n) (eqb n 25) (λ e g. (answer.EarlierUnfinished, sym (eqb-true n 25 e))) (λ e₆ g. absurd g))))))
 
 pub held_known : (r : Run) (worker n : ℕ) → HeldRefuses r worker n → Numbered n
-unfolding answer_number
+unfolding answer_number refused_number
 held_known r worker n =
     chosen (Numbered n) (eqb n 21) (λ e g. (answer.NoWorker, sym (eqb-true n 21 e)))
     (λ e₁. chosen (Numbered n) (eqb n 26) (λ e g. (answer.WorkerIdle, sym (eqb-true n 26 e))) (λ e₂ g. absurd g))

@@ -50,7 +50,7 @@ module _ (r : Run) (w : ℕ) where
   held_21 b = held_is ∙ rw ((sized_exact r).1 b)
 
   held_given : (a : Answer) → HeldRefuses r w (answer_number a) → held_by r w ≡ Err a
-  unfolding answer_number
+  unfolding answer_number refused_number
   held_given answer.Accepted g = absurd g
   held_given answer.Damaged g = absurd g
   held_given answer.NoWorker (b, h) = held_21 b ∙ rw (le-leb r.head.workers w h)
@@ -77,7 +77,7 @@ module _ (r : Run) (w : ℕ) where
       )
 
   pub held_told : HeldTold r w (held_by r w)
-  unfolding answer_number
+  unfolding answer_number refused_number
   held_told =
       subst⁻¹ (HeldTold r w) held_is
       (if_all (HeldTold r w) (unsized r) (λ e d. absurd (d refl)) λ e.
@@ -145,7 +145,7 @@ module _ (r : Run) (w : ℕ) where
   )
 
   cancel_answers : Exactly ((cancel_of r w).answer ≡ Ok tt) ((c : ℕ) × HoldsCall r w c × EntriesIn r c)
-  unfolding cancel_for answer_number
+  unfolding cancel_for answer_number refused_number
   cancel_answers = (go (held_by r w) (held_told r w), λ h. of_answer (ap (cancel_for r w) (held_holds r w h.0 h.1)) ∙ (held_cancelled h.0).1 h.2)
     where
       go : (h : Result ℕ Answer) → HeldTold r w h → (cancel_for r w h).answer ≡ Ok tt → (c : ℕ) × HoldsCall r w c × EntriesIn r c

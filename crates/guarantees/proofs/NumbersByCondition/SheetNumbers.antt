@@ -150,7 +150,7 @@ module _ (r : Run) (output : List ℕ) where
       }
 
   sheet_told : SheetTold r output (sheet_of r output)
-  unfolding answer_number
+  unfolding answer_number refused_number
   sheet_told =
       sheet_each (SheetTold r output) r output
       record { told = (refl, λ d. absurd (d refl)) }
@@ -165,12 +165,12 @@ module _ (r : Run) (output : List ℕ) where
 
   -- What a closing other than 20 says, by its number.
   closing_gives : (k : Result ℕ Answer) → (sheet_of r output).answer ≡ k → (closing_number k ≡ 20 → ⊥) → SheetGives r output (closing_number k)
-  unfolding closing_number answer_number
+  unfolding closing_number answer_number refused_number
   closing_gives (Ok n) e d = found (Ok n) e
   closing_gives (Err a) e d = (found (Err a) e).1 (λ f. d (ap answer_number f))
 
   pub closes : (n : ℕ) → (n ≡ 20 → ⊥) → Exactly (closing_number (sheet_of r output).answer ≡ n) (SheetGives r output n)
-  unfolding closing_number answer_number
+  unfolding closing_number answer_number refused_number
   closes n d = (
     λ e. subst (SheetGives r output) e (closing_gives (sheet_of r output).answer refl (λ f. d (sym e ∙ f))),
     chosen (closing_number (sheet_of r output).answer ≡ n) (eqb n 0) (λ e w. ap closing_number (of_answer (given_whole w)) ∙ sym (eqb-true n 0 e))

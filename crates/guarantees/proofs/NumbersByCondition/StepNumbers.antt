@@ -602,7 +602,7 @@ abbrev NoneHeld : Run → (worker : ℕ) → Type 0
 NoneHeld r worker = Before21 r × ((r.head.workers ≤ worker) ⊎ (held_in r worker ≡ 0))
 
 answered_as : (r : Run) (worker : ℕ) (a : Answer) → HeldTold r worker (Err a) → (a ≡ answer.Damaged) ⊎ NoneHeld r worker
-unfolding answer_number
+unfolding answer_number refused_number
 answered_as r worker answer.Accepted t = absurd (t (λ e. let z : ◌≡◌ {A = ℕ} 0 1 = cc in omega arith))
 answered_as r worker answer.Damaged t = inl refl
 answered_as r worker answer.NoWorker t =
@@ -620,7 +620,7 @@ answered_as r worker answer.SheetTooLong t = absurd (t (λ e. let z : ◌≡◌ 
 
 module _ (block : List ℕ) (r : Run) (worker : ℕ) where
   pub step_accepted : Exactly ((step_of block r worker).answer ≡ Ok tt) ((call : ℕ) × HoldsCall r worker call × StepIn block r worker call)
-  unfolding step_for answer_number
+  unfolding step_for answer_number refused_number
   step_accepted = (
     go (held_by r worker) (held_told r worker),
     λ h. of_answer (ap (step_for block r worker) (held_holds r worker h.0 h.1)) ∙ (held_exact block r worker h.0).1 h.2,

@@ -24,7 +24,7 @@ use Rattle.guarantees.proofs.FollowingMachine.RunMatches.{CallState, StatusSays,
 
 -- The number of an accepted move.
 pub accepted_number : (a : Answer) → answer_number a ≡ 0 → a ≡ Accepted
-unfolding answer_number
+unfolding answer_number refused_number
 accepted_number Accepted e = refl
 accepted_number Damaged e = absurd (omega arith)
 accepted_number NoWorker e = absurd (omega arith)
