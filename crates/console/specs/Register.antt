@@ -7,7 +7,7 @@ use Rattle.wire.specs.Bytes.{repeated}
 use Rattle.block.specs.Limits.{max_workers}
 use Rattle.block.specs.Refusal.{number_of, offset_of}
 use Rattle.schedule.specs.declared.Move.{Move}
-use Rattle.machine.specs.Answer.{answer_number}
+use Rattle.machine.specs.Answer.{answer_number, refused_number}
 use Rattle.machine.specs.Run.{Run, fixed_sizes}
 use Rattle.machine.specs.Opening.{Opened, opening_of}
 use Rattle.machine.specs.Moves.{Moved, move_of}
@@ -69,7 +69,7 @@ play_end block s = if is_empty s.line then s else play_line block s
 -- The sheet as text, or "a refused sheet `r 0 27` in place of the k and t lines".
 unfoldable pub closing_text : Closed → Result ℕ Answer → List ℕ
 closing_text c (Ok n) = sheet_text (take n c.output)
-closing_text c (Err a) = refused_text 0 (answer_number a)
+closing_text c (Err a) = refused_text 0 (refused_number a)
 
 abbrev pub close_run : Run → List ℕ
 close_run r = let c : Closed = sheet_of r (repeated max_sheet 0) in closing_text c c.answer

@@ -6,7 +6,7 @@ use Rattle.std.specs.Prelude.{if◌then◌else◌, Ok}
 use Rattle.block.specs.Limits.{max_workers}
 use Rattle.block.specs.Encoding.{AreBytes}
 use Rattle.text.specs.Lines.{refused_text}
-use Rattle.machine.specs.Answer.{answer_number}
+use Rattle.machine.specs.Answer.{answer_number, refused_number}
 use Rattle.machine.specs.Run.{fixed_sizes}
 use Rattle.machine.specs.Opening.{opening_of}
 use Rattle.sheet.specs.Sheet.{sheet_bytes}

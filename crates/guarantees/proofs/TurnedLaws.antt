@@ -2,7 +2,7 @@
 -- or 7 where it had none.
 use Rattle.arith.specs.declared.NoResult.TheVariants.{Overflow, ZeroDivisor}
 use Rattle.arith.specs.declared.NoResult.{NoResult}
-use Rattle.std.specs.Prelude.{None, Option, Some, slice_get, Err, Ok}
+use Rattle.std.specs.Prelude.{None, Option, Some, slice_get, Err, Ok, Result}
 use Rattle.block.specs.declared.address.Account.{Account}
 use mathlib.Core.Path.{◌≡◌, refl, sym, ap, subst, subst⁻¹, ◌∙◌}
 use mathlib.Core.Bool.{true, false}

@@ -14,7 +14,7 @@ use native.Mathlib.Omega.{arith}
 use borrow.Author.Tests.{le-ltb}
 use lib.IntN.{ℤ, pos, negsuc, ◌+ℤ◌, ◌-ℤ◌, ◌*ℤ◌}
 use lib.Signed.{lt_z, le_z, non_neg}
-use Rattle.std.specs.Prelude.{if◌then◌else◌, None, Option, Some, Err, Ok}
+use Rattle.std.specs.Prelude.{if◌then◌else◌, None, Option, Some, Err, Ok, Result}
 use Rattle.arith.specs.Balance.{largest}
 use Rattle.arith.specs.Exact.{fits64, checked, add_of, sub_of, mul_of, div_of}
 use Rattle.arith.proofs.ChoiceLaws.{by_test, if_all}

@@ -30,7 +30,7 @@ use Rattle.guarantees.specs.Demand1.{Large, Cleared}
 
 -- ---- the tests
 
-never : {A : Type 0} {why : Refusal} → Err why ≡ (Ok tt) → A
+never : {A : Type 0} {why : Refusal} → ◌≡◌ {A = Result (Unit {0}) Refusal} (Err why) (Ok tt) → A
 unfolding is_accepted
 never e = absurd (false≢true (ap is_accepted e))
 

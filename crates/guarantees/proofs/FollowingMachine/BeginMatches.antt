@@ -21,7 +21,7 @@ use Rattle.machine.specs.Run.{Run, registers, frame_values, zero_registers, held
 use Rattle.machine.proofs.StepLaws.{begun_ranged}
 use Rattle.machine.specs.Step.{saved_of}
 use Rattle.machine.specs.Moves.{Moved, call_key_count, own_entries, waits_by_count, begin_call, begin_checked, begin_by, begin_of}
-use Rattle.machine.specs.Answer.{answer_number}
+use Rattle.machine.specs.Answer.{answer_number, refused_number}
 use Rattle.machine.specs.declared.Answer.TheVariants.{NoWorker, NoCall, WorkerBusy, NotWaiting, EarlierUnfinished}
 use Rattle.guarantees.proofs.CallsOfRun.ViewCalls.{at_entry, run_view}
 use Rattle.guarantees.proofs.FollowingMachine.RunMatches.{CallState, no_receipt, Base, calls_in, Matches}

@@ -15,7 +15,7 @@ use Rattle.arith.proofs.ChoiceLaws.{if_true}
 use Rattle.machine.specs.Run.{Run, saved_in, with_state, waiting}
 use Rattle.machine.specs.Step.{restored}
 use Rattle.machine.specs.Moves.{stay, call_key_count, own_entries, cancel_held, cancel_for, cancel_of}
-use Rattle.machine.specs.Answer.{answer_number}
+use Rattle.machine.specs.Answer.{answer_number, refused_number}
 use Rattle.machine.specs.declared.Answer.TheVariants.{Damaged}
 use Rattle.machine.proofs.RestoreLaws.{restored_length}
 use Rattle.guarantees.proofs.FollowingMachine.RunMatches.{no_receipt, Base, calls_in, HoldsRunning, Matches}

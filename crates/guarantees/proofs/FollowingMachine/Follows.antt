@@ -7,7 +7,7 @@ use native.Mathlib.Omega.{arith}
 use borrow.Author.Tests.{le-leb, le-ltb, lt-ltb, eq-eqb, ne_eqb}
 use lib.Dec.{eqb, ltb}
 use lib.ListN.{length}
-use Rattle.std.specs.Prelude.{if◌then◌else◌}
+use Rattle.std.specs.Prelude.{if◌then◌else◌, Err}
 use Rattle.block.specs.Limits.{max_keys, max_workers}
 use Rattle.schedule.specs.Tally as tally
 use Rattle.schedule.specs.Tally.{unless}
@@ -60,7 +60,7 @@ module _ (file : List ℕ) (workers n : ℕ) (before : ℕ → ℕ → Bool) (r�
     pub run : Matches file workers n before r₀ (unless answer after M) moved.run
 
   module _ {M after : Machine (calls_in file n before r₀)} where
-    pub refused : {r : Run} → Matches file workers n before r₀ M r → (a : Answer) (k : ℕ) → answer_number a ≡ suc k → Follows M after (suc k) (stay r a)
+    pub refused : {r : Run} → Matches file workers n before r₀ M r → (a : Answer) (k : ℕ) → answer_number (Err a) ≡ suc k → Follows M after (suc k) (stay r a)
     refused m a k e = record { same = e; run = m }
 
     -- A test of the run that never applies.

@@ -1,5 +1,5 @@
 -- What STEP and CANCEL test first, 20 for the run, 21 and 26: a move behind these tests follows the machine if it does so for a held call.
-use Rattle.std.specs.Prelude.{Err}
+use Rattle.std.specs.Prelude.{Err, Ok, Result}
 use mathlib.Core.Path.{◌≡◌, refl, ap, subst⁻¹, ◌∙◌}
 use mathlib.Core.Bool.{Bool, true, false, cond, ◌||◌}
 use mathlib.Core.List.{List}
@@ -14,7 +14,7 @@ use Rattle.arith.proofs.ChoiceLaws.{if_true, if_false}
 use Rattle.machine.specs.Run.{Run, held_at}
 use Rattle.machine.specs.Moves as machine
 use Rattle.machine.specs.Moves.{Moved, stay, held_by}
-use Rattle.machine.specs.Answer.{answer_number}
+use Rattle.machine.specs.Answer.{answer_number, refused_number}
 use Rattle.machine.specs.declared.Answer.{Answer}
 use Rattle.machine.specs.declared.Answer.TheVariants.{NoWorker, WorkerIdle}
 use Rattle.guarantees.proofs.FollowingMachine.RunMatches.{Base, calls_in, Matches}
@@ -40,7 +40,7 @@ module _ (file : List ℕ) (workers n : ℕ) (before : ℕ → ℕ → Bool) (r�
       ∙ if_false _ _ (ap (λ (k : ℕ). leb k w) m.worker_count ∙ e)
       ∙ if_true _ _ (seat.free ∙ ap tally.is_idle q)
 
-  one_call : leb workers w ≡ false → (c : ℕ) → M.seat w ≡ tally.holds c → held_by r w ≡ machine.holds c
+  one_call : leb workers w ≡ false → (c : ℕ) → M.seat w ≡ tally.holds c → held_by r w ≡ Ok c
   unfolding held_by
   one_call e c q =
       let seat : SeatRead file workers n before r₀ base M r m w = follows_seat file workers n before r₀ base M r m w (leb-false workers w e) in
@@ -52,11 +52,11 @@ module _ (file : List ℕ) (workers n : ℕ) (before : ℕ → ℕ → Bool) (r�
       ∙ if_false _ _
       (ap (λ (k : ℕ). ltb max_calls k || ltb k (held_at r.head w)) m.call_count
       ∙ numbers n (held_at r.head w) base.few_calls seat.known)
-      ∙ ap machine.holds number
+      ∙ ap Ok number
 
   -- A move that stays where nothing is held.
-  pub held_follows : (after : Machine (calls_in file n before r₀)) (move : machine.Held → Moved) → ((a : Answer) → move (Err a) ≡ stay r a)
-      → ((c : ℕ) → M.seat w ≡ tally.holds c → Follows file workers n before r₀ M after 0 (move (machine.holds c)))
+  pub held_follows : (after : Machine (calls_in file n before r₀)) (move : Result ℕ Answer → Moved) → ((a : Answer) → move (Err a) ≡ stay r a)
+      → ((c : ℕ) → M.seat w ≡ tally.holds c → Follows file workers n before r₀ M after 0 (move (Ok c)))
       → Follows file workers n before r₀ M after (cond (leb workers w) 21 (cond (tally.is_idle (M.seat w)) 26 0)) (move (held_by r w))
   unfolding answer_number refused_number
   held_follows after move stays follows = go (leb workers w) refl (M.seat w) refl

@@ -24,7 +24,7 @@ use Rattle.machine.specs.Run.{Run, seat_words, registers, frame_values, with_hel
 use Rattle.machine.specs.Waits.{waits_lowered}
 use Rattle.machine.specs.Step.{Local, Stepped, damaged, more, done, step_call}
 use Rattle.machine.specs.Moves.{call_key_count, own_entries, view_of, local_of, stepped, step_record, step_held, step_for, step_of}
-use Rattle.machine.specs.Answer.{answer_number}
+use Rattle.machine.specs.Answer.{answer_number, refused_number}
 use Rattle.machine.specs.declared.Head.{Head}
 use Rattle.machine.proofs.WaitLaws.{each_length, each_word}
 use Rattle.machine.proofs.StepLaws.{Ranged, StepLowers}

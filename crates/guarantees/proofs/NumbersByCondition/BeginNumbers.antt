@@ -6,7 +6,7 @@ use Prim.Native.Nat.{ℕ, ◌%◌}
 use native.Mathlib.Omega.{arith}
 use borrow.Author.Tests.{ltb-false, le-ltb, lt-leb, leb-true, leb-false, le-leb, eqb-true, eqb-false, eq-eqb, ne_eqb, not-true, not-false}
 use lib.Dec.{eqb, leb, ltb}
-use Rattle.std.specs.Prelude.{if◌then◌else◌, Ok, Err}
+use Rattle.std.specs.Prelude.{if◌then◌else◌, Ok, Err, Result}
 use Rattle.arith.proofs.ChoiceLaws.{if_all, neither}
 use Rattle.block.specs.Limits.{max_calls, max_call_keys, max_keys, max_workers}
 use Rattle.wire.specs.All.{All}
@@ -14,7 +14,7 @@ use Rattle.machine.specs.Run.{Run, sizes_of, large_enough, state_of, is_state, w
 use Rattle.footprint.specs.Plan.{entry_cell, entry_writes}
 use Rattle.machine.specs.Step.{entries_allowed, restorable}
 use Rattle.machine.specs.Moves.{Moved, stay, call_key_count, own_entries, begin_call, begin_checked, begin_by, begin_of}
-use Rattle.machine.specs.Answer.{answer_number}
+use Rattle.machine.specs.Answer.{answer_number, refused_number}
 use Rattle.machine.specs.declared.Answer.{Answer}
 use Rattle.machine.specs.declared.Answer.TheVariants as answer
 use Rattle.guarantees.specs.Demand1.{Exactly, held_in, EntryIn, EntriesIn, Before21, Before22, Before23, Before24, Before25, BeginGives}
@@ -129,24 +129,24 @@ module _ (r : Run) (w c : ℕ) where
   begin_25 : Before25 r w c → begin_of r w c ≡ from25
   begin_25 b = begin_24 b.so_far ∙ rw (eq-eqb (state_of r.status c) waiting b.waits, le-ltb c number b.number)
 
-  given : (a : Answer) → BeginGives r w c (answer_number a) → (begin_of r w c).answer ≡ a
+  given : (a : Result (Unit {0}) Answer) → BeginGives r w c (answer_number a) → (begin_of r w c).answer ≡ a
   unfolding answer_number refused_number
-  given answer.Accepted (b, none, entries) = of_answer (begin_25 b) ∙ rw (eq-eqb number 0 none, (entries_exact r c).1 entries)
-  given answer.Damaged g = absurd g
-  given answer.NoWorker (b, h) = of_answer (begin_21 b) ∙ rw (le-leb r.head.workers w h)
-  given answer.NoCall (b, h) = of_answer (begin_22 b) ∙ rw (le-leb r.head.calls c h)
-  given answer.WorkerBusy (b, h) = of_answer (begin_23 b) ∙ rw (ne_eqb (held_in r w) 0 h)
-  given answer.NotWaiting (b, h) = of_answer (begin_24 b) ∙ rw (ne_eqb (state_of r.status c) waiting h)
-  given answer.EarlierUnfinished (b, some) = of_answer (begin_25 b) ∙ rw (ne_eqb number 0 some)
-  given answer.WorkerIdle g = absurd g
-  given answer.CallUnfinished g = absurd g
-  given answer.SheetTooLong g = absurd g
+  given (Ok tt) (b, none, entries) = of_answer (begin_25 b) ∙ rw (eq-eqb number 0 none, (entries_exact r c).1 entries)
+  given (Err answer.Damaged) g = absurd g
+  given (Err answer.NoWorker) (b, h) = of_answer (begin_21 b) ∙ rw (le-leb r.head.workers w h)
+  given (Err answer.NoCall) (b, h) = of_answer (begin_22 b) ∙ rw (le-leb r.head.calls c h)
+  given (Err answer.WorkerBusy) (b, h) = of_answer (begin_23 b) ∙ rw (ne_eqb (held_in r w) 0 h)
+  given (Err answer.NotWaiting) (b, h) = of_answer (begin_24 b) ∙ rw (ne_eqb (state_of r.status c) waiting h)
+  given (Err answer.EarlierUnfinished) (b, some) = of_answer (begin_25 b) ∙ rw (ne_eqb number 0 some)
+  given (Err answer.WorkerIdle) g = absurd g
+  given (Err answer.CallUnfinished) g = absurd g
+  given (Err answer.SheetTooLong) g = absurd g
 
   -- From each number on, BEGIN gives what it should.
   damaged : BeginTold r w c (stay r answer.Damaged)
   damaged = record { unmoved = λ n. refl; gives = λ d. absurd (d refl) }
 
-  refused : (a : Answer) → BeginGives r w c (answer_number a) → BeginTold r w c (stay r a)
+  refused : (a : Answer) → BeginGives r w c (answer_number (Err a)) → BeginTold r w c (stay r a)
   refused a g = record { unmoved = λ n. refl; gives = λ d. g }
 
   told_25 : Before25 r w c → BeginTold r w c from25

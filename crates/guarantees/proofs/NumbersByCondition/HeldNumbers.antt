@@ -14,22 +14,22 @@ use Rattle.block.specs.Limits.{max_calls}
 use Rattle.machine.specs.Run.{Run}
 use Rattle.machine.specs.Step.{restorable}
 use Rattle.machine.specs.Moves.{Moved, stay, call_key_count, own_entries, held_by, step_for, step_of, cancel_held, cancel_for, cancel_of, move_of}
-use Rattle.machine.specs.Answer.{answer_number}
+use Rattle.machine.specs.Answer.{answer_number, refused_number}
 use Rattle.machine.specs.declared.Answer.{Answer}
 use Rattle.machine.specs.declared.Answer.TheVariants as answer
 use Rattle.machine.proofs.RefusedLaws.{StaysDamaged, here, moves, unmoved_held, step_stays, step_unmoved}
 use Rattle.guarantees.specs.Demand1.{Exactly, held_in, EntriesIn, Before21, HeldRefuses, HoldsCall}
-use Rattle.guarantees.proofs.NumbersByCondition.ByNumbers.{accepted_number, accepted_exactly, by_refusal, held_known}
+use Rattle.guarantees.proofs.NumbersByCondition.ByNumbers.{accepted, refusal, accepted_number, accepted_exactly, by_refusal, held_known}
 use Rattle.guarantees.proofs.NumbersByCondition.BeginNumbers.{unsized, sized_exact, entries_exact, of_answer, begin_unmoved}
 
 -- ---- STEP and CANCEL
 
 -- What is found of the held call.
 abbrev pub HeldTold : Run → ℕ → Result ℕ Answer → Type 0
-HeldTold r w (Err a) = (a ≡ answer.Damaged → ⊥) → HeldRefuses r w (answer_number a)
+HeldTold r w (Err a) = (refusal a ≡ refusal answer.Damaged → ⊥) → HeldRefuses r w (answer_number (Err a))
 HeldTold r w (Ok c) = HoldsCall r w c
 
-pub accepted_not_damaged : answer.Accepted ≡ answer.Damaged → ⊥
+pub accepted_not_damaged : accepted ≡ refusal answer.Damaged → ⊥
 accepted_not_damaged e = let z : ◌≡◌ {A = ℕ} 0 1 = cc in omega arith
 
 module _ (r : Run) (w : ℕ) where
@@ -49,9 +49,8 @@ module _ (r : Run) (w : ℕ) where
   held_21 : Before21 r → held_by r w ≡ held_from_lem
   held_21 b = held_is ∙ rw ((sized_exact r).1 b)
 
-  held_given : (a : Answer) → HeldRefuses r w (answer_number a) → held_by r w ≡ Err a
+  held_given : (a : Answer) → HeldRefuses r w (refused_number a) → held_by r w ≡ Err a
   unfolding answer_number refused_number
-  held_given answer.Accepted g = absurd g
   held_given answer.Damaged g = absurd g
   held_given answer.NoWorker (b, h) = held_21 b ∙ rw (le-leb r.head.workers w h)
   held_given answer.NoCall g = absurd g
@@ -102,15 +101,20 @@ module _ (r : Run) (w : ℕ) where
   -- A move that a refusal of these tests ends, and that goes on with the held call.
   module _ (move : Result ℕ Answer → Moved) (stops : (a : Answer) → move (Err a) ≡ stay r a) (on : (c : ℕ) → StaysDamaged r (move (Ok c))) where
     refuses : (n : ℕ) → (n ≡ 0 → ⊥) → (n ≡ 20 → ⊥) → Exactly (answer_number (move (held_by r w)).answer ≡ n) (HeldRefuses r w n)
+    unfolding answer_number refused_number
     refuses =
         by_refusal (move (held_by r w)).answer (HeldRefuses r w) (go (held_by r w) held_told)
-        (λ a g. of_answer (ap move (held_given a g) ∙ stops a)) (held_known r w)
+        given (held_known r w)
       where
+        given : (a : Result (Unit {0}) Answer) → HeldRefuses r w (answer_number a) → (move (held_by r w)).answer ≡ a
+        given (Ok tt) g = absurd g
+        given (Err a) g = of_answer (ap move (held_given a g) ∙ stops a)
+
         go : (h : Result ℕ Answer) → HeldTold r w h → ((move h).answer ≡ Ok tt → ⊥) → ((move h).answer ≡ Err answer.Damaged → ⊥)
             → HeldRefuses r w (answer_number (move h).answer)
         go (Err b) t n d =
-            let same : b ≡ (move (Err b)).answer = sym (of_answer (stops b)) in
-            subst (λ (a : Answer). HeldRefuses r w (answer_number a)) same (t (λ f. d (sym same ∙ f)))
+            let same : refusal b ≡ (move (Err b)).answer = sym (of_answer (stops b)) in
+            subst (λ (a : Result (Unit {0}) Answer). HeldRefuses r w (answer_number a)) same (t (λ f. d (sym same ∙ f)))
         go (Ok c) t n d = absurd (d (of_answer ((on c).stays n)))
 
 -- ---- STEP
@@ -149,7 +153,7 @@ module _ (r : Run) (w : ℕ) where
   cancel_answers = (go (held_by r w) (held_told r w), λ h. of_answer (ap (cancel_for r w) (held_holds r w h.0 h.1)) ∙ (held_cancelled h.0).1 h.2)
     where
       go : (h : Result ℕ Answer) → HeldTold r w h → (cancel_for r w h).answer ≡ Ok tt → (c : ℕ) × HoldsCall r w c × EntriesIn r c
-      go (Err a) t e = absurd (subst (λ (b : Answer). HeldRefuses r w (answer_number b)) e (t (λ d. accepted_not_damaged (sym e ∙ d))))
+      go (Err a) t e = absurd (subst (λ (b : Result (Unit {0}) Answer). HeldRefuses r w (answer_number b)) e (t (λ d. accepted_not_damaged (sym e ∙ d))))
       go (Ok c) t e = (c, t, (held_cancelled c).0 e)
 
   pub cancel_accepted : Exactly (answer_number (cancel_of r w).answer ≡ 0) ((c : ℕ) × HoldsCall r w c × EntriesIn r c)

@@ -14,7 +14,7 @@ use Rattle.block.specs.Limits.{max_calls, max_keys}
 use Rattle.block.specs.Outcomes.{last_outcome, max_count}
 use Rattle.machine.specs.Run.{Run, sizes_of, large_enough, status_word, state_of, is_state, finished}
 use Rattle.machine.specs.Step.{cell_at}
-use Rattle.machine.specs.Answer.{answer_number}
+use Rattle.machine.specs.Answer.{answer_number, refused_number}
 use Rattle.machine.specs.declared.Answer.TheVariants as answer
 use Rattle.sheet.specs.Sheet.{closing_number, Closed, field_of, sheet_records, sheet_bytes, offset_behind, states_allowed, all_finished, receipts_allowed, balances_allowed, unwritten, filled, written_if, written, sheet_of}
 use Rattle.sheet.proofs.SheetTests.{FoundBefore27, FoundBefore28, sheet_each}
@@ -63,7 +63,7 @@ balances_exact keys cells =
 -- What a closing says, and that a refusal leaves the output.
 abbrev ClosingTold : Run → (output left : List ℕ) → Result ℕ Answer → Type 0
 ClosingTold r output left (Ok n) = Writable r output
-ClosingTold r output left (Err a) = (left ≡ output) × ((a ≡ answer.Damaged → ⊥) → SheetGives r output (answer_number a))
+ClosingTold r output left (Err a) = (left ≡ output) × ((a ≡ answer.Damaged → ⊥) → SheetGives r output (refused_number a))
 
 record SheetTold (r : Run) (output : List ℕ) (m : Closed) : Type 0 where
   told : ClosingTold r output m.output m.answer
@@ -167,7 +167,7 @@ module _ (r : Run) (output : List ℕ) where
   closing_gives : (k : Result ℕ Answer) → (sheet_of r output).answer ≡ k → (closing_number k ≡ 20 → ⊥) → SheetGives r output (closing_number k)
   unfolding closing_number answer_number refused_number
   closing_gives (Ok n) e d = found (Ok n) e
-  closing_gives (Err a) e d = (found (Err a) e).1 (λ f. d (ap answer_number f))
+  closing_gives (Err a) e d = (found (Err a) e).1 (λ f. d (ap refused_number f))
 
   pub closes : (n : ℕ) → (n ≡ 20 → ⊥) → Exactly (closing_number (sheet_of r output).answer ≡ n) (SheetGives r output n)
   unfolding closing_number answer_number refused_number

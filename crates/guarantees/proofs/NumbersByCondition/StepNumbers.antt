@@ -43,8 +43,8 @@ use Rattle.guarantees.specs.StepNeeds.{record_bytes, lent_call, RecordNeeds, Key
 use Rattle.guarantees.specs.Demand1.{Exactly, held_in, EntriesIn, Lowerable, Before21, HeldRefuses, HoldsCall, StepIn, StepDamaged}
 use Rattle.guarantees.proofs.NumbersByCondition.ExactTests.{itself, ltb_exact, leb_exact, eqb_exact, both_exact, under_exact, fails_unless}
 use Rattle.guarantees.proofs.NumbersByCondition.BeginNumbers.{unsized, sized_exact, entries_exact, of_answer}
-use Rattle.machine.specs.Answer.{answer_number}
-use Rattle.guarantees.proofs.NumbersByCondition.ByNumbers.{damaged_number}
+use Rattle.machine.specs.Answer.{answer_number, refused_number}
+use Rattle.guarantees.proofs.NumbersByCondition.ByNumbers.{accepted, refusal, damaged_number}
 use Rattle.guarantees.proofs.NumbersByCondition.HeldNumbers.{HeldTold, accepted_not_damaged, held_holds, held_told, steps}
 use Rattle.guarantees.proofs.NumbersByCondition.FinishNumbers.{finish_answers}
 
@@ -529,7 +529,7 @@ module _ (block : List ℕ) (r : Run) (worker call : ℕ) where
   Goes x = (stepped r worker call x).answer ≡ Ok tt
 
   -- Nothing is accepted that is damaged.
-  never : {A : Type 0} → answer.Damaged ≡ answer.Accepted → A
+  never : {A : Type 0} → refusal answer.Damaged ≡ accepted → A
   never e = absurd (accepted_not_damaged (sym e))
 
   finish_exact : (c : Call) (saved cells : List ℤ) (outcome count : ℕ)
@@ -601,9 +601,8 @@ module _ (block : List ℕ) (r : Run) (worker call : ℕ) where
 abbrev NoneHeld : Run → (worker : ℕ) → Type 0
 NoneHeld r worker = Before21 r × ((r.head.workers ≤ worker) ⊎ (held_in r worker ≡ 0))
 
-answered_as : (r : Run) (worker : ℕ) (a : Answer) → HeldTold r worker (Err a) → (a ≡ answer.Damaged) ⊎ NoneHeld r worker
+answered_as : (r : Run) (worker : ℕ) (a : Answer) → HeldTold r worker (Err a) → (refusal a ≡ refusal answer.Damaged) ⊎ NoneHeld r worker
 unfolding answer_number refused_number
-answered_as r worker answer.Accepted t = absurd (t (λ e. let z : ◌≡◌ {A = ℕ} 0 1 = cc in omega arith))
 answered_as r worker answer.Damaged t = inl refl
 answered_as r worker answer.NoWorker t =
     let g : Before21 r × (r.head.workers ≤ worker) = t (λ e. let z : ◌≡◌ {A = ℕ} 0 1 = cc in omega arith) in
@@ -628,7 +627,7 @@ module _ (block : List ℕ) (r : Run) (worker : ℕ) where
     where
       go : (h : Result ℕ Answer) → HeldTold r worker h → (step_for block r worker h).answer ≡ Ok tt
           → (call : ℕ) × HoldsCall r worker call × StepIn block r worker call
-      go (Err a) t e = absurd (subst (λ (b : Answer). HeldRefuses r worker (answer_number b)) e (t (λ d. accepted_not_damaged (sym e ∙ d))))
+      go (Err a) t e = absurd (subst (λ (b : Result (Unit {0}) Answer). HeldRefuses r worker (answer_number b)) e (t (λ d. accepted_not_damaged (sym e ∙ d))))
       go (Ok call) t e = (call, t, (held_exact block r worker call).0 e)
 
   only_damaged : StepDamaged block r worker → (step_of block r worker).answer ≡ Err answer.Damaged
@@ -643,7 +642,7 @@ module _ (block : List ℕ) (r : Run) (worker : ℕ) where
           by (inr x) (inl many) = omega (arith, many, x.1)
           by (inr x) (inr idle) = x.2 idle
 
-      answers : (a : Answer) → (a ≡ answer.Damaged) ⊎ NoneHeld r worker → a ≡ answer.Damaged
+      answers : (a : Answer) → (refusal a ≡ refusal answer.Damaged) ⊎ NoneHeld r worker → refusal a ≡ refusal answer.Damaged
       answers a (inl e) = e
       answers a (inr h) = absurd (none h)
 

@@ -1,5 +1,6 @@
 -- What two runs that stand for states of the machine have in common where the states agree: a call's state and receipt, a worker's call, and a
 -- running call with its old values.
+use Rattle.std.specs.Prelude.{Result, Ok, Err}
 use mathlib.Core.Path.{◌≡◌, refl, sym, ap, ◌∙◌}
 use mathlib.Core.Bool.{Bool}
 use mathlib.Core.List.{List}
@@ -14,27 +15,27 @@ use Rattle.schedule.specs.Confluent.{SamePhase}
 use Rattle.machine.specs.Run.{Run, held_at, saved_in, state_of}
 use Rattle.machine.specs.Step.{cell_at}
 use Rattle.machine.specs.Moves.{call_key_count, local_of}
-use Rattle.machine.specs.Answer.{answer_number}
+use Rattle.machine.specs.Answer.{answer_number, refused_number}
 use Rattle.machine.specs.declared.Answer.{Answer}
-use Rattle.machine.specs.declared.Answer.TheVariants.{Accepted, Damaged, NoWorker, NoCall, WorkerBusy, NotWaiting, EarlierUnfinished, WorkerIdle, CallUnfinished, SheetTooLong}
+use Rattle.machine.specs.declared.Answer.TheVariants.{Damaged, NoWorker, NoCall, WorkerBusy, NotWaiting, EarlierUnfinished, WorkerIdle, CallUnfinished, SheetTooLong}
 use Rattle.guarantees.specs.Agreement.{state_number, seat_number}
 use Rattle.guarantees.specs.Demand3.{SameReceipt}
 use Rattle.guarantees.proofs.CallsOfRun.ViewCalls.{Place, place_with_saved, Receipt, broken, receipt}
 use Rattle.guarantees.proofs.FollowingMachine.RunMatches.{CallState, StatusSays, calls_in, Matches}
 
 -- The number of an accepted move.
-pub accepted_number : (a : Answer) → answer_number a ≡ 0 → a ≡ Accepted
+pub accepted_number : (a : Result (Unit {0}) Answer) → answer_number a ≡ 0 → a ≡ Ok tt
 unfolding answer_number refused_number
-accepted_number Accepted e = refl
-accepted_number Damaged e = absurd (omega arith)
-accepted_number NoWorker e = absurd (omega arith)
-accepted_number NoCall e = absurd (omega arith)
-accepted_number WorkerBusy e = absurd (omega arith)
-accepted_number NotWaiting e = absurd (omega arith)
-accepted_number EarlierUnfinished e = absurd (omega arith)
-accepted_number WorkerIdle e = absurd (omega arith)
-accepted_number CallUnfinished e = absurd (omega arith)
-accepted_number SheetTooLong e = absurd (omega arith)
+accepted_number (Ok tt) e = refl
+accepted_number (Err Damaged) e = absurd (omega arith)
+accepted_number (Err NoWorker) e = absurd (omega arith)
+accepted_number (Err NoCall) e = absurd (omega arith)
+accepted_number (Err WorkerBusy) e = absurd (omega arith)
+accepted_number (Err NotWaiting) e = absurd (omega arith)
+accepted_number (Err EarlierUnfinished) e = absurd (omega arith)
+accepted_number (Err WorkerIdle) e = absurd (omega arith)
+accepted_number (Err CallUnfinished) e = absurd (omega arith)
+accepted_number (Err SheetTooLong) e = absurd (omega arith)
 
 -- A call's state is that of its phase.
 pub state_of_phase : (status : List ℕ) (c : ℕ) (a : CallState) (p : Phase) → StatusSays status c a → SamePhase p a → state_of status c ≡ state_number p
