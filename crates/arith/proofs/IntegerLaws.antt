@@ -13,9 +13,10 @@ use lib.Signed.{mag, lt_z, le_z, non_neg}
 use mir.Syntax.{Width, w8, w16, w32, w64, w128}
 use mir.Val.{SFits, bits, hbits, to_z, of_z, sel}
 use borrow.Author.Tests.{ltb-true, ltb-false, leb-true, leb-false, eqb-true, lt-ltb, le-ltb, eq-eqb}
-use Rattle.std.specs.Prelude.{if◌then◌else◌, Err, Ok}
+use Rattle.std.specs.Prelude.{if◌then◌else◌, Ok, Err}
 use Rattle.arith.specs.Compare.{eq_z}
 use Rattle.arith.specs.Exact.{fits64, checked, floor_by, div_of, signed, unsigned}
+use Rattle.arith.specs.declared.NoResult.TheVariants.{Overflow}
 
 -- What z has above zero, and what below.
 abbrev pub pos_part : ℤ → ℕ
@@ -121,7 +122,7 @@ decide : (t : Bool) → (t ≡ false → ⊥) → t ≡ true
 decide true h = refl
 decide false h = absurd (h refl)
 
-refuse : (t : Bool) → (t ≡ true → ⊥) → t ≡ false
+pub refuse : (t : Bool) → (t ≡ true → ⊥) → t ≡ false
 refuse true h = absurd (h refl)
 refuse false h = refl
 
@@ -151,15 +152,7 @@ pub parts_mag : (z : ℤ) {H : ℕ} → (pos_part z < H + neg_part z) × (neg_pa
 parts_mag (pos n) h = omega arith
 parts_mag (negsuc n) h = omega arith
 
--- The range as the test says it, and as the library says it of a type.
-pub large_fits : (z : ℤ) → 2 ^ 63 + neg_part z ≤ pos_part z → fits64 z ≡ false
-large_fits (pos n) h = le-ltb n (2 ^ 63) (omega arith)
-large_fits (negsuc n) h = absurd (omega arith)
-
-pub small_fits : (z : ℤ) → 2 ^ 63 + pos_part z < neg_part z → fits64 z ≡ false
-small_fits (pos n) h = absurd (omega arith)
-small_fits (negsuc n) h = le-ltb n (2 ^ 63) (omega arith)
-
+-- The range as the library says it of a type, and as the test says it.
 pub sfits_parts : {w : Width} {z : ℤ} → SFits w z → (pos_part z < 2 ^ hbits w) × (neg_part z ≤ 2 ^ hbits w)
 sfits_parts {z = z} f = mag_parts z f.sfits
 
@@ -188,16 +181,6 @@ signed_low k n h = rw (lt-ltb n (2 ^ (k - 1)) h)
 pub signed_high : (k n : ℕ) → 2 ^ (k - 1) ≤ n → signed k n ≡ negsuc (2 ^ k - 1 - n)
 unfolding signed
 signed_high k n h = rw (le-ltb n (2 ^ (k - 1)) h)
-
-pub unsigned_above : (k : ℕ) (z : ℤ) → lt_z z (pos 0) ≡ false → unsigned k z ≡ mag z
-unfolding unsigned
-unsigned_above k (pos n) t = refl
-unsigned_above k (negsuc n) t = clash (sym t)
-
-pub unsigned_below : (k : ℕ) (z : ℤ) → lt_z z (pos 0) ≡ true → unsigned k z ≡ 2 ^ k - 1 - mag z
-unfolding unsigned
-unsigned_below k (pos n) t = absurd (omega (arith, ltb-true n 0 t))
-unsigned_below k (negsuc n) t = refl
 
 pub unsigned_signed : (k n : ℕ) → n < 2 ^ k → unsigned k (signed k n) ≡ n
 unfolding unsigned

@@ -1,9 +1,9 @@
 -- Exact arithmetic on values: integers of 64 signed bits. Each operation is the exact one over ℤ, and then a test of its range.
-use Rattle.arith.specs.declared.NoResult.TheVariants.{Overflow, ZeroDivisor}
-use Rattle.arith.specs.declared.NoResult.{NoResult}
-use Rattle.std.specs.Prelude.{Bool, ℕ, zero, suc, ◌-◌, ◌/◌, ◌^◌, ℤ, pos, negsuc, neg_ℤ, ◌+ℤ◌, ◌-ℤ◌, ◌*ℤ◌, ltb, Err, Ok, Result}
+use Rattle.std.specs.Prelude.{Bool, ℕ, zero, suc, ◌-◌, ◌/◌, ◌^◌, ℤ, pos, negsuc, neg_ℤ, ◌+ℤ◌, ◌-ℤ◌, ◌*ℤ◌, ltb, Result, Ok, Err}
 use Rattle.std.specs.Int.Signed.{mag}
 use Rattle.std.specs.Prelude.{if◌then◌else◌}
+use Rattle.arith.specs.declared.NoResult.{NoResult}
+use Rattle.arith.specs.declared.NoResult.TheVariants.{Overflow, ZeroDivisor}
 
 -- "A value is signed, 64 bits": `mag` is n both of n and of -(n + 1), so one bound says both ends of the range.
 abbrev pub fits64 : ℤ → Bool

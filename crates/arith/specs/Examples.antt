@@ -1,8 +1,8 @@
 -- The divisions of document 01, computed: "-7 by 2: -4; 7 by -2: -4; -2^63 by -1: outcome 4; by 0: 4", which by M-103 is 6, whatever is
 -- divided.
-use Rattle.arith.specs.declared.NoResult.TheVariants.{Overflow, ZeroDivisor}
-use Rattle.std.specs.Prelude.{◌≡◌, refl, ◌-◌, ◌^◌, pos, negsuc, Err, Ok}
+use Rattle.std.specs.Prelude.{◌≡◌, refl, ◌-◌, ◌^◌, pos, negsuc, Ok, Err}
 use Rattle.arith.specs.Exact.{checked, add_of, sub_of, mul_of, floor_by, div_of, signed, unsigned}
+use Rattle.arith.specs.declared.NoResult.TheVariants.{Overflow, ZeroDivisor}
 
 pub record Divisions : Type 0 where
   pub by_2 : div_of (negsuc 6) (pos 2) ≡ Ok (negsuc 3)

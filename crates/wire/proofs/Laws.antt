@@ -1,36 +1,67 @@
--- The mathematics of the crate's proofs, over plain variables: a number read or written in two halves, and the loop that clears a list.
+-- The mathematics of the crate's proofs, over plain variables: a number read or written byte by byte, and the loop that clears a list.
 use mathlib.Core.Path.{◌≡◌, refl, sym, ap, ◌∙◌}
 use mathlib.Core.List.{List, [], ◌∷◌, ◌++◌, append-nil}
-use Prim.Native.Nat.{ℕ, zero, suc, ◌+◌, ◌*◌, ◌/◌, ◌%◌, ◌^◌, ◌≤◌, ◌<◌}
-use native.Mathlib.Nat.{le_refl, not-suc-le-zero, le_of_suc-le-suc, add-zero}
+use Prim.Native.Nat.{ℕ, zero, suc, ◌+◌, ◌-◌, ◌*◌, ◌/◌, ◌%◌, ◌^◌, ◌≤◌, ◌<◌}
+use native.Mathlib.Nat.{le_refl, lt_of_lt_of_le, not-suc-le-zero, le_of_suc-le-suc, add-zero, mul-zero, pow-le-pow_right}
 use native.Mathlib.Numerals.{add-one}
 use native.Mathlib.Omega.{arith}
 use lib.ListN.{length, get_or, set, drop, replicate, length-set, length-append, length-replicate, length-drop, drop_of_length-le, get_or-eq_default}
 use lib.Seq.{set_out}
-use Rattle.wire.specs.Bytes.{read_le, bytes_of, stored, write_le, repeated}
-use Rattle.wire.proofs.BytesLaws.{read_two, read_join, read_lt, write_join}
+use Rattle.wire.specs.Bytes.{number, read_le, bytes_of, stored, write_le, repeated}
+use Rattle.wire.proofs.BytesLaws.{read_suc, read_join, read_lt, read_past, write_join, write_past, stored_length}
 
--- The last byte, read as two.
-pub read_last : (s : List ℕ) (at : ℕ) → length s ≤ at + 1 → read_le 2 s at ≡ get_or s at 0
-read_last s at h = read_two s at ∙ rw (get_or-eq_default s 0 h) (add-zero (get_or s at 0))
+-- ---- a number read from its last byte to its first
 
--- Two numbers of j bytes side by side: together they are the number of both, and they fit.
-module _ (j : ℕ) (s : List ℕ) (at : ℕ) {low high : ℕ} (is-low : low ≡ read_le j s at) (is-high : high ≡ read_le j s (at + j)) where
-  pub halves : low + 256 ^ j * high ≡ read_le (j + j) s at
-  halves = rw (is-low, is-high) (sym (read_join j j s at))
+pub read_none : (n : ℕ) (s : List ℕ) (at : ℕ) → 0 ≡ read_le (n - n) s at
+unfolding number
+read_none n s at = let e : n - n ≡ 0 = omega arith in sym (ap (λ (k : ℕ). read_le k s at) e)
 
-  pub halves_lt : ((i : ℕ) → get_or s i 0 < 256) → low + 256 ^ j * high < 256 ^ (j + j)
-  halves_lt h = rw halves (read_lt (j + j) s h at)
+-- The byte in front of those that were read, and what they make with it.
+module _ (s : List ℕ) (at n i : ℕ) {number b : ℕ} (some : 0 < i) (is : number ≡ read_le (n - i) s (at + i)) (byte : b ≡ get_or s (at + (i - 1)) 0) where
+  pub read_more : i ≤ n → 256 * number + b ≡ read_le (n - (i - 1)) s (at + (i - 1))
+  read_more l =
+      let long : n - (i - 1) ≡ suc (n - i) = omega arith in
+      let next : at + i ≡ at + (i - 1) + 1 = omega arith in
+      let rest : number ≡ read_le (n - i) s (at + (i - 1) + 1) = is ∙ ap (read_le (n - i) s) next in
+      let whole : 256 * number + b ≡ read_le (suc (n - i)) s (at + (i - 1)) = omega (arith, read_suc (n - i) s (at + (i - 1))) in
+      whole ∙ ap (λ (k : ℕ). read_le k s (at + (i - 1))) (sym long)
 
--- The last byte, written as two.
-pub write_last : (s : List ℕ) (at n : ℕ) → length s ≤ at + 1 → set s at (n % 256) ≡ write_le 2 s at n
+  pub read_more_lt : i ≤ n → n ≤ 8 → ((k : ℕ) → get_or s k 0 < 256) → 256 * number + b < 256 ^ 8
+  read_more_lt l short bytes =
+      rw (read_more l) (lt_of_lt_of_le (read_lt (n - (i - 1)) s bytes (at + (i - 1))) (pow-le-pow_right {n = 256} (omega arith) {i = n - (i - 1)} {j = 8} (omega arith)))
+
+-- Past the end there is nothing to read or to write: so many bytes as there are tell all.
+pub read_short : (j k : ℕ) (s : List ℕ) (at : ℕ) → j ≤ k → length s ≤ at + j → read_le j s at ≡ read_le k s at
+read_short j k s at l end =
+    let more : k ≡ j + (k - j) = omega arith in
+    let none : read_le j s at + 256 ^ j * read_le (k - j) s (at + j) ≡ read_le j s at =
+    rw (read_past (k - j) s (at + j) end) (simp (mul-zero, add-zero))
+    in
+    sym (ap (λ (m : ℕ). read_le m s at) more ∙ read_join j (k - j) s at ∙ none)
+
+pub write_short : (j k : ℕ) (s : List ℕ) (at n : ℕ) → j ≤ k → length s ≤ at + j → write_le j s at n ≡ write_le k s at n
+write_short j k s at n l end =
+    let more : k ≡ j + (k - j) = omega arith in
+    let long : length (write_le j s at n) ≡ length s = stored_length (bytes_of j n) s at in
+    sym
+    (ap (λ (m : ℕ). write_le m s at n) more ∙ write_join j (k - j) s at n
+    ∙ write_past (k - j) (write_le j s at n) (at + j) (n / 256 ^ j) (omega arith))
+
+-- ---- a number written from its first byte to its last: what is written and what is left make up the whole
+
+pub write_more : (s : List ℕ) (at n i rest : ℕ) → i < n
+    → write_le (n - (i + 1)) (set s (at + i) (rest % 256)) (at + (i + 1)) (rest / 256) ≡ write_le (n - i) s (at + i) rest
 unfolding bytes_of stored
-write_last s at n h = sym (set_out (set s at (n % 256)) (at + 1) (n / 256 % 256) (simp length-set h))
+write_more s at n i rest l =
+    let long : n - i ≡ suc (n - (i + 1)) = omega arith in
+    let next : at + (i + 1) ≡ at + i + 1 = omega arith in
+    ap (λ (p : ℕ). write_le (n - (i + 1)) (set s (at + i) (rest % 256)) p (rest / 256)) next ∙ ap (λ (k : ℕ). write_le k s (at + i) rest) (sym long)
 
--- A number written in two halves of j bytes, each into what the one before left.
-pub write_halves : (j : ℕ) (s : List ℕ) (at n : ℕ) {mid last : List ℕ} → mid ≡ write_le j s at n → last ≡ write_le j mid (at + j) (n / 256 ^ j)
-    → last ≡ write_le (j + j) s at n
-write_halves j s at n e f = f ∙ rw e (sym (write_join j j s at n))
+pub write_done : (s : List ℕ) (at n i rest : ℕ) {all : List ℕ} → n ≤ i → write_le (n - i) s at rest ≡ all → s ≡ all
+unfolding bytes_of stored
+write_done s at n i rest l h = let e : n - i ≡ 0 = omega arith in sym (ap (λ (k : ℕ). write_le k s at rest) e) ∙ h
+
+-- ---- clearing
 
 module _ {ℓ} {A : Type ℓ} (a : A) where
   -- The first i elements of a list are cleared to a, and the others are as they were.
@@ -46,17 +77,12 @@ module _ {ℓ} {A : Type ℓ} (a : A) where
   step zero (x ∷ s) h = refl
   step (suc i) (x ∷ s) h = ap (λ (t : List A). a ∷ t) (step i s (le_of_suc-le-suc h))
 
-  pub cleared_length : (s₀ s : List A) (i : ℕ) → ClearedBelow s₀ s i → length s ≡ length s₀
-  cleared_length s₀ s i h =
-      ap length h.same ∙ simp (length-append, length-replicate, length-drop) (let w : i ≤ length s₀ = h.within in omega arith)
-
-  pub cleared_more : (s₀ s : List A) (i : ℕ) → ClearedBelow s₀ s i → i < length s → ClearedBelow s₀ (set s i a) (i + 1)
-  cleared_more s₀ s i h lt =
-      let l : i < length s₀ = rw (cleared_length s₀ s i h) at lt in
+  pub cleared_more : (s₀ s : List A) (i : ℕ) → ClearedBelow s₀ s i → i < length s₀ → ClearedBelow s₀ (set s i a) (i + 1)
+  cleared_more s₀ s i h l =
       record { within = omega arith; same = ap (λ (t : List A). set t i a) h.same ∙ simp add-one (step i s₀ l) }
 
-  pub cleared_all : (s₀ s : List A) (i : ℕ) → ClearedBelow s₀ s i → length s ≤ i → s ≡ repeated (length s₀) a
+  pub cleared_all : (s₀ s : List A) (i : ℕ) → ClearedBelow s₀ s i → length s₀ ≤ i → s ≡ repeated (length s₀) a
   unfolding repeated
   cleared_all s₀ s i h end =
-      let l : i ≡ length s₀ = let w : i ≤ length s₀ = h.within in let e : length s ≡ length s₀ = cleared_length s₀ s i h in omega arith in
+      let l : i ≡ length s₀ = let w : i ≤ length s₀ = h.within in omega arith in
       h.same ∙ rw l (ap (λ (t : List A). replicate (length s₀) a ++ t) (drop_of_length-le s₀ (le_refl (length s₀))) ∙ append-nil (replicate (length s₀) a))

@@ -4,21 +4,21 @@
 
 pub mod decimal;
 
-ghost use Rattle.std.specs.Prelude.{◌≡◌, ◌+◌, ◌%◌, ◌^◌, ◌≤◌, pos, length, get_or, set};
+ghost use Rattle.std.specs.Prelude.{◌≡◌, ◌+◌, ◌%◌, ◌^◌, ◌≤◌, min, length, get_or, set};
 ghost use Rattle.arith.specs.Exact.{signed, unsigned};
 ghost use Rattle.wire.specs.Bytes.{read_le, write_le, repeated};
 ghost use Rattle.wire.specs.Rows.{in_row, in_word, row_bits};
 ghost use Rattle.wire.specs.RowOps.{row_from, with_bit, union_of, count_of};
 
-// The byte at a position.
-pub fn byte(s: &[u8], i: usize) -> u8
-    ensures { result ≡ get_or s.now i 0 }
+// The element at a position, or the default past the end.
+pub fn get_or<T: Copy>(s: &[T], i: usize, default: T) -> T
+    ensures { result ≡ get_or s.now i default }
 {
-    if i < s.len() { s[i] } else { 0 }
+    if i < s.len() { s[i] } else { default }
 }
 
-// A byte stored at a position.
-pub fn put_byte(s: &mut [u8], i: usize, v: u8)
+// An element stored at a position.
+pub fn put<T: Copy>(s: &mut [T], i: usize, v: T)
     ensures { s.new ≡ set s.old i v }
 {
     if i < s.len() {
@@ -26,222 +26,85 @@ pub fn put_byte(s: &mut [u8], i: usize, v: u8)
     }
 }
 
-// The word at a position.
-pub fn word(s: &[u64], i: usize) -> u64
-    ensures { result ≡ get_or s.now i 0 }
+// Every element becomes the same one.
+pub fn clear<T: Copy>(s: &mut [T], zero: T)
+    ensures { s.new ≡ repeated (length s.old) zero }
 {
-    if i < s.len() { s[i] } else { 0 }
-}
-
-// A word stored at a position.
-pub fn put_word(s: &mut [u64], i: usize, v: u64)
-    ensures { s.new ≡ set s.old i v }
-{
-    if i < s.len() {
-        s[i] = v;
+    for x in s.iter_mut() {
+        *x = zero;
     }
 }
 
-// The value at a position.
-pub fn value(s: &[i64], i: usize) -> i64
-    ensures { result ≡ get_or s.now i (pos 0) }
+// The number in the n bytes at a position, which all lie inside the slice.
+fn read_within(s: &[u8], at: usize, n: usize) -> u64
+    requires inside { at + n ≤ length s.now }
+    requires short { n ≤ 8 }
+    ensures { result ≡ read_le n s.now at }
 {
-    if i < s.len() { s[i] } else { 0 }
-}
-
-// A value stored at a position.
-pub fn put_value(s: &mut [i64], i: usize, v: i64)
-    ensures { s.new ≡ set s.old i v }
-{
-    if i < s.len() {
-        s[i] = v;
+    let mut number = 0;
+    for i in (0..n).rev() {
+        number = 256 * number + u64::from(s[at + i]);
     }
+    number
 }
 
-// Every byte becomes 0.
-pub fn clear_bytes(bytes: &mut [u8])
-    ensures { bytes.new ≡ repeated (length bytes.old) 0 }
-{
-    let mut i = 0;
-    while i < bytes.len() {
-        bytes[i] = 0;
-        i += 1;
-    }
-}
-
-// Every word becomes 0.
-pub fn clear_words(words: &mut [u64])
-    ensures { words.new ≡ repeated (length words.old) 0 }
-{
-    let mut i = 0;
-    while i < words.len() {
-        words[i] = 0;
-        i += 1;
-    }
-}
-
-// Every value becomes 0.
-pub fn clear_values(values: &mut [i64])
-    ensures { values.new ≡ repeated (length values.old) (pos 0) }
-{
-    let mut i = 0;
-    while i < values.len() {
-        values[i] = 0;
-        i += 1;
-    }
-}
-
-// The place values of the bytes behind one, two and four others.
-const BASE: u64 = 256;
-
-const BASE_2: u64 = 65536;
-
-const BASE_4: u64 = 4294967296;
-
-// Numbers of several bytes that all lie inside the slice: no test is left, so the bytes are one load.
-fn load16(s: &[u8], at: usize) -> u64
-    requires { at + 2 ≤ length s.now }
-    ensures { result ≡ read_le 2 s.now at }
-{
-    let low = s[at] as u64;
-    let high = s[at + 1] as u64;
-    low + BASE * high
-}
-
-fn load32(s: &[u8], at: usize) -> u64
-    requires { at + 4 ≤ length s.now }
-    ensures { result ≡ read_le 4 s.now at }
-{
-    load16(s, at) + BASE_2 * load16(s, at + 2)
-}
-
-fn load64(s: &[u8], at: usize) -> u64
-    requires { at + 8 ≤ length s.now }
-    ensures { result ≡ read_le 8 s.now at }
-{
-    load32(s, at) + BASE_4 * load32(s, at + 4)
-}
-
-// The number in the two bytes at a position, lowest byte first.
-pub fn get16(s: &[u8], at: usize) -> u64
-    ensures { result ≡ read_le 2 s.now at }
+// The number in the N bytes at a position, at most eight, lowest byte first.
+// Where they all lie inside the slice, their count is a constant and they are one load.
+pub fn read_le<const N: usize>(s: &[u8], at: usize) -> u64
+    ensures { result ≡ read_le (min N 8) s.now at }
 {
     if s.len() <= at {
         return 0;
     }
-    if 2 <= s.len() - at {
-        return load16(s, at);
+    let n = N.min(8);
+    let left = s.len() - at;
+    if n <= left {
+        read_within(s, at, n)
+    } else {
+        read_within(s, at, left)
     }
-    s[at] as u64
 }
 
-// The number in the four bytes at a position.
-pub fn get32(s: &[u8], at: usize) -> u64
-    ensures { result ≡ read_le 4 s.now at }
+// The n low bytes of a number stored at a position, where they all lie inside the slice.
+fn write_within(s: &mut [u8], at: usize, n: usize, v: u64)
+    requires { at + n ≤ length s.old }
+    ensures { s.new ≡ write_le n s.old at v }
 {
-    if s.len() <= at {
-        return 0;
+    let mut rest = v;
+    for i in 0..n {
+        s[at + i] = (rest % 256) as u8;
+        rest /= 256;
     }
-    if 4 <= s.len() - at {
-        return load32(s, at);
-    }
-    get16(s, at) + BASE_2 * get16(s, at + 2)
 }
 
-// The number in the eight bytes at a position.
-pub fn get64(s: &[u8], at: usize) -> u64
-    ensures { result ≡ read_le 8 s.now at }
-{
-    if s.len() <= at {
-        return 0;
-    }
-    if 8 <= s.len() - at {
-        return load64(s, at);
-    }
-    get32(s, at) + BASE_4 * get32(s, at + 4)
-}
-
-// The low bytes of a number stored where they all lie inside the slice.
-fn store16(s: &mut [u8], at: usize, v: u64)
-    requires { at + 2 ≤ length s.old }
-    ensures { s.new ≡ write_le 2 s.old at v }
-{
-    s[at] = (v % BASE) as u8;
-    s[at + 1] = (v / BASE % BASE) as u8;
-}
-
-fn store32(s: &mut [u8], at: usize, v: u64)
-    requires { at + 4 ≤ length s.old }
-    ensures { s.new ≡ write_le 4 s.old at v }
-{
-    store16(s, at, v);
-    store16(s, at + 2, v / BASE_2);
-}
-
-fn store64(s: &mut [u8], at: usize, v: u64)
-    requires { at + 8 ≤ length s.old }
-    ensures { s.new ≡ write_le 8 s.old at v }
-{
-    store32(s, at, v);
-    store32(s, at + 4, v / BASE_4);
-}
-
-// The two low bytes of a number, stored at a position.
-pub fn put16(s: &mut [u8], at: usize, v: u64)
-    ensures { s.new ≡ write_le 2 s.old at v }
+// The N low bytes of a number, at most eight, stored at a position.
+pub fn write_le<const N: usize>(s: &mut [u8], at: usize, v: u64)
+    ensures { s.new ≡ write_le (min N 8) s.old at v }
 {
     if s.len() <= at {
         return;
     }
-    if 2 <= s.len() - at {
-        store16(s, at, v);
-        return;
+    let n = N.min(8);
+    let left = s.len() - at;
+    if n <= left {
+        write_within(s, at, n, v)
+    } else {
+        write_within(s, at, left, v)
     }
-    s[at] = (v % BASE) as u8;
-}
-
-// The four low bytes of a number, stored at a position.
-pub fn put32(s: &mut [u8], at: usize, v: u64)
-    ensures { s.new ≡ write_le 4 s.old at v }
-{
-    if s.len() <= at {
-        return;
-    }
-    if 4 <= s.len() - at {
-        store32(s, at, v);
-        return;
-    }
-    put16(s, at, v);
-    put16(s, at + 2, v / BASE_2);
-}
-
-// The eight bytes of a number, stored at a position.
-pub fn put64(s: &mut [u8], at: usize, v: u64)
-    ensures { s.new ≡ write_le 8 s.old at v }
-{
-    if s.len() <= at {
-        return;
-    }
-    if 8 <= s.len() - at {
-        store64(s, at, v);
-        return;
-    }
-    put32(s, at, v);
-    put32(s, at + 4, v / BASE_4);
 }
 
 // The value in the eight bytes at a position, in two's complement.
 pub fn get_i64(s: &[u8], at: usize) -> i64
     ensures { result ≡ signed 64 (read_le 8 s.now at) }
 {
-    arith::signed64(get64(s, at))
+    arith::signed64(read_le::<8>(s, at))
 }
 
 // The eight bytes of a value in two's complement, stored at a position.
 pub fn put_i64(s: &mut [u8], at: usize, v: i64)
     ensures { s.new ≡ write_le 8 s.old at (unsigned 64 v) }
 {
-    put64(s, at, arith::unsigned64(v))
+    write_le::<8>(s, at, arith::unsigned64(v))
 }
 
 // A row is 256 bits, in words of 64.
@@ -291,7 +154,7 @@ pub fn row_set(mut row: [u64; ROW_WORDS], i: usize) -> [u64; ROW_WORDS]
 {
     if i < ROW_BITS {
         let w = i / WORD_BITS;
-        row[w] = row[w] | mask(i);
+        row[w] |= mask(i);
     }
     row
 }
@@ -308,16 +171,15 @@ fn count_within(row: [u64; ROW_WORDS], n: usize) -> u64
     requires { n ≤ row_bits }
     ensures { result ≡ count_of (in_row row) n }
 {
+    let whole = n / WORD_BITS;
     let mut count = 0;
-    let mut w = 0;
-    while w < n / WORD_BITS {
-        count += u64::count_ones(row[w]) as u64;
-        w += 1;
+    for w in 0..whole {
+        count += u64::from(row[w].count_ones());
     }
-    if w == ROW_WORDS {
+    if whole == ROW_WORDS {
         return count;
     }
-    count + u64::count_ones(row[w] % mask(n)) as u64
+    count + u64::from((row[whole] % mask(n)).count_ones())
 }
 
 // How many bits of a row below a position are set; there are none past the row.

@@ -1,9 +1,9 @@
--- `arith::signed64` meets its contract: `signed_by` at 64 bits is the definition.
-use mathlib.Core.Path.{◌∙◌}
-use Rattle.arith.specs.Exact.{signed}
+-- `arith::signed64` meets its contract: the library reads 64 bits as the definition does.
+use mathlib.Core.Path.{◌∙◌, sym}
+use mir.Syntax.{w64}
 use Rattle.arith.proofs.Laws.{read_back}
+use Rattle.arith.proofs.IntegerLaws.{signed_to_z}
 use Rattle.arith.proofs.signed64.Goals as goal
 
 pub returns : goal.returns
-unfolding signed
-returns c = read_back {z = c.signed_by.result} (record { sfits = c.signed_by.type_inv }) ∙ c.signed_by.ensures
+returns c = read_back (record { sfits = c.cast_signed.type_inv }) ∙ c.cast_signed.ensures ∙ sym (signed_to_z w64 c.args.n)

@@ -1,33 +1,8 @@
--- `arith::sub` meets its contract: of like signs the difference fits, and of unlike signs the magnitudes add up and one test tells whether it does.
-use mathlib.Core.Path.{◌∙◌, ap, ap₂}
-use mathlib.Core.Bool.{true, false}
-use lib.IntN.{◌-ℤ◌}
-use Rattle.arith.specs.Exact.{checked}
-use Rattle.arith.proofs.Laws.{read_back, read_fits, value, diff_fits, diff_above, diff_beneath}
+-- `arith::sub` meets its contract: the library tells whether the exact difference fits.
+use mathlib.Core.Path.{◌∙◌, ap₂}
+use Rattle.arith.specs.Exact.{sub_of}
+use Rattle.arith.proofs.Laws.{read_back, answered}
 use Rattle.arith.proofs.sub.Goals as goal
 
-pub overflow_sub-result : goal.overflow_sub-result
-overflow_sub-result c =
-    diff_fits (read_fits c.ranges.a) (read_fits c.ranges.b) true c.if-a-lt0.true c.if-b-lt0.true
-
-pub overflow_sub-result-else-b-lt0-2 : goal.overflow_sub-result-else-b-lt0-2
-overflow_sub-result-else-b-lt0-2 c =
-    diff_fits (read_fits c.ranges.a) (read_fits c.ranges.b) false c.if-a-lt0.false c.if-b-lt0-2.false
-
-pub returns-then-b-lt0 : goal.returns-then-b-lt0
-returns-then-b-lt0 c =
-    value (overflow_sub-result c) (ap₂ ◌-ℤ◌ (read_back c.ranges.a) (read_back c.ranges.b))
-
-pub returns-else-b-lt0 : goal.returns-else-b-lt0
-returns-else-b-lt0 c =
-    c.beneath.ensures
-    ∙ ap checked (diff_beneath c.ranges.a c.ranges.b c.mag.ensures.value c.mag-else-b-lt0.ensures.value c.if-a-lt0.true c.if-b-lt0.false)
-
-pub returns-then-b-lt0-2 : goal.returns-then-b-lt0-2
-returns-then-b-lt0-2 c =
-    c.above.ensures
-    ∙ ap checked (diff_above c.ranges.a c.ranges.b c.mag-then-b-lt0-2.ensures.value c.mag-then-b-lt0-2-2.ensures.value c.if-a-lt0.false c.if-b-lt0-2.true)
-
-pub returns-else-b-lt0-2 : goal.returns-else-b-lt0-2
-returns-else-b-lt0-2 c =
-    value (overflow_sub-result-else-b-lt0-2 c) (ap₂ ◌-ℤ◌ (read_back c.ranges.a) (read_back c.ranges.b))
+pub returns : goal.returns
+returns c = c.ok_or.ensures.value ∙ answered _ _ c.checked_sub.ensures ∙ ap₂ sub_of (read_back c.ranges.a) (read_back c.ranges.b)

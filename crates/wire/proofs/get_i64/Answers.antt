@@ -7,4 +7,4 @@ use Rattle.arith.specs.Exact.{signed}
 use Rattle.wire.proofs.get_i64.Goals as goal
 
 pub returns : goal.returns
-returns c = to_z-of_z {w = w64} {z = c.signed64.result} (search rules) ∙ c.signed64.ensures ∙ ap (signed 64) c.get64.ensures
+returns c = to_z-of_z {w = w64} {z = c.signed64.result} (search rules) ∙ c.signed64.ensures ∙ ap (signed 64) c.read_le.ensures

@@ -7,5 +7,5 @@ use Rattle.wire.proofs.put_i64.Goals as goal
 
 pub returns : goal.returns
 returns c =
-    c.put64.ensures
+    c.write_le.ensures
     ∙ ap (write_le 8 c.args.s.now c.args.at) (c.unsigned64.ensures ∙ ap (unsigned 64) (to_z-of_z c.ranges.v))
