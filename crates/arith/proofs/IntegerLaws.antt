@@ -1,5 +1,4 @@
 -- Laws of ℤ for linear arithmetic: an integer z is posPart z - negPart z, so that each fact of sums, orders and ranges becomes one of ℕ, which `omega` proves.
-use Rattle.arith.specs.declared.NoResult.TheVariants.{Overflow}
 use mathlib.Core.Path.{◌≡◌, refl, sym, ◌∙◌, ap}
 use mathlib.Core.Bool.{Bool, true, false, cond}
 use Prim.Native.Nat.{ℕ, zero, suc, ◌+◌, ◌*◌, ◌-◌, ◌/◌, ◌%◌, ◌^◌, ◌<◌, ◌≤◌}
