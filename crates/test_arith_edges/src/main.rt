@@ -3,63 +3,42 @@
 // `//` is floor division.
 #![tactic(auto)]
 
-use arith::Checked;
-
-// How many numbers each table has, and the pairs of edges.
-const EDGES: u32 = 17;
-
-const PAIRS: u32 = EDGES * EDGES;
-
-const WORDS: u32 = 6;
-
-const HALVES: u32 = 5;
+use arith::NoResult;
 
 // Both ends of the range, the roots of 2^63, numbers around 0, and the sevens and twos of the
 // worked examples of division.
-fn edge(k: u32) -> i64 {
-    match k {
-        0 => -9223372036854775808,
-        1 => -9223372036854775807,
-        2 => -4294967296,
-        3 => -3037000500,
-        4 => -7,
-        5 => -2,
-        6 => -1,
-        7 => 0,
-        8 => 1,
-        9 => 2,
-        10 => 7,
-        11 => 2147483648,
-        12 => 3037000499,
-        13 => 3037000500,
-        14 => 4611686018427387904,
-        15 => 9223372036854775806,
-        _ => 9223372036854775807,
-    }
-}
+const EDGES: [i64; 17] = [
+    -9223372036854775808,
+    -9223372036854775807,
+    -4294967296,
+    -3037000500,
+    -7,
+    -2,
+    -1,
+    0,
+    1,
+    2,
+    7,
+    2147483648,
+    3037000499,
+    3037000500,
+    4611686018427387904,
+    9223372036854775806,
+    9223372036854775807,
+];
 
 // 64 bits around the sign bit and at both ends.
-fn word(k: u32) -> u64 {
-    match k {
-        0 => 0,
-        1 => 1,
-        2 => 9223372036854775807,
-        3 => 9223372036854775808,
-        4 => 9223372036854775809,
-        _ => 18446744073709551615,
-    }
-}
+const WORDS: [u64; 6] = [
+    0,
+    1,
+    9223372036854775807,
+    9223372036854775808,
+    9223372036854775809,
+    18446744073709551615,
+];
 
 // 32 bits around the sign bit and at both ends.
-fn half(k: u32) -> u32 {
-    match k {
-        0 => 0,
-        1 => 1,
-        2 => 2147483647,
-        3 => 2147483648,
-        _ => 4294967295,
-    }
-}
+const HALVES: [u32; 5] = [0, 1, 2147483647, 2147483648, 4294967295];
 
 fn text(rt: &impl Print, s: &str) {
     let _ = rt.print(s);
@@ -81,20 +60,16 @@ fn number(rt: &impl Print, z: i64) {
     }
 }
 
-fn result(rt: &impl Print, c: Checked) {
-    match c {
-        Checked::Value(z) => number(rt, z),
-        Checked::Overflow => text(rt, " overflow"),
-        Checked::ZeroDivisor => text(rt, " zero"),
+fn result(rt: &impl Print, r: Result<i64, NoResult>) {
+    match r {
+        Ok(z) => number(rt, z),
+        Err(NoResult::Overflow) => text(rt, " overflow"),
+        Err(NoResult::ZeroDivisor) => text(rt, " zero"),
     }
 }
 
 fn answer(rt: &impl Print, yes: bool) {
-    if yes {
-        text(rt, " yes");
-    } else {
-        text(rt, " no");
-    }
+    text(rt, if yes { " yes" } else { " no" });
 }
 
 // The two numbers, their sum, difference, product and quotient, whether the first is below the
@@ -107,8 +82,8 @@ fn pair(rt: &impl Print, a: i64, b: i64) {
     result(rt, arith::sub(a, b));
     result(rt, arith::mul(a, b));
     result(rt, arith::div(a, b));
-    answer(rt, arith::less(a, b));
-    answer(rt, arith::same(a, b));
+    answer(rt, a < b);
+    answer(rt, a == b);
     text(rt, "\n");
 }
 
@@ -130,18 +105,16 @@ fn half_line(rt: &impl Print, n: u32) {
 }
 
 // Each pair of edges, then each word, then each half.
-fn line(rt: &impl Print, k: u32) {
-    if k < PAIRS {
-        pair(rt, edge(k / EDGES), edge(k % EDGES));
-    } else if k < PAIRS + WORDS {
-        word_line(rt, word(k - PAIRS));
-    } else {
-        half_line(rt, half(k - PAIRS - WORDS));
-    }
-}
-
 fn main(rt: HostRuntime) {
-    for k in 0..PAIRS + WORDS + HALVES {
-        line(&rt, k);
+    for a in EDGES {
+        for b in EDGES {
+            pair(&rt, a, b);
+        }
+    }
+    for n in WORDS {
+        word_line(&rt, n);
+    }
+    for n in HALVES {
+        half_line(&rt, n);
     }
 }

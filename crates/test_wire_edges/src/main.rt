@@ -27,18 +27,14 @@ fn number(rt: &impl Print, n: u64) {
 }
 
 fn flag(rt: &impl Print, b: bool) {
-    if b {
-        number(rt, 1);
-    } else {
-        number(rt, 0);
-    }
+    number(rt, u64::from(b));
 }
 
 // A value in decimal: one below zero by its sign and what its bits lack to 2^64.
 fn value(rt: &impl Print, z: i64) {
     let mut bits = [0u8; 8];
     wire::put_i64(&mut bits, 0, z);
-    let n = wire::get64(&bits, 0);
+    let n = wire::read_le::<8>(&bits, 0);
     if z < 0 {
         if 0 < n {
             text(rt, " -");
@@ -52,20 +48,18 @@ fn value(rt: &impl Print, z: i64) {
 // The bytes of a slice as hexadecimal digits.
 fn bytes(rt: &impl Print, s: &[u8]) {
     space(rt);
-    let mut i = 0;
-    while i < s.len() {
-        let _ = print!(rt; "{:02x}", s[i]);
-        i += 1;
+    for b in s {
+        let _ = print!(rt; "{:02x}", *b);
     }
 }
 
 fn read_at(rt: &impl Print, s: &[u8], at: usize) {
     text(rt, "read");
     number(rt, at as u64);
-    number(rt, wire::byte(s, at) as u64);
-    number(rt, wire::get16(s, at));
-    number(rt, wire::get32(s, at));
-    number(rt, wire::get64(s, at));
+    number(rt, u64::from(wire::get_or(s, at, 0)));
+    number(rt, wire::read_le::<2>(s, at));
+    number(rt, wire::read_le::<4>(s, at));
+    number(rt, wire::read_le::<8>(s, at));
     value(rt, wire::get_i64(s, at));
     end(rt);
 }
@@ -96,16 +90,16 @@ fn write_at(rt: &impl Print, at: usize, v: u64) {
     text(rt, "write");
     number(rt, at as u64);
     let mut one = [238u8; 10];
-    wire::put_byte(&mut one, at, 17);
+    wire::put(&mut one, at, 17);
     bytes(rt, &one);
     let mut two = [238u8; 10];
-    wire::put16(&mut two, at, v);
+    wire::write_le::<2>(&mut two, at, v);
     bytes(rt, &two);
     let mut four = [238u8; 10];
-    wire::put32(&mut four, at, v);
+    wire::write_le::<4>(&mut four, at, v);
     bytes(rt, &four);
     let mut eight = [238u8; 10];
-    wire::put64(&mut eight, at, v);
+    wire::write_le::<8>(&mut eight, at, v);
     bytes(rt, &eight);
     end(rt);
 }
@@ -159,14 +153,14 @@ fn word_at(rt: &impl Print, i: usize) {
     text(rt, "word");
     number(rt, i as u64);
     let mut words = [7u64, 8, 9];
-    wire::put_word(&mut words, i, MAX64);
-    number(rt, wire::word(&words, 0));
-    number(rt, wire::word(&words, 2));
-    number(rt, wire::word(&words, 3));
-    number(rt, wire::word(&words, i));
-    wire::clear_words(&mut words);
-    number(rt, wire::word(&words, 0));
-    number(rt, wire::word(&words, 2));
+    wire::put(&mut words, i, MAX64);
+    number(rt, wire::get_or(&words, 0, 0));
+    number(rt, wire::get_or(&words, 2, 0));
+    number(rt, wire::get_or(&words, 3, 0));
+    number(rt, wire::get_or(&words, i, 0));
+    wire::clear(&mut words, 0);
+    number(rt, wire::get_or(&words, 0, 0));
+    number(rt, wire::get_or(&words, 2, 0));
     end(rt);
 }
 
@@ -174,14 +168,14 @@ fn held_at(rt: &impl Print, i: usize) {
     text(rt, "held");
     number(rt, i as u64);
     let mut values = [-7i64, 8, -9];
-    wire::put_value(&mut values, i, -9223372036854775808);
-    value(rt, wire::value(&values, 0));
-    value(rt, wire::value(&values, 2));
-    value(rt, wire::value(&values, 3));
-    value(rt, wire::value(&values, i));
-    wire::clear_values(&mut values);
-    value(rt, wire::value(&values, 0));
-    value(rt, wire::value(&values, 2));
+    wire::put(&mut values, i, -9223372036854775808);
+    value(rt, wire::get_or(&values, 0, 0));
+    value(rt, wire::get_or(&values, 2, 0));
+    value(rt, wire::get_or(&values, 3, 0));
+    value(rt, wire::get_or(&values, i, 0));
+    wire::clear(&mut values, 0);
+    value(rt, wire::get_or(&values, 0, 0));
+    value(rt, wire::get_or(&values, 2, 0));
     end(rt);
 }
 
@@ -195,7 +189,7 @@ fn slices(rt: &impl Print) {
     held_at(rt, 3);
     held_at(rt, 18446744073709551615);
     let mut s = [255u8; 10];
-    wire::clear_bytes(&mut s);
+    wire::clear(&mut s, 0);
     text(rt, "clear");
     bytes(rt, &s);
     end(rt);
@@ -203,12 +197,10 @@ fn slices(rt: &impl Print) {
 
 // The set bits of a row, one after the other.
 fn walk(rt: &impl Print, row: [u64; 4]) {
-    let mut i = 0;
-    while i < ROW_BITS {
+    for i in 0..ROW_BITS {
         if wire::row_test(row, i) {
             number(rt, i as u64);
         }
-        i += 1;
     }
 }
 

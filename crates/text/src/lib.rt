@@ -31,11 +31,11 @@ fn put_digits(out: &mut [u8], at: usize, left: usize, n: u64) -> usize
         return at;
     }
     if n < 10 {
-        wire::put_byte(out, at, digit(n));
+        wire::put(out, at, digit(n));
         return at + 1;
     }
     let next = put_digits(out, at, left - 1, n / 10);
-    wire::put_byte(out, next, digit(n % 10));
+    wire::put(out, next, digit(n % 10));
     next + 1
 }
 
@@ -45,7 +45,7 @@ fn put_part(out: &mut [u8], at: usize, n: u64) -> usize
     ensures text { out.new ≡ stored out.old at (space ∷ decimal n) }
     ensures end { result ≡ at + length (space ∷ decimal n) }
 {
-    wire::put_byte(out, at, SPACE);
+    wire::put(out, at, SPACE);
     put_digits(out, at + 1, DECIMAL_DIGITS, n)
 }
 
@@ -56,8 +56,8 @@ fn put_value_part(out: &mut [u8], at: usize, z: i64) -> usize
     ensures end { result ≡ at + length (space ∷ signed_decimal z) }
 {
     if z < 0 {
-        wire::put_byte(out, at, SPACE);
-        wire::put_byte(out, at + 1, MINUS);
+        wire::put(out, at, SPACE);
+        wire::put(out, at + 1, MINUS);
         return put_digits(out, at + 2, DECIMAL_DIGITS, arith::magnitude(z));
     }
     put_part(out, at, arith::magnitude(z))
@@ -68,7 +68,7 @@ fn put_two(out: &mut [u8], from: usize, letter: u8, a: u64, b: u64) -> usize
     requires { from < 2 ^ 32 }
     ensures { Written out.old out.new from result (letter ∷ spaced (decimal a ∷ decimal b ∷ [])) }
 {
-    wire::put_byte(out, from, letter);
+    wire::put(out, from, letter);
     let at = put_part(out, from + 1, a);
     put_part(out, at, b)
 }
@@ -79,7 +79,7 @@ fn put_end(out: &mut [u8], at: usize) -> usize
     ensures text { out.new ≡ stored out.old at (line_feed ∷ []) }
     ensures end { result ≡ at + length (line_feed ∷ []) }
 {
-    wire::put_byte(out, at, LINE_FEED);
+    wire::put(out, at, LINE_FEED);
     at + 1
 }
 
@@ -157,13 +157,10 @@ fn put_bits(out: &mut [u8], at: usize, row: [u64; ROW_WORDS]) -> usize
     ensures end { result ≡ at + length (spaced (map decimal (passing (in_row row) 256 0))) }
 {
     let mut end = at;
-    let mut call = 0;
-    while call < ROW_BITS {
+    for call in 0..ROW_BITS {
         if wire::row_test(row, call) {
-            let next = put_part(out, end, call as u64);
-            end = next;
+            end = put_part(out, end, call as u64);
         }
-        call += 1;
     }
     end
 }
@@ -172,7 +169,7 @@ fn put_bits(out: &mut [u8], at: usize, row: [u64; ROW_WORDS]) -> usize
 pub fn row_line(out: &mut [u8], from: u32, call: u64, row: [u64; ROW_WORDS]) -> usize
     ensures { Written out.old out.new from result (row_text call row) }
 {
-    wire::put_byte(out, from as usize, b'w');
+    wire::put(out, from as usize, b'w');
     let first = put_part(out, from as usize + 1, call);
     let at = put_bits(out, first, row);
     put_end(out, at)

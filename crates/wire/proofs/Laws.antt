@@ -1,34 +1,46 @@
 -- The mathematics of the crate's proofs, over plain variables: a number read or written byte by byte, and the loop that clears a list.
-use mathlib.Core.Path.{◌≡◌, refl, sym, ap, ◌∙◌}
+use mathlib.Core.Path.{◌≡◌, refl, sym, ap, ap₂, ◌∙◌}
 use mathlib.Core.List.{List, [], ◌∷◌, ◌++◌, append-nil}
 use Prim.Native.Nat.{ℕ, zero, suc, ◌+◌, ◌-◌, ◌*◌, ◌/◌, ◌%◌, ◌^◌, ◌≤◌, ◌<◌}
-use native.Mathlib.Nat.{le_refl, lt_of_lt_of_le, not-suc-le-zero, le_of_suc-le-suc, add-zero, mul-zero, pow-le-pow_right}
+use native.Mathlib.Nat.{le_refl, lt_of_lt_of_le, not-suc-le-zero, le_of_suc-le-suc, add-zero, mul-zero, mul_comm, mod-eq_of_lt, pow-suc, pow-le-pow_right}
 use native.Mathlib.Numerals.{add-one}
 use native.Mathlib.Omega.{arith}
 use lib.ListN.{length, get_or, set, drop, replicate, length-set, length-append, length-replicate, length-drop, drop_of_length-le, get_or-eq_default}
 use lib.Seq.{set_out}
+use Rattle.std.proofs.lemmas.Nat.{pow-add}
 use Rattle.wire.specs.Bytes.{number, read_le, bytes_of, stored, write_le, repeated}
-use Rattle.wire.proofs.BytesLaws.{read_suc, read_join, read_lt, read_past, write_join, write_past, stored_length}
+use Rattle.wire.proofs.BytesLaws.{read_one, read_join, read_lt, read_past, write_join, write_past, stored_length}
 
--- ---- a number read from its last byte to its first
+-- ---- a number read byte by byte
 
-pub read_none : (n : ℕ) (s : List ℕ) (at : ℕ) → 0 ≡ read_le (n - n) s at
+two_to : (i : ℕ) → 2 ^ (8 * i) ≡ 256 ^ i
+two_to zero = refl
+two_to (suc i) =
+    let e : 8 * suc i ≡ 8 * i + 8 = omega arith in
+    ap (λ (k : ℕ). 2 ^ k) e ∙ pow-add 2 (8 * i) 8 ∙ ap (λ (x : ℕ). x * 256) (two_to i) ∙ sym (pow-suc 256 i)
+
+pub read_none : (s : List ℕ) (at : ℕ) → 0 ≡ read_le 0 s at
 unfolding number
-read_none n s at = let e : n - n ≡ 0 = omega arith in sym (ap (λ (k : ℕ). read_le k s at) e)
+read_none s at = refl
 
--- The byte in front of those that were read, and what they make with it.
-module _ (s : List ℕ) (at n i : ℕ) {number b : ℕ} (some : 0 < i) (is : number ≡ read_le (n - i) s (at + i)) (byte : b ≡ get_or s (at + (i - 1)) 0) where
-  pub read_more : i ≤ n → 256 * number + b ≡ read_le (n - (i - 1)) s (at + (i - 1))
-  read_more l =
-      let long : n - (i - 1) ≡ suc (n - i) = omega arith in
-      let next : at + i ≡ at + (i - 1) + 1 = omega arith in
-      let rest : number ≡ read_le (n - i) s (at + (i - 1) + 1) = is ∙ ap (read_le (n - i) s) next in
-      let whole : 256 * number + b ≡ read_le (suc (n - i)) s (at + (i - 1)) = omega (arith, read_suc (n - i) s (at + (i - 1))) in
-      whole ∙ ap (λ (k : ℕ). read_le k s (at + (i - 1))) (sym long)
+-- The byte behind those that were read, at its place value.
+module _ (s : List ℕ) (at i : ℕ) {number b : ℕ} (is : number ≡ read_le i s at) (byte : b ≡ get_or s (at + i) 0) (short : i < 8) (bytes : (k : ℕ) → get_or s k 0 < 256) where
+  whole : read_le i s at + 256 ^ i * get_or s (at + i) 0 ≡ read_le (i + 1) s at
+  whole = sym (read_join i 1 s at ∙ ap (λ (r : ℕ). read_le i s at + 256 ^ i * r) (read_one s (at + i)))
 
-  pub read_more_lt : i ≤ n → n ≤ 8 → ((k : ℕ) → get_or s k 0 < 256) → 256 * number + b < 256 ^ 8
-  read_more_lt l short bytes =
-      rw (read_more l) (lt_of_lt_of_le (read_lt (n - (i - 1)) s bytes (at + (i - 1))) (pow-le-pow_right {n = 256} (omega arith) {i = n - (i - 1)} {j = 8} (omega arith)))
+  whole_lt : read_le (i + 1) s at < 256 ^ 8
+  whole_lt = lt_of_lt_of_le (read_lt (i + 1) s bytes at) (pow-le-pow_right {n = 256} (omega arith) {i = i + 1} {j = 8} (omega arith))
+
+  placed : b * 2 ^ (8 * i) % 2 ^ 64 ≡ 256 ^ i * get_or s (at + i) 0
+  placed =
+      let value : b * 2 ^ (8 * i) ≡ 256 ^ i * get_or s (at + i) 0 = ap₂ (λ (x y : ℕ). x * y) byte (two_to i) ∙ mul_comm (get_or s (at + i) 0) (256 ^ i) in
+      rw value (mod-eq_of_lt (omega (arith, whole, whole_lt)))
+
+  pub read_more : number + b * 2 ^ (8 * i) % 2 ^ 64 ≡ read_le (i + 1) s at
+  read_more = ap₂ (λ (x y : ℕ). x + y) is placed ∙ whole
+
+  pub read_more_lt : number + b * 2 ^ (8 * i) % 2 ^ 64 < 256 ^ 8
+  read_more_lt = rw read_more whole_lt
 
 -- Past the end there is nothing to read or to write: so many bytes as there are tell all.
 pub read_short : (j k : ℕ) (s : List ℕ) (at : ℕ) → j ≤ k → length s ≤ at + j → read_le j s at ≡ read_le k s at

@@ -42,8 +42,8 @@ fn read_within(s: &[u8], at: usize, n: usize) -> u64
     ensures { result ≡ read_le n s.now at }
 {
     let mut number = 0;
-    for i in (0..n).rev() {
-        number = 256 * number + u64::from(s[at + i]);
+    for i in 0..n {
+        number += u64::from(s[at + i]) << (8 * i);
     }
     number
 }

@@ -12,7 +12,7 @@ returns-then-left-eq0 t c =
 
 pub returns-then-n-lt10 : goal.returns-then-n-lt10
 returns-then-n-lt10 t c =
-    let both = put_one _ _ _ _ c.if-left-eq0.false _ _ c.if-n-lt10.true c.digit.ensures c.put_byte.ensures in
+    let both = put_one _ _ _ _ c.if-left-eq0.false _ _ c.if-n-lt10.true c.digit.ensures c.put.ensures in
     record { text = both.0; end = both.1 }
 
 pub overflow_add-result-2 : goal.overflow_add-result-2
@@ -21,5 +21,5 @@ overflow_add-result-2 t c =
 
 pub returns : goal.returns
 returns t c =
-    let both = put_more _ _ _ _ c.if-left-eq0.false _ _ _ _ c.if-n-lt10.false (c.put_digits-next.ensures.text, c.put_digits-next.ensures.end) c.digit-2.ensures c.put_byte-2.ensures in
+    let both = put_more _ _ _ _ c.if-left-eq0.false _ _ _ _ c.if-n-lt10.false (c.put_digits-next.ensures.text, c.put_digits-next.ensures.end) c.digit-2.ensures c.put-2.ensures in
     record { text = both.0; end = both.1 }

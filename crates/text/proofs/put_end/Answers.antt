@@ -3,4 +3,4 @@ use Rattle.text.proofs.Laws.{put_last}
 use Rattle.text.proofs.put_end.Goals as goal
 
 pub returns : goal.returns
-returns c = record { text = (put_last _ _ _ _ c.put_byte.ensures).0; end = (put_last _ _ _ _ c.put_byte.ensures).1 }
+returns c = record { text = (put_last _ _ _ _ c.put.ensures).0; end = (put_last _ _ _ _ c.put.ensures).1 }

@@ -4,4 +4,4 @@ use Rattle.text.proofs.put_part.Goals as goal
 
 pub returns : goal.returns
 returns c =
-    record { text = (put_before _ _ _ _ _ _ _ c.put_byte.ensures (c.put_digits.ensures.text, c.put_digits.ensures.end)).0; end = (put_before _ _ _ _ _ _ _ c.put_byte.ensures (c.put_digits.ensures.text, c.put_digits.ensures.end)).1 }
+    record { text = (put_before _ _ _ _ _ _ _ c.put.ensures (c.put_digits.ensures.text, c.put_digits.ensures.end)).0; end = (put_before _ _ _ _ _ _ _ c.put.ensures (c.put_digits.ensures.text, c.put_digits.ensures.end)).1 }

@@ -11,4 +11,4 @@ put_part-requires c =
 
 pub returns : goal.returns
 returns c =
-    written_part _ _ _ _ _ _ _ (_ ∷ []) (written_part _ _ _ _ _ _ _ [] (written_letter _ _ _ _ c.put_byte.ensures) _ (c.put_part-at.ensures.text, c.put_part-at.ensures.end)) _ (c.put_part.ensures.text, c.put_part.ensures.end)
+    written_part _ _ _ _ _ _ _ (_ ∷ []) (written_part _ _ _ _ _ _ _ [] (written_letter _ _ _ _ c.put.ensures) _ (c.put_part-at.ensures.text, c.put_part-at.ensures.end)) _ (c.put_part.ensures.text, c.put_part.ensures.end)

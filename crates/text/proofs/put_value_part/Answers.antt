@@ -5,7 +5,7 @@ use Rattle.text.proofs.put_value_part.Goals as goal
 
 pub returns-then-z-lt0 : goal.returns-then-z-lt0
 returns-then-z-lt0 c =
-    record { text = (value_below _ _ _ (read c.args.z) _ (read_back c.ranges.z) c.magnitude.ensures _ _ _ _ c.if-z-lt0.true c.put_byte.ensures c.put_byte-then-z-lt0.ensures (c.put_digits.ensures.text, c.put_digits.ensures.end)).0; end = (value_below _ _ _ (read c.args.z) _ (read_back c.ranges.z) c.magnitude.ensures _ _ _ _ c.if-z-lt0.true c.put_byte.ensures c.put_byte-then-z-lt0.ensures (c.put_digits.ensures.text, c.put_digits.ensures.end)).1 }
+    record { text = (value_below _ _ _ (read c.args.z) _ (read_back c.ranges.z) c.magnitude.ensures _ _ _ _ c.if-z-lt0.true c.put.ensures c.put-then-z-lt0.ensures (c.put_digits.ensures.text, c.put_digits.ensures.end)).0; end = (value_below _ _ _ (read c.args.z) _ (read_back c.ranges.z) c.magnitude.ensures _ _ _ _ c.if-z-lt0.true c.put.ensures c.put-then-z-lt0.ensures (c.put_digits.ensures.text, c.put_digits.ensures.end)).1 }
 
 pub returns : goal.returns
 returns c =

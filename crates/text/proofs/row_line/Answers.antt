@@ -16,4 +16,4 @@ put_end-requires c =
 
 pub returns : goal.returns
 returns c =
-    written_end _ _ _ _ _ _ _ (_ ∷ _) (written_parts _ _ _ _ _ _ _ (_ ∷ []) (written_part _ _ _ _ _ _ _ [] (written_letter _ _ _ _ c.put_byte.ensures) _ (c.put_part-first.ensures.text, c.put_part-first.ensures.end)) _ (c.put_bits-at.ensures.text, c.put_bits-at.ensures.end)) (c.put_end.ensures.text, c.put_end.ensures.end)
+    written_end _ _ _ _ _ _ _ (_ ∷ _) (written_parts _ _ _ _ _ _ _ (_ ∷ []) (written_part _ _ _ _ _ _ _ [] (written_letter _ _ _ _ c.put.ensures) _ (c.put_part-first.ensures.text, c.put_part-first.ensures.end)) _ (c.put_bits-at.ensures.text, c.put_bits-at.ensures.end)) (c.put_end.ensures.text, c.put_end.ensures.end)

@@ -1,7 +1,6 @@
-use Prim.Native.Nat.{◌+◌, ◌-◌}
 use mathlib.Core.Path.{◌≡◌}
 use Rattle.wire.specs.Bytes.{read_le}
 use Rattle.wire.proofs.read_within.Given as goal
 
 abbrev pub invariant-loop-i : goal.invariant-loop-i
-invariant-loop-i l = l.number ≡ read_le (l.n - l.i) l.s (l.at + l.i)
+invariant-loop-i l = l.number ≡ read_le l.i l.s l.at
