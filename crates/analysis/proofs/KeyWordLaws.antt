@@ -12,6 +12,8 @@ use lib.Dec.{eqb, ltb}
 use lib.ListN.{length, get_or, take, drop, set, replicate, length-append, length-drop, take-append-drop, get_or-append}
 use lib.Seq.{slice, slice_empty, slice-cons, length-slice, take-suc, set_at, get_or-take, length-take-le, take-append-add, take-append_seam, drop-append-add, drop-append_seam}
 use Rattle.std.specs.Prelude.{if◌then◌else◌}
+use Rattle.std.specs.List.{copy_within}
+use Rattle.std.proofs.lemmas.Slice.{between_is}
 use Rattle.wire.specs.Bytes.{repeated, padded}
 use Rattle.block.specs.Limits.{max_keys}
 use Rattle.footprint.specs.Conflict.{member}
@@ -122,61 +124,12 @@ module _ (n : ℕ) (words : List ℕ) (at high low : ℕ) (sorted : Sorted n wor
 
 -- ---- the words that an insertion moves
 
-moved_none : (s : List ℕ) (to : ℕ) → moved_up s to to ≡ s
-moved_none s to = ap (λ (m : List ℕ). take (to + 2) s ++ (m ++ drop (to + 2) s)) (slice_empty to s) ∙ take-append-drop (to + 2) s
-
-moved_length : (s : List ℕ) (from to : ℕ) → from ≤ to → to + 2 ≤ length s → length (moved_up s from to) ≡ length s
-moved_length s from to h fits =
-    simp (length-append, length-slice from to s (omega arith), length-take-le (from + 2) s (omega arith), length-drop) (omega arith)
-
--- One word more is moved.
-moved_more : (s : List ℕ) (i to : ℕ) → i < to → to + 2 ≤ length s
-    → set (moved_up s (suc i) to) (i + 2) (get_or (moved_up s (suc i) to) i 0) ≡ moved_up s i to
-moved_more s i to h fits =
-    ap (λ (v : ℕ). set (moved_up s (suc i) to) (i + 2) v) same_word
-    ∙ ap (λ (t : List ℕ). set (t ++ rest) (i + 2) (get_or s i 0)) one_more
-    ∙ ap (λ (t : List ℕ). set t (i + 2) (get_or s i 0)) (append_assoc (take (i + 2) s) (get_or s (i + 2) 0 ∷ []) rest)
-    ∙ set_at (take (i + 2) s) (get_or s (i + 2) 0) rest (get_or s i 0) (i + 2) (length-take-le (i + 2) s (omega arith))
-    ∙ ap (λ (t : List ℕ). take (i + 2) s ++ (t ++ drop (to + 2) s)) (sym (slice-cons i to s 0 h (omega arith)))
-  where
-    rest : List ℕ
-    rest = slice (suc i) to s ++ drop (to + 2) s
-
-    same_word : get_or (moved_up s (suc i) to) i 0 ≡ get_or s i 0
-    same_word =
-        get_or-append (take (suc i + 2) s) rest 0 i (rw (length-take-le (suc i + 2) s (omega arith)) (omega arith))
-        ∙ get_or-take (suc i + 2) s i 0 (omega arith)
-
-    one_more : take (suc i + 2) s ≡ take (i + 2) s ++ (get_or s (i + 2) 0 ∷ [])
-    one_more = rw (suc-add i 2) (take-suc s (i + 2) 0 (omega arith))
-
--- The words from `from + left` on are moved.
-pub record Moving (s : List ℕ) (from to : ℕ) (now : List ℕ) (left : ℕ) : Type 0 where
-  pub within : from + left ≤ to
-  pub kept : length now ≡ length s
-  pub held : now ≡ moved_up s (from + left) to
-
-module _ (s : List ℕ) (from to : ℕ) (fits : to + 2 ≤ length s) where
-  moving : (now : List ℕ) (left : ℕ) → from + left ≤ to → now ≡ moved_up s (from + left) to → Moving s from to now left
-  moving now left w e = record { within = w; kept = ap length e ∙ moved_length s (from + left) to w fits; held = e }
-
-  pub moving_none : from ≤ to → Moving s from to s (to - from)
-  moving_none h =
-      let e : from + (to - from) ≡ to = omega arith in
-      moving s (to - from) (omega arith) (rw e (sym (moved_none s to)))
-
-  pub moving_more : (now : List ℕ) (left : ℕ) → Moving s from to now left → 0 < left
-      → Moving s from to (set now (from + (left - 1) + 2) (get_or now (from + (left - 1)) 0)) (left - 1)
-  moving_more now left m some =
-      let w : from + left ≤ to = m.within in
-      let i : ℕ = from + (left - 1) in
-      let e : from + left ≡ suc (from + (left - 1)) = omega arith in
-      let same : now ≡ moved_up s (suc i) to = m.held ∙ ap (λ (j : ℕ). moved_up s j to) e in
-      moving (set now (i + 2) (get_or now i 0)) (left - 1) (omega arith)
-      (ap (λ (t : List ℕ). set t (i + 2) (get_or t i 0)) same ∙ moved_more s i to (omega arith) fits)
-
-  pub moving_all : (now : List ℕ) (left : ℕ) → Moving s from to now left → left ≤ 0 → now ≡ moved_up s from to
-  moving_all now left m none = let e : from + left ≡ from = omega arith in m.held ∙ ap (λ (i : ℕ). moved_up s i to) e
+-- Words that are copied two places up are moved.
+pub moved_by_copy : (s : List ℕ) (from to : ℕ) → from ≤ to → copy_within s from to (from + 2) ≡ moved_up s from to
+moved_by_copy s from to h =
+    let end : from + 2 + (to - from) ≡ to + 2 = omega arith in
+    append_assoc (take (from + 2) s) (take (to - from) (drop from s)) (drop (from + 2 + (to - from)) s)
+    ∙ ap₂ (λ (m r : List ℕ). take (from + 2) s ++ (m ++ r)) (between_is s from to) (ap (λ (n : ℕ). drop n s) end)
 
 -- ---- the pair that an insertion stores
 

@@ -8,7 +8,7 @@ use native.Mathlib.Numerals.{add-one}
 use native.Mathlib.Omega.{arith}
 use lib.Dec.{lit<}
 use lib.IntN.{ℤ}
-use lib.ListN.{length, get_or, take, set, replicate, length-map}
+use lib.ListN.{length, get_or, take, set, replicate, length-map, length-append}
 use lib.Seq.{take-suc, take_all, length-take-le}
 use Rattle.wire.specs.Bytes.{read_le, repeated, padded, stored}
 use Rattle.wire.specs.Rows.{bit}
@@ -32,50 +32,24 @@ use Rattle.footprint.specs.EntryUses.{entry_words}
 use Rattle.footprint.specs.Listed.{AllListed}
 use Rattle.analysis.proofs.MaskBuffers.{entries_taken, in_table}
 use Rattle.analysis.specs.Planned.{GatheredFits, words_of_call, call_words}
+use Rattle.analysis.proofs.RowLoops.{stored_on}
 use Rattle.analysis.proofs.PlanLaws.{stored_padded, complete, listed_set}
 use Rattle.analysis.specs.declared.Sets.{Sets}
 
 -- ---- the words of a call
 
-three_stored : (s : List ℕ) (at a b c : ℕ) (ws : List ℕ)
-    → stored s at (a ∷ b ∷ c ∷ ws) ≡ stored (set (set (set s at a) (at + 1) b) (at + 2) c) (at + 3) ws
-unfolding stored
-three_stored s at a b c ws =
-    let two : at + 1 + 1 ≡ at + 2 = omega arith in
-    let three : at + 2 + 1 ≡ at + 3 = omega arith in
-    rw (two, three)
-
-five_stored : (s : List ℕ) (at a b c d e : ℕ)
-    → stored s at (a ∷ b ∷ c ∷ d ∷ e ∷ []) ≡ set (set (set (set (set s at a) (at + 1) b) (at + 2) c) (at + 3) d) (at + 4) e
-unfolding stored
-five_stored s at a b c d e =
-    let four : at + 3 + 1 ≡ at + 4 = omega arith in
-    three_stored s at a b c (d ∷ e ∷ []) ∙ rw four
-
--- A row and a 0 behind it, word by word.
-abbrev row_stored : List ℕ → ℕ → List ℕ → List ℕ
-row_stored s at row = set (set (set (set (set s at (get_or row 0 0)) (at + 1) (get_or row 1 0)) (at + 2) (get_or row 2 0)) (at + 3) (get_or row 3 0)) (at + 4) 0
-
-row_stored_lem : (s : List ℕ) (at : ℕ) (row : List ℕ) → length row ≡ 4 → row_stored s at row ≡ stored s at (row ++ (0 ∷ []))
-row_stored_lem s at [] h = absurd (omega arith)
-row_stored_lem s at (p ∷ []) h = absurd (omega arith)
-row_stored_lem s at (p ∷ q ∷ []) h = absurd (omega arith)
-row_stored_lem s at (p ∷ q ∷ r ∷ []) h = absurd (omega arith)
-row_stored_lem s at (p ∷ q ∷ r ∷ t ∷ []) h = sym (five_stored s at p q r t 0)
-row_stored_lem s at (p ∷ q ∷ r ∷ t ∷ u ∷ row) h = absurd (omega arith)
-
 -- What the stores of a call leave.
-pub call_stored : (s : List ℕ) (at a b c : ℕ) (words row mid : List ℕ) → length words ≡ 24 → length row ≡ 4
-    → mid ≡ stored (set (set (set s at a) (at + 1) b) (at + 2) c) (at + 3) words
-    → row_stored mid (at + 27) row ≡ stored s at (words_of_call (a ∷ b ∷ []) c words row)
-call_stored s at a b c words row mid e four m =
-    let front : List ℕ = set (set (set s at a) (at + 1) b) (at + 2) c in
-    let behind : at + 27 ≡ at + 3 + length words = omega arith in
-    row_stored_lem mid (at + 27) row four
-    ∙ ap₂ (λ (l : List ℕ) (n : ℕ). stored l n (row ++ (0 ∷ []))) m behind
-    ∙ sym (stored_append words (row ++ (0 ∷ [])) front (at + 3))
-    ∙ ap (stored front (at + 3)) (sym (append_assoc words row (0 ∷ [])))
-    ∙ sym (three_stored s at a b c (words ++ row ++ (0 ∷ [])))
+pub call_stored : (s : List ℕ) (at a b c : ℕ) (words row : List ℕ) {one two three : List ℕ} → length words ≡ 24 → length row ≡ 4
+    → one ≡ stored s at (a ∷ b ∷ c ∷ []) → two ≡ stored one (at + 3) words → three ≡ stored two (at + 27) row
+    → set three (at + 27 + 4) 0 ≡ stored s at (words_of_call (a ∷ b ∷ []) c words row)
+unfolding stored
+call_stored s at a b c words row {one} {two} {three} e f p q r =
+    let front : List ℕ = a ∷ b ∷ c ∷ [] in
+    let n : length (front ++ words) ≡ 3 + length words = length-append front words in
+    let m : length (front ++ words ++ row) ≡ length (front ++ words) + length row = length-append (front ++ words) row in
+    let entered : two ≡ stored s at (front ++ words) = stored_on s at front words (at + 3) p refl q in
+    let whole : three ≡ stored s at (front ++ words ++ row) = stored_on s at (front ++ words) row (at + 27) entered (omega arith) r in
+    stored_on s at (front ++ words ++ row) (0 ∷ []) (at + 27 + 4) whole (omega arith) refl
 
 -- ---- the entries of a set
 

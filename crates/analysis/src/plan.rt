@@ -18,7 +18,7 @@ ghost use Rattle.analysis.specs.Planned.{GatheredFits, words_of_call, call_words
 
 use crate::Sets;
 use crate::collect::{call_code, call_sets};
-use crate::rows::{add_call, row_for};
+use crate::rows::{add_call, put_words, row_for};
 use crate::table::cell_number;
 use block::address::address_of;
 use block::format::{CELL_BYTES, HEAD_BYTES};
@@ -52,18 +52,6 @@ fn entries(keys: &[u64], n: usize, s: Sets) -> [u64; MAX_CALL_KEYS]
     words
 }
 
-// The entry words of a call stored from a place on.
-fn put_entries(plan: &mut [u64], at: usize, words: [u64; MAX_CALL_KEYS])
-    requires { at + 24 ≤ length plan.old }
-    ensures { plan.new ≡ stored plan.old at words }
-{
-    let mut k = 0;
-    while k < MAX_CALL_KEYS {
-        plan[at + k] = words[k];
-        k += 1;
-    }
-}
-
 // The words of a call stored at its place in the plan.
 fn put_call(
     plan: &mut [u64],
@@ -78,16 +66,10 @@ fn put_call(
     ensures { plan.new ≡ stored plan.old (plan_words * call) (words_of_call (start ∷ size ∷ []) count words row) }
 {
     let at = PLAN_WORDS * call;
-    plan[at] = start;
-    plan[at + 1] = size;
-    plan[at + 2] = count;
-    put_entries(plan, at + FIRST_ENTRY, words);
-    let behind = at + FIRST_ROW_WORD;
-    plan[behind] = row[0];
-    plan[behind + 1] = row[1];
-    plan[behind + 2] = row[2];
-    plan[behind + 3] = row[3];
-    plan[behind + 4] = 0;
+    put_words(plan, at, &[start, size, count]);
+    put_words(plan, at + FIRST_ENTRY, &words);
+    put_words(plan, at + FIRST_ROW_WORD, &row);
+    plan[at + FIRST_ROW_WORD + ROW_WORDS] = 0;
 }
 
 // A call: its words go into the plan, with the row that the masks of the calls before it give, and its entries into the masks.
@@ -150,10 +132,8 @@ pub(crate) fn plan_calls(file: &[u8], l: Layout, keys: &[u64], n: usize, plan: &
 {
     let mut touched = [0u64; MASK_WORDS];
     let mut writers = [0u64; MASK_WORDS];
-    let mut call = 0;
-    while call < l.calls {
+    for call in 0..l.calls {
         plan_call(file, l, keys, n, call, plan, &mut touched, &mut writers);
-        call += 1;
     }
 }
 
@@ -181,10 +161,8 @@ pub(crate) fn opening_values(file: &[u8], l: Layout, keys: &[u64], n: usize, val
         ≡ padded (length values.old) (pos 0)
         (map (opening_value (block_of file.now).cells) (keys_in n keys.now)) }
 {
-    let mut i = 0;
-    while i < l.cells {
+    for i in 0..l.cells {
         let at = l.opening + (HEAD_BYTES + CELL_BYTES) * i + HEAD_BYTES;
         open_cell(from(file, at), keys, n, values);
-        i += 1;
     }
 }

@@ -73,11 +73,7 @@ fn move_up(words: &mut [u64], from: usize, to: usize)
     requires to_in_bounds { to + 2 ≤ length words.old }
     ensures { words.new ≡ moved_up words.old from to }
 {
-    let mut left = to - from;
-    while 0 < left {
-        left -= 1;
-        words[from + left + 2] = words[from + left];
-    }
+    words.copy_within(from..to, from + 2);
 }
 
 // The table with one more key, or unchanged where the key is in it; the answer is the number of its keys. Where that would pass

@@ -5,27 +5,20 @@ use Rattle.footprint.specs.Plan.{entry_writes}
 use Rattle.analysis.proofs.PlanLoops.{set_fitting, set_few, words_in_table, words_of_call_lem, marks_of_call}
 use Rattle.analysis.proofs.plan.plan_call.Goals as goal
 
-pub entries-words-requires : goal.entries-words-requires
-entries-words-requires c =
-    record { sorted = c.requires.sorted; gathered_fits = set_fitting _ _ c.requires.table_of _ _ c.call_sets-s.ensures }
+pub entries-words-requires-clause-gathered_fits : goal.entries-words-requires-clause-gathered_fits
+entries-words-requires-clause-gathered_fits c = set_fitting _ _ c.requires.table_of _ _ c.call_sets-s.ensures
 
-pub row_for-row-requires : goal.row_for-row-requires
-row_for-row-requires c =
-    let made = c.call_sets-s.ensures in
-    record { n_le_max_call_keys = set_few _ _ c.requires.table_of _ _ made; cells_in_table = words_in_table _ _ c.requires.table_of _ _ made _ c.entries-words.ensures; mask_words_in_bounds = c.requires.mask_words_in_bounds; mask_words_in_bounds_2 = c.requires.mask_words_in_bounds_2 }
+pub row_for-row-requires-clause-n_le_max_call_keys : goal.row_for-row-requires-clause-n_le_max_call_keys
+row_for-row-requires-clause-n_le_max_call_keys c = set_few _ _ c.requires.table_of _ _ c.call_sets-s.ensures
 
-pub add_call-requires : goal.add_call-requires
-add_call-requires c =
-    let made = c.call_sets-s.ensures in
-    record { n_le_max_call_keys = set_few _ _ c.requires.table_of _ _ made; cells_in_table = words_in_table _ _ c.requires.table_of _ _ made _ c.entries-words.ensures; mask_words_in_bounds = c.requires.mask_words_in_bounds; mask_words_in_bounds_2 = c.requires.mask_words_in_bounds_2 }
+pub row_for-row-requires-clause-cells_in_table : goal.row_for-row-requires-clause-cells_in_table
+row_for-row-requires-clause-cells_in_table c = words_in_table _ _ c.requires.table_of _ _ c.call_sets-s.ensures _ c.entries-words.ensures
 
-pub call_code-code-requires : goal.call_code-code-requires
-call_code-code-requires c =
-    record { layout_of_block = c.requires.layout_of_block; call_in_bounds = c.requires.call_in_bounds }
+pub add_call-requires-clause-n_le_max_call_keys : goal.add_call-requires-clause-n_le_max_call_keys
+add_call-requires-clause-n_le_max_call_keys c = set_few _ _ c.requires.table_of _ _ c.call_sets-s.ensures
 
-pub put_call-requires : goal.put_call-requires
-put_call-requires c =
-    c.requires.plan_words_in_bounds
+pub add_call-requires-clause-cells_in_table : goal.add_call-requires-clause-cells_in_table
+add_call-requires-clause-cells_in_table c = words_in_table _ _ c.requires.table_of _ _ c.call_sets-s.ensures _ c.entries-words.ensures
 
 pub returns : goal.returns
 returns c =
