@@ -28,11 +28,12 @@ use Rattle.text.specs.Written.{Written, spaced}
 use Rattle.reader.specs.Layout.{layout_of}
 use Rattle.reader.specs.declared.Layout.{Layout}
 use Rattle.block.specs.BlockOfFile.{block_in, block_of}
-use Rattle.machine.specs.Run.{Sizes, row_in}
+use Rattle.machine.specs.Run.{Sizes, fixed_sizes, row_in}
 use Rattle.machine.specs.Opening as machine
 use Rattle.machine.specs.Opening.{opening_of}
 use Rattle.opening.specs.Opened.{opening_with}
 use Rattle.opening.specs.declared.Opened.{Opened}
+use Rattle.opening.proofs.Laws.{accepted_large}
 use Rattle.listing.specs.Listing.{rows_text, listing_text, listing_of, Listed}
 
 -- ---- a row
@@ -120,6 +121,11 @@ cells_read : (x : Read) → (layout_of x).cells ≡ length (block_in x).cells
 unfolding layout_of block_in
 cells_read (accepted b) = refl
 cells_read (refused why) = refl
+
+-- An accepted block was opened in a plan that is large enough.
+pub plan_opened : (file : List ℕ) (s : Sizes) {plan keys : List ℕ} {cells : List ℤ} {status seats : List ℕ} {frames : List ℤ} {o : Opened}
+    → opening_with o plan keys cells status seats frames ≡ opening_of s file max_workers → o.verdict ≡ Accepted → fixed_sizes.plan ≤ s.plan
+plan_opened file s e h = accepted_large s file max_workers (sym (ap (λ (x : machine.Opened). x.answer) e) ∙ h)
 
 -- A file that is opened, read and listed.
 pub all_listed : (file : List ℕ) (s : Sizes) (plan keys : List ℕ) (cells : List ℤ) (status seats : List ℕ) (frames : List ℤ) (before after : List ℕ) (r : ℕ)
