@@ -1,11 +1,12 @@
 -- The mathematics of the table's proofs, over plain variables: keys compared by their words, a turn of the search, and the words that an
 -- insertion moves.
 use mathlib.Core.Path.{◌≡◌, refl, sym, ap, ap₂, ◌∙◌}
-use mathlib.Core.Bool.{Bool, true, false}
+use mathlib.Core.Bool.{Bool, true, false, ◌&&◌, ◌||◌}
 use mathlib.Core.List.{List, [], ◌∷◌, ◌++◌, append_assoc}
-use Prim.Native.Nat.{ℕ, suc, ◌+◌, ◌-◌, ◌*◌, ◌/◌, ◌^◌, ◌≤◌, ◌<◌}
+use Prim.Native.Nat.{ℕ, zero, suc, ◌+◌, ◌-◌, ◌*◌, ◌/◌, ◌^◌, ◌≤◌, ◌<◌}
 use native.Mathlib.Nat.{zero-add, add-zero, suc-add, add_assoc}
 use native.Mathlib.Numerals.{add-one}
+use native.Mathlib.Decide.{dec_lt}
 use native.Mathlib.Omega.{arith}
 use borrow.Author.Tests.{ltb-true, ltb-false, eqb-true, eqb-false, lt-ltb, le-ltb, eq-eqb, ne_eqb}
 use lib.Dec.{eqb, ltb}
@@ -13,7 +14,10 @@ use lib.ListN.{length, get_or, take, drop, set, replicate, length-append, length
 use lib.Seq.{slice, slice_empty, slice-cons, length-slice, take-suc, set_at, get_or-take, length-take-le, take-append-add, take-append_seam, drop-append-add, drop-append_seam}
 use Rattle.std.specs.Prelude.{if◌then◌else◌}
 use Rattle.std.specs.List.{copy_within}
+use Rattle.std.specs.List.Sorted.{IsPartitionedBy, IsPartitionPoint}
+use Rattle.std.specs.Simd.{first_chunks}
 use Rattle.std.proofs.lemmas.Slice.{between_is}
+use Rattle.std.proofs.lemmas.List.{drop-drop, get_or-drop}
 use Rattle.wire.specs.Bytes.{repeated, padded}
 use Rattle.block.specs.Limits.{max_keys}
 use Rattle.footprint.specs.Conflict.{member}
@@ -22,7 +26,7 @@ use Rattle.footprint.specs.Plan.{high_word, low_word, table_words}
 use Rattle.footprint.specs.KeyWords.{key_from, key_at, keys_in}
 use Rattle.analysis.specs.KeyTable.{place_in, stands_at, moved_up, Sorted, Tabled, Inserted}
 use Rattle.analysis.proofs.PlaceLaws.{place_le, place_above, place_below, stands_member, insert_absent, insert_length_is}
-use Rattle.footprint.proofs.TableLaws.{insert_present}
+use Rattle.footprint.proofs.TableLaws.{Order, below, equal, above, order, insert_present}
 use Rattle.footprint.proofs.TableWordLaws.{keys_length, keys_at, words_append, words_length, high_of_key, low_of_key}
 use Rattle.analysis.proofs.TableWords.{inserted_fits, inserted_full}
 
@@ -52,54 +56,101 @@ module _ (h l high low : ℕ) (hl : l < 2 ^ 32) (hlow : low < 2 ^ 32) where
       go true t = let same : l ≡ low = eqb-true l low t in eq-eqb (key_from h l) (key_from high low) (omega arith)
       go false t = ne_eqb (key_from h l) (key_from high low) (λ q. eqb-false l low t (omega arith))
 
--- ---- a turn of the search
+-- ---- the search
 
--- The place lies between `from` and `from + size`.
-pub record Between (n : ℕ) (words : List ℕ) (k from size : ℕ) : Type 0 where
-  pub least : from ≤ place_in (keys_in n words) k
-  pub most : place_in (keys_in n words) k ≤ from + size
-  pub inside : from + size ≤ n
+first_pairs : (m : ℕ) (ws : List ℕ) (i : ℕ) (d : List ℕ) → i < m → get_or (first_chunks 2 m ws) i d ≡ take 2 (drop (2 * i) ws)
+first_pairs zero ws i d h = absurd (omega arith)
+first_pairs (suc m) ws zero d h = refl
+first_pairs (suc m) ws (suc i) d h =
+    let e : 2 + 2 * i ≡ 2 * suc i = omega arith in
+    first_pairs m (drop 2 ws) i d (omega arith) ∙ rw (drop-drop (2 * i) 2 ws, e)
 
-pub between_all : (n : ℕ) (words : List ℕ) (k : ℕ) → Between n words k 0 n
-between_all n words k =
-    let le : place_in (keys_in n words) k ≤ length (keys_in n words) = place_le (keys_in n words) k in
-    let len : length (keys_in n words) ≡ n = keys_length n words in
-    record { least = omega arith; most = omega arith; inside = omega arith }
+-- Whether a pair of words is below another, the first words first.
+abbrev pub pair_below : (high low : ℕ) → List ℕ → Bool
+pair_below high low pair = ltb (get_or pair 0 0) high || (eqb (get_or pair 0 0) high && ltb (get_or pair 1 0) low)
 
-module _ (n : ℕ) (words : List ℕ) (k from size : ℕ) (sorted : Sorted n words) (b : Between n words k from size) (some : 0 < size) where
-  abbrev mid : ℕ
-  mid = from + size / 2
+words_below : (h l high low : ℕ) → l < 2 ^ 32 → low < 2 ^ 32 → (ltb h high || (eqb h high && ltb l low)) ≡ ltb (key_from h l) (key_from high low)
+words_below h l high low hl hlow = go (order h high)
+  where
+    go : Order h high → (ltb h high || (eqb h high && ltb l low)) ≡ ltb (key_from h l) (key_from high low)
+    go (below e) = rw (lt-ltb h high e) (sym (below_high h l high low hl hlow e))
+    go (equal e) =
+        rw (le-ltb h high (omega arith), eq-eqb h high e) (sym (same_high h l high low hl hlow (omega arith) (omega arith)))
+    go (above e) =
+        rw (le-ltb h high (omega arith), ne_eqb h high (λ q. omega arith)) (sym (above_high h l high low hl hlow e))
 
-  mid_lt : mid < length (keys_in n words)
-  mid_lt = let w : from + size ≤ n = b.inside in rw (keys_length n words) (omega arith)
+pairs_count : (m : ℕ) (ws : List ℕ) → length (first_chunks 2 m ws) ≡ m
+pairs_count zero ws = refl
+pairs_count (suc m) ws = ap suc (pairs_count m (drop 2 ws))
 
-  mid_key : get_or (keys_in n words) mid 0 ≡ key_at words mid
-  mid_key = let w : from + size ≤ n = b.inside in keys_at n words mid (omega arith)
+module _ (n : ℕ) (words : List ℕ) (high low : ℕ) (sorted : Sorted n words) (small : low < 2 ^ 32) (all : List (List ℕ))
+    (made : all ≡ first_chunks 2 (length words / 2) words) where
+  abbrev place : ℕ
+  place = place_in (keys_in n words) (key_from high low)
 
-  -- What reading the key in the middle asks.
-  pub mid_inside : 2 * mid + 1 < length words
-  mid_inside =
-      let w : from + size ≤ n = b.inside in
+  place_most : place ≤ n
+  place_most = rw (keys_length n words) at (place_le (keys_in n words) (key_from high low))
+
+  pair_at : (i : ℕ) (d : List ℕ) → i < n → pair_below high low (get_or (take n all) i d) ≡ ltb (key_at words i) (key_from high low)
+  pair_at i d h =
       let room : 2 * n ≤ length words = sorted.room in
-      omega arith
+      let pair : get_or (take n all) i d ≡ take 2 (drop (2 * i) words) =
+      get_or-take n all i d h ∙ ap (λ (l : List (List ℕ)). get_or l i d) made ∙ first_pairs (length words / 2) words i d (omega arith) in
+      let first : get_or (take 2 (drop (2 * i) words)) 0 0 ≡ get_or words (2 * i) 0 =
+      get_or-take 2 (drop (2 * i) words) 0 0 (omega arith) ∙ get_or-drop (2 * i) words 0 0 ∙ ap (λ (j : ℕ). get_or words j 0) (add-zero (2 * i)) in
+      let second : get_or (take 2 (drop (2 * i) words)) 1 0 ≡ get_or words (2 * i + 1) 0 =
+      get_or-take 2 (drop (2 * i) words) 1 0 (omega arith) ∙ get_or-drop (2 * i) words 1 0 in
+      ap (pair_below high low) pair
+      ∙ ap₂ (λ (h' l' : ℕ). ltb h' high || (eqb h' high && ltb l' low)) first second
+      ∙ words_below (get_or words (2 * i) 0) (get_or words (2 * i + 1) 0) high low (sorted.lows i h) small
 
-  pub mid_low : get_or words (2 * mid + 1) 0 < 2 ^ 32
-  mid_low = let w : from + size ≤ n = b.inside in sorted.lows mid (omega arith)
+  -- A pair is below the key exactly if it stands before the key's place.
+  pair_before : (i : ℕ) (d : List ℕ) → i < n → pair_below high low (get_or (take n all) i d) ≡ true → i < place
+  pair_before i d h t =
+      place_above (keys_in n words) i (key_from high low) sorted.rising (rw (keys_length n words) h)
+      (rw (keys_at n words i h) (ltb-true (key_at words i) (key_from high low) (sym (pair_at i d h) ∙ t)))
 
-  pub between_upper : ltb (key_at words mid) k ≡ true → Between n words k (from + (size / 2 + 1)) (size - (size / 2 + 1))
-  between_upper t =
-      let less : mid < place_in (keys_in n words) k =
-      place_above (keys_in n words) mid k sorted.rising mid_lt (rw mid_key (ltb-true (key_at words mid) k t)) in
-      let m : place_in (keys_in n words) k ≤ from + size = b.most in
-      let w : from + size ≤ n = b.inside in
-      record { least = omega arith; most = omega arith; inside = omega arith }
+  pair_behind : (i : ℕ) (d : List ℕ) → i < n → pair_below high low (get_or (take n all) i d) ≡ false → place ≤ i
+  pair_behind i d h t =
+      place_below (keys_in n words) i (key_from high low) sorted.rising (rw (keys_length n words) h)
+      (rw (keys_at n words i h) (ltb-false (key_at words i) (key_from high low) (sym (pair_at i d h) ∙ t)))
 
-  pub between_lower : ltb (key_at words mid) k ≡ false → Between n words k from (size / 2)
-  between_lower t =
-      let le : place_in (keys_in n words) k ≤ mid =
-      place_below (keys_in n words) mid k sorted.rising mid_lt (rw mid_key (ltb-false (key_at words mid) k t)) in
-      let w : from + size ≤ n = b.inside in
-      record { least = b.least; most = le; inside = omega arith }
+  pairs_length : length (take n all) ≡ n
+  pairs_length =
+      let room : 2 * n ≤ length words = sorted.room in
+      let count : length all ≡ length words / 2 = ap length made ∙ pairs_count (length words / 2) words in
+      length-take-le n all (omega arith)
+
+  pub pairs_parted : IsPartitionedBy (pair_below high low) (take n all)
+  pairs_parted i j d le within t = go (pair_below high low (get_or (take n all) i d)) refl
+    where
+      go : (b : Bool) → pair_below high low (get_or (take n all) i d) ≡ b → b ≡ true
+      go true e = refl
+      go false e =
+          let size : length (take n all) ≡ n = pairs_length in
+          let before : j < place = pair_before j d (omega arith) t in
+          let behind : place ≤ i = pair_behind i d (omega arith) e in
+          absurd (omega arith)
+
+  -- The point between those below the key and the others is its place.
+  pub point_is_place : (r : ℕ) → r ≤ length (take n all)
+      → IsPartitionPoint (λ y. pair_below high low y ≡ true) (λ y. pair_below high low y ≡ false) (take n all) r → (r ≡ place) × (r ≤ n)
+  point_is_place r bound point =
+      let size : length (take n all) ≡ n = pairs_length in
+      let up : place ≤ r = upper (dec_lt r n) in
+      let down : r ≤ place = lower r (omega arith) in
+      (omega arith, omega arith)
+    where
+      upper : Dec (r < n) → place ≤ r
+      upper (yes h) = let size : length (take n all) ≡ n = pairs_length in pair_behind r [] h (point.1 r [] (omega arith) (omega arith))
+      upper (no h) = let most : place ≤ n = place_most in omega arith
+
+      lower : (q : ℕ) → q ≤ r → q ≤ place
+      lower zero h = omega arith
+      lower (suc q) h =
+          let size : length (take n all) ≡ n = pairs_length in
+          let before : q < place = pair_before q [] (omega arith) (point.0 q [] (omega arith) (omega arith)) in
+          omega arith
 
 -- ---- whether a key stands at a place
 
