@@ -10,8 +10,8 @@ use native.Mathlib.Decide.{dec_lt}
 use native.Mathlib.Omega.{arith}
 use borrow.Author.Tests.{ltb-true, ltb-false, eqb-true, eqb-false, lt-ltb, le-ltb, eq-eqb, ne_eqb}
 use lib.Dec.{eqb, ltb}
-use lib.ListN.{length, get_or, take, drop, set, replicate, length-append, length-drop, take-append-drop, get_or-append}
-use lib.Seq.{slice, slice_empty, slice-cons, length-slice, take-suc, set_at, get_or-take, length-take-le, take-append-add, take-append_seam, drop-append-add, drop-append_seam}
+use lib.ListN.{length, get_or, take, drop, set, replicate, length-append, length-drop, take-append-drop}
+use lib.Seq.{slice, get_or-take, length-take-le, take-append-add, take-append_seam, drop-append-add, drop-append_seam}
 use Rattle.std.specs.Prelude.{if◌then◌else◌}
 use Rattle.std.specs.List.{copy_within}
 use Rattle.std.specs.List.Sorted.{IsPartitionedBy, IsPartitionPoint}
@@ -271,7 +271,7 @@ module _ (n : ℕ) (words : List ℕ) (high low at : ℕ) (tab : Tabled n words)
   stands_is = rw place (stands_member table key tab.rising)
 
   -- The key's place is in the table or right behind it.
-  pub at_le : at ≤ n
+  at_le : at ≤ n
   at_le =
       let le : place_in table key ≤ length table = place_le table key in
       let len : length table ≡ n = keys_length n words in

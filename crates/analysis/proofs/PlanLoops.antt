@@ -1,7 +1,7 @@
 -- The mathematics of the proofs of `plan`, over plain variables: the words of a call, and the entries of a set.
 use mathlib.Core.Path.{◌≡◌, refl, sym, ap, ap₂, ◌∙◌}
 use mathlib.Core.Bool.{Bool, true, false}
-use mathlib.Core.List.{List, [], ◌∷◌, ◌++◌, map, append_assoc}
+use mathlib.Core.List.{List, [], ◌∷◌, ◌++◌, map}
 use Prim.Native.Nat.{ℕ, zero, suc, ◌+◌, ◌-◌, ◌*◌, ◌^◌, ◌≤◌, ◌<◌}
 use native.Mathlib.Nat.{mod-lt}
 use native.Mathlib.Numerals.{add-one}
@@ -12,7 +12,6 @@ use lib.ListN.{length, get_or, take, set, replicate, length-map, length-append}
 use lib.Seq.{take-suc, take_all, length-take-le}
 use Rattle.wire.specs.Bytes.{read_le, repeated, padded, stored}
 use Rattle.wire.specs.Rows.{bit}
-use Rattle.wire.proofs.BytesLaws.{stored_append}
 use Rattle.arith.specs.Exact.{signed}
 use Rattle.block.specs.Key.{key_of}
 use Rattle.block.specs.Record.{cell_of}

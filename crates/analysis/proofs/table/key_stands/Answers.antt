@@ -9,7 +9,7 @@ use Rattle.analysis.proofs.table.key_stands.Goals as goal
 pub returns-then-keys-at : goal.returns-then-keys-at
 returns-then-keys-at c =
     elim c.if-at-n.branch [
-        then-at-n w ↦
+      | then-at-n w ↦
           sym
           (stands_equal _ _ _ _ _ c.requires.sorted c.requires.low_bound w.if-at-n.true
           (eqb-true _ _ (sym w.value-is ∙ c.if-keys-at.true)))
@@ -19,7 +19,7 @@ returns-then-keys-at c =
 pub returns-else-keys-at : goal.returns-else-keys-at
 returns-else-keys-at c =
     elim c.if-at-n.branch [
-        then-at-n w ↦
+      | then-at-n w ↦
           c.if-keys-at.false
           ∙ sym
           (stands_other _ _ _ _ _ c.requires.sorted c.requires.low_bound w.if-at-n.true
