@@ -1,19 +1,15 @@
 -- What the proofs of this crate cite: a row by its words, and a loop over the rows of a plan.
-use mathlib.Core.Path.{◌≡◌, refl, sym, ap, ap₂, ◌∙◌, subst, fun_ext}
-use mathlib.Core.Bool.{Bool}
+use mathlib.Core.Path.{◌≡◌, refl, sym, ap, ap₂, ◌∙◌, subst}
 use mathlib.Core.List.{List, [], ◌∷◌, ◌++◌, map}
-use Prim.Native.Nat.{ℕ, suc, ◌+◌, ◌-◌, ◌*◌, ◌/◌, ◌%◌, ◌≤◌, ◌<◌, min}
-use native.Mathlib.Decide.{dec_lt}
+use Prim.Native.Nat.{ℕ, suc, ◌+◌, ◌-◌, ◌*◌, ◌≤◌, ◌<◌, min}
 use native.Mathlib.Nat.{add-zero}
 use native.Mathlib.Omega.{arith}
 use lib.IntN.{ℤ}
-use lib.ListN.{length, get_or, drop, length-append, length-take, get_or-eq_default}
-use lib.Seq.{get_or-take, get_or-drop}
+use lib.ListN.{length, length-append}
 use Rattle.wire.specs.Bytes.{stored}
 use Rattle.wire.specs.Decimal.{decimal, line_feed, parts}
 use Rattle.wire.proofs.BytesLaws.{stored_append, stored_length}
-use Rattle.wire.proofs.RowLaws.{four_at}
-use Rattle.wire.specs.Rows.{in_row, in_word}
+use Rattle.wire.specs.Rows.{in_row}
 use Rattle.block.specs.Limits.{max_calls, max_workers}
 use Rattle.block.specs.Reader.{Read, accepted, refused, read_block}
 use Rattle.block.specs.Refusal.{number_of, offset_of}

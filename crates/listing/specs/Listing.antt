@@ -1,5 +1,5 @@
 -- What a listing tells of a block: its refusal; or its numbers, and for each call those that it waits for.
-use Rattle.std.specs.Prelude.{◌≡◌, List, [], ◌∷◌, ◌++◌, ℕ, zero, suc, ◌+◌, ◌*◌, min, ℤ, length}
+use Rattle.std.specs.Prelude.{◌≡◌, List, [], ◌++◌, ℕ, zero, suc, ◌+◌, ◌*◌, min, ℤ, length}
 use Rattle.block.specs.Limits.{max_calls, max_workers}
 use Rattle.block.specs.Refusal.{number_of, offset_of}
 use Rattle.block.specs.declared.Verdict.{Verdict}
