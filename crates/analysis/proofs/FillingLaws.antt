@@ -9,7 +9,7 @@ use native.Mathlib.Numerals.{add-one}
 use native.Mathlib.Omega.{arith}
 use borrow.Author.Tests.{le-leb, lt-leb}
 use lib.Dec.{lit<}
-use lib.ListN.{length, get_or, drop, drop_of_length-le}
+use lib.ListN.{length, get_or, take, drop, length-map, get_or-map, drop_of_length-le}
 use lib.Seq.{drop-cons}
 use Rattle.wire.specs.Bytes.{repeated, padded}
 use Rattle.wire.proofs.BytesLaws.{padded_at}
@@ -17,10 +17,10 @@ use Rattle.block.specs.Limits.{max_call_keys, max_keys}
 use Rattle.footprint.specs.Access.{Access}
 use Rattle.footprint.specs.Plan.{table_words}
 use Rattle.footprint.specs.Table.{insert_key, insert_keys}
-use Rattle.analysis.specs.Filling.{paired_keys, set_keys, insert_all, fitting, count_of, SetsWorded, KeysFilled}
-use Rattle.analysis.specs.Gathered.{high_of, low_of, gathered}
+use Rattle.analysis.specs.Filling.{set_key, set_keys, insert_all, fitting, count_of, KeysFilled}
+use Rattle.analysis.specs.Gathered.{Holds, Worded}
+use Rattle.key_uses.specs.Uses.{no_use, use_of}
 use Rattle.arith.proofs.ChoiceLaws.{if_true, if_false}
-use Rattle.analysis.proofs.GatheredLaws.{gathered_over, gathered_fits, gathered_count}
 use Rattle.footprint.specs.KeyWords.{key_from, keys_in}
 use Rattle.analysis.specs.KeyTable.{inserted_in, Tabled}
 use Rattle.footprint.specs.Sets.{access_keys}
@@ -31,55 +31,34 @@ use Rattle.analysis.specs.declared.Sets.{Sets}
 
 -- ---- the keys of a set
 
-paired_length : (n : ℕ) (hs ls : List ℕ) → length (paired_keys n hs ls) ≡ n
-unfolding paired_keys
-paired_length zero hs ls = refl
-paired_length (suc n) hs ls = ap suc (paired_length n (drop 1 hs) (drop 1 ls))
-
-paired_at : (n : ℕ) (hs ls : List ℕ) (i : ℕ) → i < n → get_or (paired_keys n hs ls) i 0 ≡ key_from (get_or hs i 0) (get_or ls i 0)
-unfolding paired_keys
-paired_at zero hs ls i h = absurd (not-suc-le-zero h)
-paired_at (suc n) hs ls zero h = refl
-paired_at (suc n) hs ls (suc i) h =
-    paired_at n (drop 1 hs) (drop 1 ls) i (le_of_suc-le-suc h) ∙ ap₂ key_from (later hs) (later ls)
-  where
-    later : (l : List ℕ) → get_or (drop 1 l) i 0 ≡ get_or l (suc i) 0
-    later [] = refl
-    later (a ∷ l) = refl
-
 -- The keys from the i-th on.
 module _ (s : Sets) (i : ℕ) where
-  pub keys_left : i < s.count → drop i (set_keys s) ≡ key_from (get_or s.highs i 0) (get_or s.lows i 0) ∷ drop (i + 1) (set_keys s)
+  pub keys_left : i < length (take s.count s.keys) → drop i (set_keys s) ≡ set_key (get_or (take s.count s.keys) i no_use) ∷ drop (i + 1) (set_keys s)
   keys_left h =
-      drop-cons (set_keys s) i 0 (rw (paired_length s.count s.highs s.lows) h)
-      ∙ rw (paired_at s.count s.highs s.lows i h, add-one i)
+      drop-cons (set_keys s) i 0 (simp length-map h)
+      ∙ rw (get_or-map set_key (take s.count s.keys) i no_use, add-one i)
 
-  pub keys_none : s.count ≤ i → drop i (set_keys s) ≡ []
-  keys_none h = drop_of_length-le (set_keys s) {i = i} (rw (paired_length s.count s.highs s.lows) h)
+  pub keys_none : length (take s.count s.keys) ≤ i → drop i (set_keys s) ≡ []
+  keys_none h = drop_of_length-le (set_keys s) {i = i} (simp length-map h)
 
-paired_columns : (es : List Access) (xs ys : List ℕ) → paired_keys (length es) (map high_of es ++ xs) (map low_of es ++ ys) ≡ access_keys es
-unfolding paired_keys
-paired_columns [] xs ys = refl
-paired_columns (e ∷ es) xs ys = ap₂ (λ (k : ℕ) (ks : List ℕ). k ∷ ks) (key_of_words e.key) (paired_columns es xs ys)
+-- The keys of a set are those of its accesses.
+pub set_keys_lem : (s : Sets) (es : List Access) → Holds s es → set_keys s ≡ access_keys es
+unfolding use_of
+set_keys_lem s es h = ap (map set_key) h.keys ∙ go es
+  where
+    go : (fs : List Access) → map set_key (map use_of fs) ≡ access_keys fs
+    go [] = refl
+    go (f ∷ fs) = ap₂ (λ (k : ℕ) (ks : List ℕ). k ∷ ks) (key_of_words f.key) (go fs)
 
--- The keys of a set that fits are those of its accesses.
-pub set_keys_lem : (es : List Access) → length es ≤ max_call_keys → set_keys (gathered es) ≡ access_keys es
-set_keys_lem es h =
-    ap set_keys (gathered_fits es h)
-    ∙ paired_columns es (repeated (max_call_keys - length (map high_of es)) 0) (repeated (max_call_keys - length (map low_of es)) 0)
-
-lows_below : (es : List Access) (i : ℕ) → get_or (map low_of es) i 0 < 2 ^ 32
+lows_below : (es : List Access) (i : ℕ) → (get_or (map use_of es) i no_use).low < 2 ^ 32
+unfolding use_of
 lows_below [] i = lit< tt
 lows_below (e ∷ es) zero = mod-lt e.key (lit< tt)
 lows_below (e ∷ es) (suc i) = lows_below es i
 
--- The words of a gathered set are those of keys.
-pub gathered_worded : (es : List Access) → SetsWorded (gathered es)
-gathered_worded es = record { few = gathered_count es; lows = go (dec_lt max_call_keys (length es)) }
-  where
-    go : Dec (max_call_keys < length es) → (i : ℕ) → get_or (gathered es).lows i 0 < 2 ^ 32
-    go (yes h) i = rw (gathered_over es h, padded_at {A = ℕ} max_call_keys 0 [] i) (lit< tt)
-    go (no h) i = rw (gathered_fits es (omega arith), padded_at {A = ℕ} max_call_keys 0 (map low_of es) i) (lows_below es i)
+-- The words of a set are those of keys.
+pub set_worded : (s : Sets) (es : List Access) → Holds s es → Worded s
+set_worded s es h i = rw h.keys (lows_below es i)
 
 -- ---- all keys, and those that fit
 

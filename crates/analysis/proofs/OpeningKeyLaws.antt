@@ -70,14 +70,13 @@ stored_key n ks i h room =
 
 -- The buffer holds the first i keys of the opening.
 pub record OpeningKeysIn (file old keys : List ℕ) (i : ℕ) : Type 0 where
-  pub few : i ≤ length (block_of file).cells
   pub kept : length keys ≡ length old
   pub held : keys ≡ padded (length old) 0 (table_words (take i (opening_keys (block_of file))))
 
 pub keys_opened_none : (file keys : List ℕ) → keys ≡ repeated (length keys) 0 → OpeningKeysIn file keys keys 0
 unfolding table_words
 keys_opened_none file keys e =
-    record { few = omega arith; kept = refl; held = e ∙ ap (λ (n : ℕ). repeated n 0) (sym (sub-zero (length keys))) }
+    record { kept = refl; held = e ∙ ap (λ (n : ℕ). repeated n 0) (sym (sub-zero (length keys))) }
 
 module _ (file : List ℕ) (l : Layout) (laid : LayoutOfBlock file l) (old : List ℕ) (room : 2 * max_keys ≤ length old) where
   -- The places of a cell and of its key's words.
@@ -103,7 +102,6 @@ module _ (file : List ℕ) (l : Layout) (laid : LayoutOfBlock file l) (old : Lis
       let high_is : high ≡ high_word (get_or ks i 0) = eh ∙ ap (λ (k : ℕ). high_word k) key in
       let low-is : low ≡ low_word (get_or ks i 0) = el ∙ ap (λ (k : ℕ). low_word k) key in
       record {
-        few = omega arith;
         kept = length-set (set keys (2 * i) high) (2 * i + 1) low ∙ length-set keys (2 * i) high ∙ o.kept;
         held =
             ap₂ (λ (x y : ℕ). set (set keys (2 * i) x) (2 * i + 1) y) high_is low-is
