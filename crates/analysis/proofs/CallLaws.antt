@@ -11,6 +11,8 @@ use lib.Dec.{ltb}
 use lib.ListN.{length, get_or, take, drop, length-map, drop_of_length-le}
 use lib.Seq.{take-suc, drop-cons}
 use Rattle.std.specs.Prelude.{if◌then◌else◌}
+use Rattle.std.specs.Prelude.{Option}
+use Rattle.std.specs.declared.option.Option.TheVariants.{None, Some}
 use Rattle.wire.specs.Bytes.{padded}
 use Rattle.block.specs.Limits.{max_bytes, max_call_keys, max_keys}
 use Rattle.block.specs.Record.{Block, call_record_bytes}
@@ -26,7 +28,7 @@ use Rattle.reader.specs.declared.Layout.{Layout}
 use Rattle.analysis.specs.Collected.{leaving, collected_of}
 use Rattle.footprint.proofs.AnalysedLaws.{analyse_over, analyse_full, analyse_next, opening_sound}
 use Rattle.analysis.specs.Filling.{KeysFilled, set_key, set_keys, insert_all, count_of}
-use Rattle.analysis.proofs.FillingLaws.{keys_left, keys_none, set_keys_lem, set_worded, insert_all_lem, fitting_all, count_few, count_many, filled_none, filled_full, filled_more}
+use Rattle.analysis.proofs.FillingLaws.{keys_left, keys_none, set_keys_lem, set_worded, insert_all_lem, fitting_all, count_none, count_some, filled_none, filled_full, filled_more}
 use Rattle.analysis.specs.Gathered.{Holds, Worded}
 use Rattle.key_uses.specs.Uses.{no_use}
 use Rattle.footprint.specs.KeyWords.{key_from, keys_in}
@@ -49,23 +51,20 @@ use Rattle.analysis.specs.declared.Sets.{Sets}
 pub record Filling (n : ℕ) (old : List ℕ) (s : Sets) (words : List ℕ) (count i : ℕ) : Type 0 where
   pub tabled : Tabled count words
   pub kept : length words ≡ length old
-  pub rest : (r : ℕ) (after : List ℕ) → KeysFilled count words (drop i (set_keys s)) r after → KeysFilled n old (set_keys s) r after
-
-pub filling_start : (n : ℕ) (words : List ℕ) (s : Sets) → Tabled n words → Filling n words s words n 0
-filling_start n words s t = record { tabled = t; kept = refl; rest = λ r after f. f }
+  pub rest : (r : Option ℕ) (after : List ℕ) → KeysFilled count words (drop i (set_keys s)) r after → KeysFilled n old (set_keys s) r after
 
 module _ (n : ℕ) (old : List ℕ) (s : Sets) (words : List ℕ) (count i : ℕ) (g : Filling n old s words count i) where
   abbrev key : ℕ
   key = set_key (get_or (take s.count s.keys) i no_use)
 
-  next_rest : i < length (take s.count s.keys) → (r : ℕ) (after : List ℕ) → KeysFilled count words (key ∷ drop (i + 1) (set_keys s)) r after → KeysFilled n old (set_keys s) r after
+  next_rest : i < length (take s.count s.keys) → (r : Option ℕ) (after : List ℕ) → KeysFilled count words (key ∷ drop (i + 1) (set_keys s)) r after → KeysFilled n old (set_keys s) r after
   next_rest h r after f = g.rest r after (rw (keys_left s i h) f)
 
   module _ (h : i < length (take s.count s.keys)) (r : ℕ) (after : List ℕ) (put : Inserted count words key r after) where
-    pub filling_full : max_keys < r → KeysFilled n old (set_keys s) r after
+    pub filling_full : max_keys < r → KeysFilled n old (set_keys s) None after
     filling_full full =
         let many : max_keys < length (insert_key (keys_in count words) key) = rw put.counted at full in
-        next_rest h r after (rw (put.counted, put.held) (filled_full count words g.tabled key (drop (i + 1) (set_keys s)) many))
+        next_rest h None after (rw put.held (filled_full count words g.tabled key (drop (i + 1) (set_keys s)) many))
 
     pub filling_more : r ≤ max_keys → Filling n old s after r (i + 1)
     filling_more room =
@@ -76,11 +75,8 @@ module _ (n : ℕ) (old : List ℕ) (s : Sets) (words : List ℕ) (count i : ℕ
           rest = λ q last f. next_rest h q last (filled_more count words g.tabled key (drop (i + 1) (set_keys s)) fits (rw (put.counted, put.held) at f));
         }
 
-    pub filling_kept : length after ≡ length old
-    filling_kept = ap length put.held ∙ inserted_length count words key g.tabled ∙ g.kept
-
-  pub filling_end : length (take s.count s.keys) ≤ i → KeysFilled n old (set_keys s) count words
-  filling_end h = g.rest count words (rw (keys_none s i h) (filled_none count words g.tabled))
+  pub filling_end : length (take s.count s.keys) ≤ i → KeysFilled n old (set_keys s) (Some count) words
+  filling_end h = g.rest (Some count) words (rw (keys_none s i h) (filled_none count words g.tabled))
 
 -- ---- the calls
 
@@ -154,7 +150,7 @@ module _ (file : List ℕ) (l : Layout) (laid : LayoutOfBlock file l) where
             let count : s.count ≡ length (sets_at file j) = e.count in
             le-ltb max_call_keys (length (sets_of file block.functions call)) (rw set_is (omega arith))
 
-        module _ (r : ℕ) (after : List ℕ) (f : KeysFilled n keys (set_keys s) r after) where
+        module _ (r : Option ℕ) (after : List ℕ) (f : KeysFilled n keys (set_keys s) r after) where
           abbrev next : List ℕ
           next = insert_keys (keys_in n keys) (sets_of file block.functions call)
 
@@ -167,39 +163,24 @@ module _ (file : List ℕ) (l : Layout) (laid : LayoutOfBlock file l) where
           counted = f.counted ∙ ap count_of all_is
 
           -- Refusal 12.
-          pub going_full : (at : ℕ) → at ≡ l.first_call + call_record_bytes * j → max_keys < r → analysis_of file (block_of file) ≡ refused (AllKeys at)
+          pub going_full : (at : ℕ) → at ≡ l.first_call + call_record_bytes * j → r ≡ None → analysis_of file (block_of file) ≡ refused (AllKeys at)
           going_full at place full =
               next_call
               ∙ analyse_full file block.functions call (drop (j + 1) block.calls) (block.first_call + call_record_bytes * j) (take j (all_sets file block)) (keys_in n keys)
-              fits (many (ltb max_keys (length next)) refl)
+              fits (lt-ltb max_keys (length next) (count_none next (sym full ∙ counted)))
               ∙ ap (λ (m : ℕ). refused (AllKeys m)) (sym (place ∙ ap (λ (m : ℕ). m + call_record_bytes * j) (laid_first file l laid)))
-            where
-              many : (b : Bool) → ltb max_keys (length next) ≡ b → ltb max_keys (length next) ≡ true
-              many true p = p
-              many false p =
-                  let few : length next ≤ max_keys = ltb-false max_keys (length next) p in
-                  let same : r ≡ length next = counted ∙ count_few next few in
-                  absurd (omega arith)
 
           -- The table behind call j.
-          next_few : r ≤ max_keys → length next ≤ max_keys
-          next_few room = go (dec_lt max_keys (length next))
-            where
-              go : Dec (max_keys < length next) → length next ≤ max_keys
-              go (yes many) = let same : r ≡ max_keys + 1 = counted ∙ count_many next many in absurd (omega arith)
-              go (no few) = omega arith
-
-          after_is : r ≤ max_keys → after ≡ padded (length keys) 0 (table_words next)
-          after_is room =
-              let few : length next ≤ max_keys = next_few room in
+          after_is : length next ≤ max_keys → after ≡ padded (length keys) 0 (table_words next)
+          after_is few =
               f.held
               ∙ ap (λ (t : List ℕ). padded (length keys) 0 (table_words t))
               (fitting_all (keys_in n keys) (set_keys s) (rw all_is few) ∙ all_is)
 
-          pub collecting_more : r ≤ max_keys → Collecting file old after r (j + 1)
-          collecting_more room =
-              let few : length next ≤ max_keys = next_few room in
-              let size : r ≡ length next = counted ∙ count_few next few in
+          pub collecting_more : {m : ℕ} → r ≡ Some m → Collecting file old after m (j + 1)
+          collecting_more {m} some =
+              let size : m ≡ length next = (count_some next (sym some ∙ counted)).0 in
+              let few : length next ≤ max_keys = (count_some next (sym some ∙ counted)).1 in
               let made : Tabled (length next) (padded (length keys) 0 (table_words next)) =
               tabled next (length keys) (rising_inserts (keys_in n keys) (sets_of file block.functions call) g.tabled.rising) few g.tabled.room in
               let space : 2 * max_keys ≤ length keys = g.tabled.room in
@@ -208,17 +189,17 @@ module _ (file : List ℕ) (l : Layout) (laid : LayoutOfBlock file l) where
               let sets : take j (all_sets file block) ++ (sets_of file block.functions call ∷ []) ≡ take (j + 1) (all_sets file block) =
               ap (λ (es : List Access). take j (all_sets file block) ++ (es ∷ [])) set_is
               ∙ sym (ap (λ (m : ℕ). take m (all_sets file block)) (add-one j) ∙ take-suc (all_sets file block) j [] (simp length-map h)) in
-              let table : next ≡ keys_in r after =
-              sym (ap₂ keys_in size (after_is room) ∙ keys_padded (length keys) next) in
+              let table : next ≡ keys_in m after =
+              sym (ap₂ keys_in size (after_is few) ∙ keys_padded (length keys) next) in
               record {
-                tabled = rw (size, after_is room) made;
-                kept = ap length (after_is room) ∙ padded_length (length keys) 0 (table_words next) within ∙ g.kept;
+                tabled = rw (size, after_is few) made;
+                kept = ap length (after_is few) ∙ padded_length (length keys) 0 (table_words next) within ∙ g.kept;
                 same =
                     next_call
                     ∙ analyse_next file block.functions call (drop (j + 1) block.calls) (block.first_call + call_record_bytes * j) (take j (all_sets file block)) (keys_in n keys)
                     fits (le-ltb max_keys (length next) few)
                     ∙ ap₂ (λ (at : ℕ) (t : List ℕ). analyse file block.functions (drop (j + 1) block.calls) at (take j (all_sets file block) ++ (sets_of file block.functions call ∷ [])) t) there table
-                    ∙ ap (λ (e : List (List Access)). analyse file block.functions (drop (j + 1) block.calls) (block.first_call + call_record_bytes * (j + 1)) e (keys_in r after)) sets;
+                    ∙ ap (λ (e : List (List Access)). analyse file block.functions (drop (j + 1) block.calls) (block.first_call + call_record_bytes * (j + 1)) e (keys_in m after)) sets;
               }
 
     -- Behind the last call the analysis is done.

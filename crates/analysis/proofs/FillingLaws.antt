@@ -11,6 +11,8 @@ use borrow.Author.Tests.{le-leb, lt-leb}
 use lib.Dec.{lit<}
 use lib.ListN.{length, get_or, take, drop, length-map, get_or-map, drop_of_length-le}
 use lib.Seq.{drop-cons}
+use Rattle.std.specs.Prelude.{Option}
+use Rattle.std.specs.declared.option.Option.TheVariants.{None, Some}
 use Rattle.wire.specs.Bytes.{repeated, padded}
 use Rattle.wire.proofs.BytesLaws.{padded_at}
 use Rattle.block.specs.Limits.{max_call_keys, max_keys}
@@ -85,23 +87,38 @@ fitting_all table (k ∷ ks) h =
     if_true (fitting (insert_key table k) ks) table (le-leb (length (insert_key table k)) max_keys (omega arith)) ∙ fitting_all (insert_key table k) ks h
 
 -- The number of keys where the limit is kept, and where it is not.
-pub count_few : (table : List ℕ) → length table ≤ max_keys → count_of table ≡ length table
+pub count_few : (table : List ℕ) → length table ≤ max_keys → count_of table ≡ Some (length table)
 unfolding count_of
-count_few table h = if_true (length table) (max_keys + 1) (le-leb (length table) max_keys h)
+count_few table h = if_true (Some (length table)) None (le-leb (length table) max_keys h)
 
-pub count_many : (table : List ℕ) → max_keys < length table → count_of table ≡ max_keys + 1
+pub count_many : (table : List ℕ) → max_keys < length table → count_of table ≡ None
 unfolding count_of
-count_many table h = if_false (length table) (max_keys + 1) (lt-leb (length table) max_keys h)
+count_many table h = if_false (Some (length table)) None (lt-leb (length table) max_keys h)
+
+-- What an answered number tells of the table.
+pub count_none : (table : List ℕ) → None ≡ count_of table → max_keys < length table
+count_none table e = go (dec_lt max_keys (length table))
+  where
+    go : Dec (max_keys < length table) → max_keys < length table
+    go (yes many) = many
+    go (no few) = let same : None ≡ Some (length table) = e ∙ count_few table (omega arith) in absurd (cc)
+
+pub count_some : (table : List ℕ) {m : ℕ} → Some m ≡ count_of table → (m ≡ length table) × (length table ≤ max_keys)
+count_some table {m} e = go (dec_lt max_keys (length table))
+  where
+    go : Dec (max_keys < length table) → (m ≡ length table) × (length table ≤ max_keys)
+    go (yes many) = let same : Some m ≡ None = e ∙ count_many table many in absurd (cc)
+    go (no few) = let same : Some m ≡ Some (length table) = e ∙ count_few table (omega arith) in (cc, omega arith)
 
 -- ---- one key after another
 
 module _ (n : ℕ) (ws : List ℕ) (tabled : Tabled n ws) where
   -- Behind the last key.
-  pub filled_none : KeysFilled n ws [] n ws
+  pub filled_none : KeysFilled n ws [] (Some n) ws
   unfolding insert_all fitting
   filled_none =
       record {
-        counted = sym (count_few (keys_in n ws) (rw (keys_length n ws) tabled.few) ∙ keys_length n ws);
+        counted = sym (count_few (keys_in n ws) (rw (keys_length n ws) tabled.few) ∙ ap Some (keys_length n ws));
         held = tabled.same;
       }
 
@@ -110,23 +127,19 @@ module _ (n : ℕ) (ws : List ℕ) (tabled : Tabled n ws) where
     next = insert_key (keys_in n ws) k
 
     -- A key that does not fit ends the insertion.
-    pub filled_full : max_keys < length next → KeysFilled n ws (k ∷ ks) (length next) (inserted_in n ws k)
+    pub filled_full : max_keys < length next → KeysFilled n ws (k ∷ ks) None (inserted_in n ws k)
     unfolding insert_all fitting
     filled_full h =
         let all : length next ≤ length (insert_all next ks) = all_length next ks in
-        let old : length (keys_in n ws) ≡ n = keys_length n ws in
-        let few : n ≤ max_keys = tabled.few in
-        let one : length next ≤ suc (length (keys_in n ws)) = (insert_length (keys_in n ws) k).1 in
-        let last : length next ≡ max_keys + 1 = omega arith in
         record {
-          counted = last ∙ sym (count_many (insert_all next ks) (omega arith));
+          counted = sym (count_many (insert_all next ks) (omega arith));
           held =
               inserted_full n ws k h ∙ tabled.same
               ∙ ap (λ (t : List ℕ). padded (length ws) 0 (table_words t)) (sym (if_false (fitting next ks) (keys_in n ws) (lt-leb (length next) max_keys h)));
         }
 
     -- Behind one that does, the insertion goes on.
-    pub filled_more : length next ≤ max_keys → {r : ℕ} {after : List ℕ} → KeysFilled (length next) (inserted_in n ws k) ks r after → KeysFilled n ws (k ∷ ks) r after
+    pub filled_more : length next ≤ max_keys → {r : Option ℕ} {after : List ℕ} → KeysFilled (length next) (inserted_in n ws k) ks r after → KeysFilled n ws (k ∷ ks) r after
     unfolding insert_all fitting
     filled_more h {r} {after} f =
         record {

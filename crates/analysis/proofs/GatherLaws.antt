@@ -20,14 +20,6 @@ use Rattle.key_uses.specs.Uses.{use_of, uses_of}
 use Rattle.analysis.specs.declared.Sets.{Sets}
 use Rattle.key_uses.specs.declared.Uses.{Uses}
 
--- An instruction, as it was decoded.
-module _ (c : Call) {d e : Decoded} (same : d ≡ e) where
-  pub uses_valid : {i : Instr} {us : Uses} → d ≡ Valid i → us ≡ uses_of (accesses c i) → us ≡ uses_of (decoded_accesses c e)
-  uses_valid valid uses = uses ∙ ap (λ (x : Decoded). uses_of (decoded_accesses c x)) (sym valid ∙ same)
-
-  pub uses_invalid : d ≡ Invalid → uses_of [] ≡ uses_of (decoded_accesses c e)
-  uses_invalid invalid = ap (λ (x : Decoded). uses_of (decoded_accesses c x)) (sym invalid ∙ same)
-
 -- ---- the uses of one instruction, or of the entry
 
 module _ (es : List Access) {us : Uses} where
@@ -83,7 +75,7 @@ module _ (c : Call) (size : ℕ) (code : List ℕ) where
       ∙ ap (merge_all (merge_all [] (entry_accesses c))) more
 
   -- The walk never takes a key away.
-  pub walk_grows : (m n : ℕ) → length (first_accesses m) ≤ length (first_accesses (m + n))
+  walk_grows : (m n : ℕ) → length (first_accesses m) ≤ length (first_accesses (m + n))
   walk_grows m zero = let here : m + 0 ≡ m = omega arith in rw here (omega arith)
   walk_grows m (suc n) =
       let one : length (first_accesses (m + n)) ≤ length (merge_all (first_accesses (m + n)) (next_accesses (m + n))) =

@@ -73,7 +73,7 @@ merge_new (e ∷ es) a = go (eqb e.key a.key) (same_key (use_of a) (use_of e)) (
     go false false s ih h = ap (λ (t : List Access). e ∷ t) (ih (omega arith))
 
 -- Merging never takes a key away.
-pub merge_grows : (es : List Access) (a : Access) → length es ≤ length (merge es a)
+merge_grows : (es : List Access) (a : Access) → length es ≤ length (merge es a)
 unfolding merge
 merge_grows [] a = omega arith
 merge_grows (e ∷ es) a = go (eqb e.key a.key) (merge_grows es a)
@@ -105,7 +105,7 @@ padded_last n xs v h =
 
 -- What a search answers.
 module _ {X : Type 0} (p : X → Bool) (xs : List X) where
-  pub found_at : {at : ℕ} → Some at ≡ position p xs → (at ≡ position_or_len p xs) × (at < length xs)
+  found_at : {at : ℕ} → Some at ≡ position p xs → (at ≡ position_or_len p xs) × (at < length xs)
   found_at {at} e = go (ltb (position_or_len p xs) (length xs)) refl e
     where
       go : (b : Bool) → ltb (position_or_len p xs) (length xs) ≡ b → Some at ≡ cond b (Some (position_or_len p xs)) None
@@ -115,7 +115,7 @@ module _ {X : Type 0} (p : X → Bool) (xs : List X) where
           (same, rw same (ltb-true (position_or_len p xs) (length xs) l))
       go false l e = absurd (cc)
 
-  pub found_none : None ≡ position p xs → length xs ≤ position_or_len p xs
+  found_none : None ≡ position p xs → length xs ≤ position_or_len p xs
   found_none e = go (ltb (position_or_len p xs) (length xs)) refl e
     where
       go : (b : Bool) → ltb (position_or_len p xs) (length xs) ≡ b → None ≡ cond b (Some (position_or_len p xs)) None

@@ -39,12 +39,6 @@ module _ (file : List ℕ) (at : ℕ) {s : List ℕ} (there : s ≡ drop at file
       (ap₂ (λ (p q : ℕ). key_of p q a (read_le 4 s 8)) ex ey ∙ ap (λ (q : ℕ). key_of (number 2 s) (read_le 2 s 2) q (read_le 4 s 8)) ea)
       ∙ ap (λ (t : List ℕ). high_word (cell_of t).key) there
 
-  pub cell_low : {b : ℕ} → b ≡ read_le 4 s 8 → b < 2 ^ 32 → b ≡ low_word (cell_of (drop at file)).key
-  cell_low {b} e h =
-      sym (low_word_lem (number 2 s) (read_le 2 s 2) (read_le 4 s 4) b h)
-      ∙ ap (λ (q : ℕ). low_word (key_of (number 2 s) (read_le 2 s 2) (read_le 4 s 4) q)) e
-      ∙ ap (λ (t : List ℕ). low_word (cell_of t).key) there
-
 -- ---- one more key behind the others
 
 -- The two words of the next key stored behind those of the keys before it.

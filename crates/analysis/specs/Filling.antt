@@ -1,5 +1,6 @@
 -- The keys of a call's set inserted into the table one after another, up to the first that does not fit.
-use Rattle.std.specs.Prelude.{◌≡◌, List, [], ◌∷◌, map, ℕ, ◌+◌, leb, length, take}
+use Rattle.std.specs.Prelude.{◌≡◌, List, [], ◌∷◌, map, ℕ, leb, length, take, Option}
+use Rattle.std.specs.declared.option.Option.TheVariants.{None, Some}
 use Rattle.std.specs.Prelude.{if◌then◌else◌}
 use Rattle.wire.specs.Bytes.{padded}
 use Rattle.block.specs.Limits.{max_keys}
@@ -26,11 +27,11 @@ unfoldable pub fitting : List ℕ → List ℕ → List ℕ
 fitting table [] = table
 fitting table (k ∷ ks) = if leb (length (insert_key table k)) max_keys then fitting (insert_key table k) ks else table
 
--- The number of keys of a table that keeps the limit, or the limit plus 1.
-unfoldable pub count_of : List ℕ → ℕ
-count_of table = if leb (length table) max_keys then length table else max_keys + 1
+-- The number of keys of a table that keeps the limit.
+unfoldable pub count_of : List ℕ → Option ℕ
+count_of table = if leb (length table) max_keys then Some (length table) else None
 
 -- What the insertion of a list of keys answers and leaves.
-pub record KeysFilled (n : ℕ) (words ks : List ℕ) (count : ℕ) (after : List ℕ) : Type 0 where
+pub record KeysFilled (n : ℕ) (words ks : List ℕ) (count : Option ℕ) (after : List ℕ) : Type 0 where
   pub counted : count ≡ count_of (insert_all (keys_in n words) ks)
   pub held : after ≡ padded (length words) 0 (table_words (fitting (keys_in n words) ks))

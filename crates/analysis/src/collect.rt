@@ -126,9 +126,9 @@ pub(crate) fn opening_keys(file: &[u8], l: Layout, keys: &mut [u64])
     }
 }
 
-// The keys of a set inserted one after another, up to the first that the table of n keys has no room for. The answer is the number of
-// keys, or MAX_KEYS + 1.
-fn insert_sets(keys: &mut [u64], n: usize, s: &Sets) -> usize
+// The keys of a set inserted one after another into the table of n keys, up to the first that it has no room for. The answer is the
+// number of keys, where all have room.
+fn insert_sets(keys: &mut [u64], n: usize, s: &Sets) -> Option<usize>
     requires tabled { Tabled n keys.old }
     requires worded { Worded s.now }
     ensures { KeysFilled n keys.old (set_keys s.now) result keys.new }
@@ -137,10 +137,10 @@ fn insert_sets(keys: &mut [u64], n: usize, s: &Sets) -> usize
     for key in &s.keys[..s.count] {
         count = key_insert(keys, count, key.high, key.low);
         if MAX_KEYS < count {
-            return count;
+            return None;
         }
     }
-    count
+    Some(count)
 }
 
 // What is answered of a refused block, with the keys cleared.
@@ -169,10 +169,10 @@ pub(crate) fn call_keys(file: &[u8], l: Layout, keys: &mut [u64]) -> Collected
         let Some(s) = call_sets(file, l, call) else {
             return refuse_keys(keys, Refusal::CallKeys(at));
         };
-        n = insert_sets(keys, n, &s);
-        if MAX_KEYS < n {
+        let Some(count) = insert_sets(keys, n, &s) else {
             return refuse_keys(keys, Refusal::AllKeys(at));
-        }
+        };
+        n = count;
     }
     Collected {
         verdict: Verdict::Accepted,

@@ -40,28 +40,28 @@ returns-in_default c =
     (going_over c.args.file.now c.args.l c.requires.layout_of_block c.args.keys.now g.keys g.n g.call g.invariant h _ refl c.in_default.ensures)
     c.refuse_keys.ensures
 
-pub insert_sets-n-requires-clause-worded : goal.insert_sets-n-requires-clause-worded
+pub insert_sets-requires-clause-worded : goal.insert_sets-requires-clause-worded
 unfolding Gathered
-insert_sets-n-requires-clause-worded c =
+insert_sets-requires-clause-worded c =
     let g = c.loop-call in
-    let h = (inside (goal.at.insert_sets-n-requires-clause-worded c).In-loop-call).1 in
+    let h = (inside (goal.at.insert_sets-requires-clause-worded c).In-loop-call).1 in
     set_words c.args.file.now c.args.l c.requires.layout_of_block c.args.keys.now g.keys g.n g.call g.invariant h _ c.in-Some.ensures
 
-pub returns-then-n-gt-MAX_KEYS : goal.returns-then-n-gt-MAX_KEYS
+pub returns-in_default-insert_sets : goal.returns-in_default-insert_sets
 unfolding Gathered
-returns-then-n-gt-MAX_KEYS c =
+returns-in_default-insert_sets c =
     let g = c.loop-call in
-    let h = (inside (goal.at.returns-then-n-gt-MAX_KEYS c).In-loop-call).1 in
-    going_refused c.args.file.now c.args.l c.requires.layout_of_block c.args.keys.now g.keys g.n g.call g.invariant _ _ c.insert_sets-n.new.keys _ (c.insert_sets-n.auto.keys ∙ g.invariant.kept)
-    (going_full c.args.file.now c.args.l c.requires.layout_of_block c.args.keys.now g.keys g.n g.call g.invariant h _ c.in-Some.ensures _ _ c.insert_sets-n.ensures _ refl c.if-n-gt-MAX_KEYS.true)
-    c.refuse_keys-then-n-gt-MAX_KEYS.ensures
+    let h = (inside (goal.at.returns-in_default-insert_sets c).In-loop-call).1 in
+    going_refused c.args.file.now c.args.l c.requires.layout_of_block c.args.keys.now g.keys g.n g.call g.invariant _ _ c.insert_sets.new.keys _ (c.insert_sets.auto.keys ∙ g.invariant.kept)
+    (going_full c.args.file.now c.args.l c.requires.layout_of_block c.args.keys.now g.keys g.n g.call g.invariant h _ c.in-Some.ensures _ _ c.insert_sets.ensures _ refl c.in_default-insert_sets.is)
+    c.refuse_keys-in_default-insert_sets.ensures
 
 pub loop-call-preserved : goal.loop-call-preserved
 unfolding Gathered
 loop-call-preserved c =
     let g = c.loop-call in
     let h = (inside (goal.at.loop-call-preserved c).In-loop-call).1 in
-    collecting_more c.args.file.now c.args.l c.requires.layout_of_block c.args.keys.now g.keys g.n g.call g.invariant h _ c.in-Some.ensures _ _ c.insert_sets-n.ensures c.if-n-gt-MAX_KEYS.false
+    collecting_more c.args.file.now c.args.l c.requires.layout_of_block c.args.keys.now g.keys g.n g.call g.invariant h _ c.in-Some.ensures _ _ c.insert_sets.ensures c.in-Some-insert_sets.is
 
 pub returns : goal.returns
 returns c =

@@ -16,22 +16,23 @@ unwrap-s-requires c = some_set _ _ c.requires.table_of _ _ c.call_sets.ensures
 held : (c : After-unwrap-s) → Holds c.unwrap-s.result (sets_at c.args.file.now c.args.call)
 held c = set_held _ _ c.requires.table_of _ _ c.unwrap-s.ensures c.call_sets.ensures
 
-pub entries-words-requires : goal.entries-words-requires
-entries-words-requires c =
-    record { sorted = c.requires.sorted; worded = set_worded _ _ (held (goal.at.entries-words-requires c).After-unwrap-s) }
+pub entries-words-requires-clause-worded : goal.entries-words-requires-clause-worded
+entries-words-requires-clause-worded c = set_worded _ _ (held (goal.at.entries-words-requires-clause-worded c).After-unwrap-s)
 
-pub row_for-row-requires : goal.row_for-row-requires
-row_for-row-requires c =
-    let made = held (goal.at.row_for-row-requires c).After-unwrap-s in
-    record { n_le_max_call_keys = c.unwrap-s.result.few; cells_in_table = words_in_table _ _ c.requires.table_of _ _ made _ c.entries-words.ensures; mask_words_in_bounds = c.requires.mask_words_in_bounds; mask_words_in_bounds_2 = c.requires.mask_words_in_bounds_2 }
+pub row_for-row-requires-clause-cells_in_table : goal.row_for-row-requires-clause-cells_in_table
+row_for-row-requires-clause-cells_in_table c =
+    words_in_table _ _ c.requires.table_of _ _ (held (goal.at.row_for-row-requires-clause-cells_in_table c).After-unwrap-s) _ c.entries-words.ensures
 
-pub add_call-requires : goal.add_call-requires
-add_call-requires c =
-    let made = held (goal.at.add_call-requires c).After-unwrap-s in
-    record { n_le_max_call_keys = c.unwrap-s.result.few; cells_in_table = words_in_table _ _ c.requires.table_of _ _ made _ c.entries-words.ensures; mask_words_in_bounds = c.requires.mask_words_in_bounds; mask_words_in_bounds_2 = c.requires.mask_words_in_bounds_2 }
+pub add_call-requires-clause-cells_in_table : goal.add_call-requires-clause-cells_in_table
+add_call-requires-clause-cells_in_table c =
+    words_in_table _ _ c.requires.table_of _ _ (held (goal.at.add_call-requires-clause-cells_in_table c).After-unwrap-s) _ c.entries-words.ensures
 
 pub returns : goal.returns
 returns c =
     let made = held (goal.at.returns c).After-unwrap-s in
     let right = c.entries-words.ensures in
-    record { plan_after = words_of_call_lem _ _ c.requires.table_of _ _ made _ right _ _ _ _ (mask_row_words c.args.touched.now c.args.writers.now) _ c.call_code-code.ensures c.row_for-row.ensures c.put_call.ensures; touched_after = marks_of_call _ _ c.requires.table_of _ _ made _ right entry_touches_cell _ _ c.add_call.ensures.touched_after; writers_after = marks_of_call _ _ c.requires.table_of _ _ made _ right entry_writes _ _ c.add_call.ensures.writers_after }
+    record {
+      plan_after = words_of_call_lem _ _ c.requires.table_of _ _ made _ right _ _ _ _ (mask_row_words c.args.touched.now c.args.writers.now) _ c.call_code-code.ensures c.row_for-row.ensures c.put_call.ensures;
+      touched_after = marks_of_call _ _ c.requires.table_of _ _ made _ right entry_touches_cell _ _ c.add_call.ensures.touched_after;
+      writers_after = marks_of_call _ _ c.requires.table_of _ _ made _ right entry_writes _ _ c.add_call.ensures.writers_after;
+    }
