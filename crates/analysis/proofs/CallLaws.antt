@@ -1,16 +1,14 @@
 -- The mathematics of the proofs on the calls' keys, over plain variables: the keys of one set, and the table call by call.
-use mathlib.Core.Path.{◌≡◌, refl, sym, ap, ap₂, ◌∙◌, subst⁻¹}
-use mathlib.Core.Bool.{Bool, true, false}
+use mathlib.Core.Path.{◌≡◌, refl, sym, ap, ap₂, ◌∙◌}
+use mathlib.Core.Bool.{false}
 use mathlib.Core.List.{List, [], ◌∷◌, ◌++◌}
 use Prim.Native.Nat.{ℕ, ◌+◌, ◌*◌, ◌≤◌, ◌<◌}
-use native.Mathlib.Decide.{dec_lt}
 use native.Mathlib.Numerals.{add-one}
 use native.Mathlib.Omega.{arith}
-use borrow.Author.Tests.{ltb-false, le-ltb, lt-ltb}
+use borrow.Author.Tests.{le-ltb, lt-ltb}
 use lib.Dec.{ltb}
 use lib.ListN.{length, get_or, take, drop, length-map, drop_of_length-le}
 use lib.Seq.{take-suc, drop-cons}
-use Rattle.std.specs.Prelude.{if◌then◌else◌}
 use Rattle.std.specs.Prelude.{Option}
 use Rattle.std.specs.declared.option.Option.TheVariants.{None, Some}
 use Rattle.wire.specs.Bytes.{padded}
@@ -31,7 +29,7 @@ use Rattle.analysis.specs.Filling.{KeysFilled, set_key, set_keys, insert_all, co
 use Rattle.analysis.proofs.FillingLaws.{keys_left, keys_none, set_keys_lem, set_worded, insert_all_lem, fitting_all, count_none, count_some, filled_none, filled_full, filled_more}
 use Rattle.analysis.specs.Gathered.{Holds, Worded}
 use Rattle.key_uses.specs.Uses.{no_use}
-use Rattle.footprint.specs.KeyWords.{key_from, keys_in}
+use Rattle.footprint.specs.KeyWords.{keys_in}
 use Rattle.analysis.specs.KeyTable.{Inserted, Tabled}
 use Rattle.reader.specs.LayoutOfBlock.{LayoutOfBlock}
 use Rattle.block.specs.BlockOfFile.{block_of, opening_keys}

@@ -1,9 +1,9 @@
 -- Laws of the insertion of a set's keys: the keys that its words name are those of the accesses, and inserting one after another up to the
 -- first that does not fit answers as inserting all does.
 use mathlib.Core.Path.{◌≡◌, refl, sym, ap, ap₂, ◌∙◌}
-use mathlib.Core.List.{List, [], ◌∷◌, ◌++◌, map}
-use Prim.Native.Nat.{ℕ, zero, suc, ◌+◌, ◌-◌, ◌^◌, ◌≤◌, ◌<◌}
-use native.Mathlib.Nat.{le_of_suc-le-suc, not-suc-le-zero, mod-lt}
+use mathlib.Core.List.{List, [], ◌∷◌, map}
+use Prim.Native.Nat.{ℕ, zero, suc, ◌+◌, ◌^◌, ◌≤◌, ◌<◌}
+use native.Mathlib.Nat.{mod-lt}
 use native.Mathlib.Decide.{dec_lt}
 use native.Mathlib.Numerals.{add-one}
 use native.Mathlib.Omega.{arith}
@@ -13,9 +13,8 @@ use lib.ListN.{length, get_or, take, drop, length-map, get_or-map, drop_of_lengt
 use lib.Seq.{drop-cons}
 use Rattle.std.specs.Prelude.{Option}
 use Rattle.std.specs.declared.option.Option.TheVariants.{None, Some}
-use Rattle.wire.specs.Bytes.{repeated, padded}
-use Rattle.wire.proofs.BytesLaws.{padded_at}
-use Rattle.block.specs.Limits.{max_call_keys, max_keys}
+use Rattle.wire.specs.Bytes.{padded}
+use Rattle.block.specs.Limits.{max_keys}
 use Rattle.footprint.specs.Access.{Access}
 use Rattle.footprint.specs.Plan.{table_words}
 use Rattle.footprint.specs.Table.{insert_key, insert_keys}
@@ -23,7 +22,7 @@ use Rattle.analysis.specs.Filling.{set_key, set_keys, insert_all, fitting, count
 use Rattle.analysis.specs.Gathered.{Holds, Worded}
 use Rattle.key_uses.specs.Uses.{no_use, use_of}
 use Rattle.arith.proofs.ChoiceLaws.{if_true, if_false}
-use Rattle.footprint.specs.KeyWords.{key_from, keys_in}
+use Rattle.footprint.specs.KeyWords.{keys_in}
 use Rattle.analysis.specs.KeyTable.{inserted_in, Tabled}
 use Rattle.footprint.specs.Sets.{access_keys}
 use Rattle.footprint.proofs.TableLaws.{insert_length}

@@ -8,10 +8,7 @@ use lib.ListN.{length, drop}
 use Rattle.block.specs.Instruction.{instr_bytes, decode}
 use Rattle.block.specs.Limits.{max_call_keys}
 use Rattle.block.specs.declared.Call.{Call}
-use Rattle.block.specs.declared.Decoded.{Decoded}
-use Rattle.block.specs.declared.Decoded.TheVariants.{Valid, Invalid}
-use Rattle.block.specs.declared.Instr.{Instr}
-use Rattle.footprint.specs.Access.{Access, accesses, entry_accesses}
+use Rattle.footprint.specs.Access.{Access, entry_accesses}
 use Rattle.analysis.specs.Gathered.{Holds}
 use Rattle.analysis.proofs.GatheredLaws.{merged_grows}
 use Rattle.footprint.proofs.SetLaws.{merged_append, code_more}

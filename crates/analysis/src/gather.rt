@@ -36,7 +36,9 @@ pub(crate) fn use_flags(u: KeyUse) -> u64
 fn place(s: &Sets, u: KeyUse) -> Option<usize>
     ensures { result ≡ position (same_key u) (take s.now.count s.now.keys) }
 {
-    s.keys[..s.count].iter().position(|k| k.high == u.high && k.low == u.low)
+    s.keys[..s.count]
+        .iter()
+        .position(|k| k.high == u.high && k.low == u.low)
 }
 
 // One more use: it joins that of its key, or its key is a new one behind the others, unless there are as many as the limit.
