@@ -5,7 +5,7 @@ ghost use Rattle.block.specs.Limits.{max_calls, max_keys};
 ghost use Rattle.block.specs.Record.{cell_of};
 ghost use Rattle.footprint.specs.Access.{Access};
 ghost use Rattle.footprint.specs.Plan.{plan_words, entry_word, plans, opening_value, entry_writes};
-ghost use Rattle.analysis.specs.Gathered.{column, columns};
+ghost use Rattle.analysis.specs.Gathered.{Holds, Worded};
 ghost use Rattle.footprint.specs.KeyWords.{keys_in};
 ghost use Rattle.analysis.specs.KeyTable.{cell_place, Sorted};
 ghost use Rattle.reader.specs.LayoutOfBlock.{LayoutOfBlock};
@@ -14,10 +14,11 @@ ghost use Rattle.block.specs.BlockOfFile.{block_of, function_at};
 ghost use Rattle.footprint.specs.EntryUses.{entry_touches_cell, entry_words};
 ghost use Rattle.analysis.specs.Masks.{mask_words, mask_row_words, add_call_words};
 ghost use Rattle.footprint.specs.Listed.{AllListed};
-ghost use Rattle.analysis.specs.Planned.{GatheredFits, words_of_call, call_words};
+ghost use Rattle.analysis.specs.Planned.{column, words_of_call, call_words};
 
 use crate::Sets;
 use crate::collect::{call_code, call_sets};
+use crate::gather::use_flags;
 use crate::rows::{add_call, put_words, row_for};
 use crate::table::cell_number;
 use block::address::address_of;
@@ -36,18 +37,16 @@ const VALUE_AT: usize = 12;
 const MASK_WORDS: usize = 4096;
 
 // The entry words of a call's set, each its key's cell number and flags.
-fn entries(keys: &[u64], n: usize, s: Sets) -> [u64; MAX_CALL_KEYS]
+fn entries(keys: &[u64], n: usize, s: &Sets) -> [u64; MAX_CALL_KEYS]
     requires sorted { Sorted n keys.now }
-    requires gathered_fits { GatheredFits s }
-    ensures { (es : List Access) → s ≡ columns es → AllListed (keys_in n keys.now) es
+    requires worded { Worded s.now }
+    ensures { (es : List Access) → Holds s.now es → AllListed (keys_in n keys.now) es
         → result ≡ column (entry_word (keys_in n keys.now)) es }
 {
     let mut words = [0u64; MAX_CALL_KEYS];
-    let mut k = 0;
-    while k < s.count {
-        let cell = cell_number(keys, n, s.highs[k], s.lows[k]);
-        words[k] = cell as u64 * ENTRY_FLAGS + s.flags[k];
-        k += 1;
+    for (k, key) in s.keys[..s.count].iter().enumerate() {
+        let cell = cell_number(keys, n, key.high, key.low);
+        words[k] = cell as u64 * ENTRY_FLAGS + use_flags(*key);
     }
     words
 }
@@ -101,9 +100,9 @@ fn plan_call(
     ensures writers_after { writers.new
         ≡ add_call_words entry_writes writers.old call (entry_words (keys_in n keys.now) (sets_at file.now call)) }
 {
-    let s = call_sets(file, l, call);
+    let s = call_sets(file, l, call).unwrap();
     let count = s.count;
-    let words = entries(keys, n, s);
+    let words = entries(keys, n, &s);
     let row = row_for(touched, writers, words, count);
     add_call(touched, writers, words, count, call);
     let code = call_code(file, l, call);
