@@ -9,8 +9,8 @@ use borrow.Author.Tests.{eq-eqb, ne_eqb, lt-ltb, le-ltb, le-leb, lt-leb, leb-fal
 use lib.Dec.{eqb, leb, ltb}
 use lib.IntN.{ℤ}
 use lib.ListN.{get_or, set}
-use Rattle.std.specs.Prelude.{if◌then◌else◌}
-use Rattle.block.specs.Limits.{max_calls, max_call_keys}
+use Rattle.std.specs.Prelude.{if◌then◌else◌, Ok, Err}
+use Rattle.block.specs.Limits.{max_calls, max_call_keys, max_workers}
 use Rattle.machine.specs.Run.{Run, entries_of, held_at, large_enough, sizes_of, state_of, wait_count, with_held, with_regs, with_saved, with_seat, zero_registers}
 use Rattle.machine.specs.Step.{restorable, saved_of}
 use Rattle.machine.specs.Moves.{Moved, stay, call_key_count, begin_call, begin_checked, begin_by, begin_of}
@@ -18,22 +18,8 @@ use Rattle.machine.specs.declared.Head.{Head}
 use Rattle.machine.specs.declared.Answer.{Answer}
 use Rattle.machine.specs.declared.Answer.TheVariants.{Accepted, Damaged, NoCall, WorkerBusy, NotWaiting, EarlierUnfinished}
 use Rattle.moves.specs.Lent.{lent, moved}
-use Rattle.moves.specs.Tests.{unless_refused, worker_tested, head_tested, begin_by_count, FewKeys}
-use Rattle.moves.specs.declared.Tested.{Tested}
-use Rattle.moves.specs.declared.Tested.TheVariants.{Passed, Refused}
+use Rattle.moves.specs.Tests.{Tested, all_passed, unless_refused, worker_tested, head_tested, begin_tested, begin_by_count}
 use Rattle.moves.proofs.HeldLaws.{worker_behind}
-
--- ---- behind tests
-
-module _ (r : Run) (on : Moved) {t : Tested} {y : Moved} where
-  pub behind_stop : {a : Answer} → t ≡ Refused a → unless_refused t (stay r) on ≡ y → stay r a ≡ y
-  behind_stop e h = rw e at h
-
-  pub behind_on : {x : Moved} → t ≡ Passed → unless_refused t (stay r) on ≡ y → x ≡ on → x ≡ y
-  behind_on e h f = f ∙ (rw e at h)
-
-pub few_keys_lem : {t : Tested} {n k : ℕ} → t ≡ Passed → FewKeys t k → n ≡ k → n ≤ max_call_keys
-few_keys_lem e h f = rw f (rw e at h)
 
 pub few_counted : {n k : ℕ} → n ≡ k → n ≤ max_call_keys → k ≤ max_call_keys
 few_counted f h = rw f at h
@@ -41,28 +27,6 @@ few_counted f h = rw f at h
 -- ---- what the head tells
 
 module _ (calls busy c : ℕ) where
-  pub head_many : max_calls < calls → Refused Damaged ≡ head_tested calls busy c
-  unfolding head_tested
-  head_many l = simp (lt-ltb max_calls calls l)
-
-  module _ (few : calls ≤ max_calls) where
-    pub head_past : calls ≤ c → Refused NoCall ≡ head_tested calls busy c
-    unfolding head_tested
-    head_past l = simp (le-ltb max_calls calls few, le-leb calls c l)
-
-    module _ (own : c < calls) where
-      pub head_lost : calls < busy → Refused Damaged ≡ head_tested calls busy c
-      unfolding head_tested
-      head_lost l = simp (le-ltb max_calls calls few, lt-leb calls c own, lt-ltb calls busy l)
-
-      pub head_busy : busy ≤ calls → (busy ≡ 0 → ⊥) → Refused WorkerBusy ≡ head_tested calls busy c
-      unfolding head_tested
-      head_busy l some = simp (le-ltb max_calls calls few, lt-leb calls c own, le-ltb calls busy l, ne_eqb busy 0 some)
-
-      pub head_free : busy ≤ calls → busy ≡ 0 → Passed ≡ head_tested calls busy c
-      unfolding head_tested
-      head_free l e = simp (le-ltb max_calls calls few, lt-leb calls c own, le-ltb calls busy l, eq-eqb busy 0 e)
-
   -- BEGIN goes on behind these tests.
   head_behind : {A : Type 0} (stop : Answer → A) (on : A)
       → unless_refused (head_tested calls busy c) stop on
@@ -79,7 +43,7 @@ module _ (calls busy c : ℕ) where
   head_behind stop on = go (ltb max_calls calls) (leb calls c) (ltb calls busy) (not (eqb busy 0))
     where
       go : (p q r s : Bool)
-          → unless_refused (if p then Refused Damaged else if q then Refused NoCall else if r then Refused Damaged else if s then Refused WorkerBusy else Passed)
+          → unless_refused (if p then Err Damaged else if q then Err NoCall else if r then Err Damaged else if s then Err WorkerBusy else all_passed)
           stop on
           ≡ (if p then stop Damaged else if q then stop NoCall else if r then stop Damaged else if s then stop WorkerBusy else on)
       go true q r s = refl
@@ -88,42 +52,23 @@ module _ (calls busy c : ℕ) where
       go false false false true = refl
       go false false false false = refl
 
-  pub head_passed : {t : Tested} → t ≡ head_tested calls busy c → t ≡ Passed → c < max_calls
-  unfolding head_tested
-  head_passed e f =
-      let both = go (ltb max_calls calls) (leb calls c) (ltb calls busy) (not (eqb busy 0)) (sym f ∙ e) in
-      let few : calls ≤ max_calls = ltb-false max_calls calls both.0 in
-      let own : c < calls = leb-false calls c both.1 in
-      omega arith
-    where
-      go : (p q r s : Bool)
-          → Passed ≡ (if p then Refused Damaged else if q then Refused NoCall else if r then Refused Damaged else if s then Refused WorkerBusy else Passed)
-          → (p ≡ false) × (q ≡ false)
-      go true q r s e = let z : ◌≡◌ {A = ℕ} 0 1 = cc in absurd (omega arith)
-      go false true r s e = let z : ◌≡◌ {A = ℕ} 0 1 = cc in absurd (omega arith)
-      go false false r s e = (refl, refl)
-
-module _ (h : Head) (w c : ℕ) (plan keys status : List ℕ) (cells : List ℤ) (seats : List ℕ) (frames : List ℤ) {large : Bool} (sized : large ≡ large_enough (sizes_of (lent h plan keys cells status seats frames)))
-    {t : Tested} (tested : t ≡ worker_tested large h.workers w) where
-  -- What is left behind the tests of the worker, from the number of calls and the held call.
-  abbrev behind_worker : Moved
-  behind_worker =
-      unless_refused (head_tested h.calls (held_at h w) c) (stay (lent h plan keys cells status seats frames)) (begin_by_count (lent h plan keys cells status seats frames) w c)
-
-  begin_behind : unless_refused t (stay (lent h plan keys cells status seats frames)) behind_worker ≡ begin_of (lent h plan keys cells status seats frames) w c
-  unfolding begin_by
-  begin_behind =
-      rw
-      (tested, sized, head_behind h.calls (held_at h w) c (stay (lent h plan keys cells status seats frames)) (begin_by_count (lent h plan keys cells status seats frames) w c))
-      (worker_behind _ _ _ _ _)
-
-  pub begin_refused : {a : Answer} → t ≡ Refused a → stay (lent h plan keys cells status seats frames) a ≡ begin_of (lent h plan keys cells status seats frames) w c
-  begin_refused e = rw e at begin_behind
-
-  pub begin_headed : t ≡ Passed → {n : ℕ} → n ≡ held_at h w → {u : Tested} → u ≡ head_tested h.calls n c
-      → unless_refused u (stay (lent h plan keys cells status seats frames)) (begin_by_count (lent h plan keys cells status seats frames) w c)
-      ≡ begin_of (lent h plan keys cells status seats frames) w c
-  begin_headed on own told = rw (told, own) (rw on at begin_behind)
+-- BEGIN is its tests, and what follows them.
+pub begin_lent : (h : Head) (w c : ℕ) (plan keys status : List ℕ) (cells : List ℤ) (seats : List ℕ) (frames : List ℤ) {large : Bool} → large ≡ large_enough (sizes_of (lent h plan keys cells status seats frames))
+    → unless_refused (begin_tested large h w c) (stay (lent h plan keys cells status seats frames)) (begin_by_count (lent h plan keys cells status seats frames) w c)
+    ≡ begin_of (lent h plan keys cells status seats frames) w c
+unfolding begin_tested begin_by
+begin_lent h w c plan keys status cells seats frames {large} sized =
+    behind_both (worker_tested large h.workers w)
+    ∙ rw
+    (sized, head_behind h.calls (held_at h w) c (stay (lent h plan keys cells status seats frames)) (begin_by_count (lent h plan keys cells status seats frames) w c))
+    (worker_behind _ _ _ _ _)
+  where
+    behind_both : (t : Tested)
+        → unless_refused (unless_refused t Err (head_tested h.calls (held_at h w) c)) (stay (lent h plan keys cells status seats frames)) (begin_by_count (lent h plan keys cells status seats frames) w c)
+        ≡ unless_refused t (stay (lent h plan keys cells status seats frames))
+        (unless_refused (head_tested h.calls (held_at h w) c) (stay (lent h plan keys cells status seats frames)) (begin_by_count (lent h plan keys cells status seats frames) w c))
+    behind_both (Ok u) = refl
+    behind_both (Err a) = refl
 
 -- ---- what the status and the plan tell
 

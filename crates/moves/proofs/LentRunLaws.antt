@@ -29,8 +29,6 @@ use Rattle.moves.specs.Turn.{StandsForPlace, TurnWithCells, broken_turn, cell_vi
 use Rattle.moves.specs.declared.Fate.TheVariants.{Broken, Going, Over}
 use Rattle.moves.specs.declared.Site.{Site}
 use Rattle.moves.specs.declared.Turn.{Turn}
-use Rattle.moves.proofs.HeldLaws.{held_kept}
-use Rattle.moves.proofs.PerformLaws.{finish_damaged, finish_kept, finish_restored}
 
 -- ---- the status behind a turn
 
@@ -165,71 +163,9 @@ module _ (head : Head) (block plan keys : List ℕ) (cells : List ℤ) (status s
   unfolding step_for
   step_answered e = ap (step_for block (lent head plan keys cells status seats frames) w) e
 
-  pub step_holds : {c : ℕ} {m : Moved} → holds c ≡ held_by (lent head plan keys cells status seats frames) w
-      → m ≡ step_held block (lent head plan keys cells status seats frames) w c → m ≡ step_of block (lent head plan keys cells status seats frames) w
+  pub step_holds : {v c : ℕ} {m : Moved} → holds c ≡ held_by (lent head plan keys cells status seats frames) w → v ≡ w
+      → m ≡ step_held block (lent head plan keys cells status seats frames) v c → m ≡ step_of block (lent head plan keys cells status seats frames) w
   unfolding step_for
-  step_holds e p = p ∙ ap (step_for block (lent head plan keys cells status seats frames) w) e
-
--- ---- what a turn leaves
-
-module _ (head : Head) (plan keys : List ℕ) (cells : List ℤ) (status seats : List ℕ) (frames : List ℤ) (w c : ℕ) {held : ℕ} (own : held ≡ held_at head w) where
-  abbrev start : Run
-  start = lent head plan keys cells status seats frames
-
-  abbrev old : List ℤ
-  old = worker_saved plan frames w c
-
-  -- The end of a call.
-  module _ (outcome count : ℕ) where
-    abbrev finished_run : Moved
-    finished_run = stepped start w c (finish (cell_view plan keys c) old outcome count cells)
-
-    pub end_damaged : thrown ≤ outcome → {n : ℕ} → n ≡ call_key_count plan c → false ≡ restorable n (entries_of plan c n)
-        → moved Damaged (lent (with_held head w held) plan keys cells status seats frames) ≡ finished_run
-    unfolding stepped
-    end_damaged high n r = rw (held_kept head w own, finish_damaged (cell_view plan keys c) old outcome count cells high (sym (rw (← n) r)))
-
-    -- The numbers of the calls that wait for it can be lowered, or not.
-    module _ {calls : ℕ} (called : calls ≡ head.calls) {ok : Bool} (tested : ok ≡ waits_lowerable plan status c calls) where
-      lowerable : waits_lowerable plan status c head.calls ≡ ok
-      lowerable = sym (tested ∙ ap (waits_lowerable plan status c) called)
-
-      done_stays : ok ≡ false → (after : List ℤ) → stay start Damaged ≡ stepped start w c (done outcome count after)
-      unfolding stepped
-      done_stays f after = rw (lowerable, f)
-
-      pub end_stays : ok ≡ false → moved Damaged (lent (with_held head w held) plan keys cells status seats frames) ≡ finished_run
-      unfolding finish stepped
-      end_stays f =
-          rw (held_kept head w own)
-          (if_all (λ (s : Stepped). stay start Damaged ≡ stepped start w c s) (ltb outcome thrown) (λ e. done_stays f cells)
-          (λ e.
-          if_all (λ (s : Stepped). stay start Damaged ≡ stepped start w c s) (restorable (call_key_count plan c) (entries_of plan c (call_key_count plan c)))
-          (λ g. done_stays f (restored (entries_of plan c (call_key_count plan c)) old cells)) (λ g. refl)))
-
-      module _ (can : ok ≡ true) {status' : List ℕ} (closed : status' ≡ waits_lowered plan c calls (with_receipt status c outcome count)) where
-        pub end_restored : thrown ≤ outcome → {n : ℕ} → n ≡ call_key_count plan c → true ≡ restorable n (entries_of plan c n)
-            → {cells' : List ℤ} → cells' ≡ restored (entries_of plan c n) (saved_in frames w n) cells
-            → moved Accepted (lent (with_held head w 0) plan keys cells' status' seats frames) ≡ finished_run
-        unfolding stepped
-        end_restored high n r e =
-            rw (e, closed, called, n, finish_restored (cell_view plan keys c) old outcome count cells high (sym (rw (← n) r)), lowerable, can)
-
-        pub end_kept : outcome < thrown → moved Accepted (lent (with_held head w 0) plan keys cells status' seats frames) ≡ finished_run
-        unfolding stepped
-        end_kept low = rw (closed, called, finish_kept (cell_view plan keys c) old outcome count cells low, lowerable, can)
-
-  -- A turn.
-  module _ (t : Turn) where
-    pub settle_broken : t.fate ≡ Broken → moved Damaged (lent (with_held head w held) plan keys cells status seats frames) ≡ turn_settled head plan keys cells status seats frames w c t
-    unfolding concluded stepped
-    settle_broken e = rw (held_kept head w own, e)
-
-    pub settle_going : {place : ℕ} → t.fate ≡ Going place → {seats' : List ℕ} {frames' : List ℤ} → seats' ≡ with_seat seats w place t.count → frames' ≡ with_regs frames w t.regs
-        → moved Accepted (lent (with_held head w held) plan keys cells status seats' frames') ≡ turn_settled head plan keys cells status seats frames w c t
-    unfolding concluded stepped
-    settle_going e s r = rw (held_kept head w own, e, s, r)
-
-    pub settle_over : {outcome : ℕ} → t.fate ≡ Over outcome → {m : Moved} → m ≡ finished_run outcome t.count → m ≡ turn_settled head plan keys cells status seats frames w c t
-    unfolding concluded
-    settle_over e p = p ∙ rw e
+  step_holds {c = c} e own p =
+      p ∙ ap (λ (x : ℕ). step_held block (lent head plan keys cells status seats frames) x c) own
+      ∙ ap (step_for block (lent head plan keys cells status seats frames) w) e

@@ -77,12 +77,6 @@ pub record EntriesReady (plan keys : List ℕ) (call : ℕ) : Type 0 where
   pub keyed : max_keys * key_words ≤ length keys
   pub below : call < max_calls
 
--- So do the frames, and the worker is in its range: what it has tested before it uses a frame.
-pub record Ready (plan keys : List ℕ) (frames : List ℤ) (worker call : ℕ) : Type 0 where
-  pub entries : EntriesReady plan keys call
-  pub framed : max_workers * frame_values ≤ length frames
-  pub seated : worker < max_workers
-
 -- The place of a call is in its range: entry, or 0 to the code's length.
 pub record SiteInRange (plan : List ℕ) (site : Site) : Type 0 where
   pub code : plan_word plan site.call code_length ≤ max_code + 1
