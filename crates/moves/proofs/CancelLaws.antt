@@ -1,16 +1,11 @@
 -- The mathematics of the proofs of `cancel`, over plain variables: the ways of CANCEL are those of its definition.
 use mathlib.Core.Path.{◌≡◌, ap, ◌∙◌}
-use mathlib.Core.Bool.{true, false}
 use mathlib.Core.List.{List}
-use Prim.Native.Nat.{ℕ, ◌*◌}
+use Prim.Native.Nat.{ℕ}
 use lib.IntN.{ℤ}
-use lib.ListN.{set}
-use Rattle.machine.specs.Run.{entries_of, held_at, saved_in, with_held}
-use Rattle.machine.specs.Step.{restorable, restored}
-use Rattle.machine.specs.Moves.{Moved, answered, holds, held_by, call_key_count, cancel_held, cancel_for, cancel_of}
+use Rattle.machine.specs.Moves.{Moved, answered, holds, held_by, cancel_held, cancel_for, cancel_of}
 use Rattle.machine.specs.declared.Head.{Head}
 use Rattle.machine.specs.declared.Answer.{Answer}
-use Rattle.machine.specs.declared.Answer.TheVariants.{Accepted, Damaged}
 use Rattle.moves.specs.Lent.{lent, moved}
 
 module _ (h : Head) (w : ℕ) (plan keys status : List ℕ) (cells : List ℤ) (seats : List ℕ) (frames : List ℤ) where

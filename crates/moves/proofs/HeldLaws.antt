@@ -2,15 +2,14 @@
 use mathlib.Core.Path.{◌≡◌, refl, sym, ap, ◌∙◌}
 use mathlib.Core.Bool.{Bool, true, false, ◌&&◌, ◌||◌, not}
 use mathlib.Core.List.{List}
-use Prim.Native.Nat.{ℕ, ◌-◌, ◌≤◌, ◌<◌}
+use Prim.Native.Nat.{ℕ, ◌≤◌}
 use native.Mathlib.Omega.{arith}
-use borrow.Author.Tests.{eq-eqb, ne_eqb, lt-ltb, le-ltb, le-leb, lt-leb, leb-true, ltb-false, leb-false}
+use borrow.Author.Tests.{leb-true}
 use lib.Dec.{eqb, leb, ltb}
 use lib.IntN.{ℤ}
 use lib.Seq.{set-get_or}
 use Rattle.std.specs.Prelude.{if◌then◌else◌, Ok, Err}
-use Rattle.arith.proofs.ChoiceLaws.{neither}
-use Rattle.block.specs.Limits.{max_calls, max_workers}
+use Rattle.block.specs.Limits.{max_workers}
 use Rattle.footprint.specs.Plan.{room_enough}
 use Rattle.machine.specs.Run.{Sizes, fixed_sizes, room_in, large_enough, held_at, sizes_of, with_held}
 use Rattle.machine.specs.Moves.{held_by}

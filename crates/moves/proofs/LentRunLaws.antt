@@ -9,24 +9,20 @@ use lib.Dec.{leb, ltb}
 use lib.IntN.{ℤ}
 use lib.ListN.{length, set, drop, length-drop}
 use Rattle.std.specs.Prelude.{if◌then◌else◌}
-use Rattle.arith.proofs.ChoiceLaws.{if_all}
 use Rattle.block.specs.Limits.{max_code}
-use Rattle.block.specs.Outcomes.{thrown}
 use Rattle.block.specs.Record.{head_bytes, call_bytes, call_record_bytes, call_of}
 use Rattle.decoder.proofs.Laws.{call_cut}
 use Rattle.block.specs.declared.Call.{Call}
 use Rattle.block.specs.declared.CallBody.{CallBody}
 use Rattle.block.specs.declared.CallBody.TheVariants.{InRange, OutOfRange}
-use Rattle.machine.specs.Run.{Run, entries_of, held_at, place_in, count_in, plan_word, regs_in, saved_in, with_held, with_regs, with_seat, with_receipt, finished}
-use Rattle.machine.specs.Waits.{waits_lowered, waits_lowerable}
-use Rattle.machine.specs.Step.{View, Performed, broken, onward, ending, Stepped, done, concluded, finish, restorable, restored, step_call, step_place}
-use Rattle.machine.specs.Moves.{Moved, answered, call_key_count, holds, held_by, local_of, stay, step_for, step_held, step_of, step_record, stepped, view_of}
+use Rattle.machine.specs.Run.{Run, place_in, count_in, plan_word, regs_in, with_receipt, finished}
+use Rattle.machine.specs.Step.{View, Performed, broken, onward, ending, concluded, finish, step_call, step_place}
+use Rattle.machine.specs.Moves.{Moved, answered, holds, held_by, local_of, stay, step_for, step_held, step_of, step_record, stepped, view_of}
 use Rattle.machine.specs.declared.Answer.{Answer}
-use Rattle.machine.specs.declared.Answer.TheVariants.{Accepted, Damaged}
+use Rattle.machine.specs.declared.Answer.TheVariants.{Damaged}
 use Rattle.machine.specs.declared.Head.{Head}
 use Rattle.moves.specs.Lent.{lent, moved}
 use Rattle.moves.specs.Turn.{StandsForPlace, TurnWithCells, broken_turn, cell_view, performed_of, turn_settled, turned, view_in, worker_saved, SiteInRange}
-use Rattle.moves.specs.declared.Fate.TheVariants.{Broken, Going, Over}
 use Rattle.moves.specs.declared.Site.{Site}
 use Rattle.moves.specs.declared.Turn.{Turn}
 

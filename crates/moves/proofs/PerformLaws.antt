@@ -2,9 +2,9 @@
 use mathlib.Core.Path.{◌≡◌, refl, sym, ap, ◌∙◌}
 use mathlib.Core.Bool.{Bool, true, false, ◌&&◌, not, and-false}
 use mathlib.Core.List.{List}
-use Prim.Native.Nat.{ℕ, ◌+◌, ◌*◌, ◌/◌, ◌%◌, ◌^◌, ◌≤◌, ◌<◌}
+use Prim.Native.Nat.{ℕ, ◌+◌, ◌*◌, ◌/◌, ◌%◌, ◌^◌}
 use native.Mathlib.Omega.{arith}
-use borrow.Author.Tests.{le-ltb, lt-ltb}
+use borrow.Author.Tests.{le-ltb}
 use lib.Dec.{eqb}
 use lib.IntN.{ℤ, pos, negsuc, ◌+ℤ◌, ◌-ℤ◌}
 use lib.ListN.{set}
@@ -18,8 +18,7 @@ use Rattle.block.specs.Key.{is_balance}
 use Rattle.footprint.specs.Access.{Access}
 use Rattle.key_uses.specs.declared.KeyUse.{KeyUse}
 use Rattle.key_uses.specs.declared.Uses.{Uses}
-use Rattle.machine.specs.Step.{View, Performed, damaged, done, cell_at, restorable, restored, finish, load_cell, store_cell, deposit_cell, transfer_cells, perform, lookup}
-use Rattle.block.specs.Outcomes.{thrown}
+use Rattle.machine.specs.Step.{Performed, cell_at, load_cell, store_cell, deposit_cell, transfer_cells, perform, lookup}
 use Rattle.machine.specs.declared.Next.{Next}
 use Rattle.machine.specs.declared.Next.TheVariants.{Go, End, Load, Store, Transfer}
 use Rattle.machine.specs.declared.Lookup.{Lookup}
@@ -33,22 +32,6 @@ pub balance_words : (u : KeyUse) → KeyWorded u → eqb (u.high / 2 ^ 32 % 2 ^ 
 balance_words u h =
     let field : u.high / 2 ^ 32 % 2 ^ 16 ≡ (u.high * 2 ^ 32 + u.low) / 2 ^ 64 % 2 ^ 16 = omega arith in
     ap (λ (n : ℕ). eqb n 0) field
-
--- ---- the end of a call
-
-module _ (v : View) (saved : List ℤ) (outcome count : ℕ) (cells : List ℤ) where
-  pub finish_kept : outcome < thrown → finish v saved outcome count cells ≡ done outcome count cells
-  unfolding finish
-  finish_kept h = rw (lt-ltb outcome thrown h)
-
-  pub finish_restored : thrown ≤ outcome → restorable v.count v.entries ≡ true
-      → finish v saved outcome count cells ≡ done outcome count (restored v.entries saved cells)
-  unfolding finish
-  finish_restored h e = rw (le-ltb outcome thrown h, e)
-
-  pub finish_damaged : thrown ≤ outcome → restorable v.count v.entries ≡ false → finish v saved outcome count cells ≡ damaged
-  unfolding finish
-  finish_damaged h e = rw (le-ltb outcome thrown h, e)
 
 -- ---- signs of a value that the machine read
 

@@ -3,14 +3,14 @@
 use Rattle.std.specs.Prelude.{true, false, ◌≡◌, List, [], ◌∷◌, ℕ, ◌+◌, ◌*◌, ◌^◌, ◌≤◌, ◌<◌, ℤ, pos, leb, length}
 use Rattle.std.specs.Int.Signed.{non_neg}
 use Rattle.std.specs.Prelude.{if◌then◌else◌}
-use Rattle.block.specs.Limits.{max_calls, max_call_keys, max_code, max_keys, max_workers}
+use Rattle.block.specs.Limits.{max_calls, max_call_keys, max_code, max_keys}
 use Rattle.block.specs.declared.Call.{Call}
 use Rattle.footprint.specs.Access.{Access}
 use Rattle.footprint.specs.Plan.{plan_words, key_words, code_start, code_length}
 use Rattle.key_uses.specs.Uses.{uses_of}
 use Rattle.key_uses.specs.declared.KeyUse.{KeyUse}
 use Rattle.key_uses.specs.declared.Uses.{Uses}
-use Rattle.machine.specs.Run.{frame_values, plan_word, saved_in, zero_registers}
+use Rattle.machine.specs.Run.{plan_word, saved_in, zero_registers}
 use Rattle.machine.specs.Step.{View, Performed, broken, onward, ending, concluded, find_entry, perform}
 use Rattle.machine.specs.Moves.{Moved, call_key_count, own_entries, stepped}
 use Rattle.machine.specs.declared.Head.{Head}

@@ -59,6 +59,7 @@ fn begin_tested(head: &Head, large: bool, worker: usize, call: usize) -> Result<
 }
 
 // 24, 25, and 20 for what these and the change look at: the call's state, the number that it carries, the number of keys and the entries.
+#[tactic(auto, unfolding(machine::specs::Moves::begin_checked))]
 fn call_tested(plan: &[u64], status: &[u64], call: usize) -> Result<(), Answer>
     requires call_lt_max_calls { call < max_calls }
     requires plan_in_bounds { fixed_sizes.plan ≤ length plan.now }

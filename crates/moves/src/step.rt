@@ -232,7 +232,16 @@ pub fn step(
     );
     match held_call(&head, large, worker) {
         Ok(hold) => {
-            let turn = step_held(hold, head.first_call, block, plan, keys, cells, seats, frames);
+            let turn = step_held(
+                hold,
+                head.first_call,
+                block,
+                plan,
+                keys,
+                cells,
+                seats,
+                frames,
+            );
             let left = settle(hold, plan, cells, status, seats, frames, turn);
             reply(head, hold, left)
         }
