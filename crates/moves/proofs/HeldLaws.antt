@@ -1,4 +1,4 @@
--- The mathematics of the proofs of `held`, over plain variables: the sizes, the first tests of every move, and the held call.
+-- What the first test of every move tells of the lent buffers: they have their fixed sizes.
 use mathlib.Core.Path.{◌≡◌, refl, sym, ap, ◌∙◌}
 use mathlib.Core.Bool.{Bool, true, false, ◌&&◌, ◌||◌, not}
 use mathlib.Core.List.{List}
@@ -30,13 +30,6 @@ pub and_right : (a b : Bool) → true ≡ (a && b) → true ≡ b
 and_right true b e = e
 and_right false b e = let z : ◌≡◌ {A = ℕ} 0 1 = cc in absurd (omega arith)
 
-module _ {A : Type 0} (stop : Answer → A) (on : A) {t : Tested} {y : A} where
-  pub behind_stop : {a : Answer} → t ≡ Err a → unless_refused t stop on ≡ y → stop a ≡ y
-  behind_stop e h = rw e at h
-
-  pub behind_on : {u : Unit {0}} → t ≡ Ok u → unless_refused t stop on ≡ y → on ≡ y
-  behind_on e h = rw e at h
-
 -- ---- the sizes
 
 module _ (s : Sizes) (large : true ≡ large_enough s) where
@@ -58,36 +51,4 @@ module _ (s : Sizes) (large : true ≡ large_enough s) where
   pub large_frames : fixed_sizes.frames ≤ s.frames
   large_frames = leb-true _ _ (sym sizes.1)
 
--- ---- the held calls
-
--- A held call that is put back where it was leaves the head.
-held_same : (h : Head) (w : ℕ) → with_held h w (held_at h w) ≡ h
-held_same h w =
-    ap (λ (l : List ℕ). record { workers = h.workers; calls = h.calls; cells = h.cells; first_call = h.first_call; held = l })
-    (set-get_or h.held w 0)
-
-pub held_kept : (h : Head) (w : ℕ) {n : ℕ} → n ≡ held_at h w → with_held h w n ≡ h
-held_kept h w e = ap (with_held h w) e ∙ held_same h w
-
--- ---- the worker
-
-module _ (large : Bool) (n w : ℕ) where
-  -- A move that starts with these tests goes on behind them.
-  pub worker_behind : {A : Type 0} (stop : Answer → A) (on : A)
-      → unless_refused (worker_tested large n w) stop on
-      ≡ (if not large || eqb n 0 || ltb max_workers n then stop Damaged else if leb n w then stop NoWorker else on)
-  unfolding worker_tested
-  worker_behind stop on = go (not large || eqb n 0 || ltb max_workers n) (leb n w)
-    where
-      go : (a b : Bool) → unless_refused (if a then Err Damaged else if b then Err NoWorker else all_passed) stop on ≡ (if a then stop Damaged else if b then stop NoWorker else on)
-      go true b = refl
-      go false true = refl
-      go false false = refl
-
--- ---- the held call
-
--- The tests of the worker, and behind them its held call, decide what is held.
-pub held_lent : (h : Head) (w : ℕ) (plan keys status : List ℕ) (cells : List ℤ) (seats : List ℕ) (frames : List ℤ) {large : Bool} → large ≡ large_enough (sizes_of (lent h plan keys cells status seats frames))
-    → held_tested large h w ≡ held_by (lent h plan keys cells status seats frames) w
-unfolding held_tested held_by
-held_lent h w plan keys status cells seats frames sized = rw sized (worker_behind _ _ _ _ _)
+pub ruleset sizes_known = (large_plan, large_keys, large_frames)

@@ -24,7 +24,7 @@ held_from calls call =
     else definition.holds (call - 1)
 
 -- What is held, behind the tests of the worker.
-unfoldable pub held_tested : Bool → Head → (worker : ℕ) → definition.Held
+abbrev pub held_tested : Bool → Head → (worker : ℕ) → definition.Held
 held_tested large head worker =
     unless_refused (worker_tested large head.workers worker) definition.answered (held_from head.calls (held_at head worker))
 

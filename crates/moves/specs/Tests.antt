@@ -22,7 +22,7 @@ unless_refused (Ok passed) stop on = on
 unless_refused (Err a) stop on = stop a
 
 -- What every move tests first: 20 for the sizes and the number of workers, 21 for the worker.
-unfoldable pub worker_tested : Bool → ℕ → ℕ → Tested
+abbrev pub worker_tested : Bool → ℕ → ℕ → Tested
 worker_tested large workers worker =
     if not large || eqb workers 0 || ltb max_workers workers
     then Err Damaged
@@ -31,7 +31,7 @@ worker_tested large workers worker =
     else all_passed
 
 -- What BEGIN tests next: 20 for the number of calls, 22, 20 for the call that the worker holds, 23.
-unfoldable pub head_tested : ℕ → ℕ → ℕ → Tested
+abbrev pub head_tested : ℕ → ℕ → ℕ → Tested
 head_tested calls busy call =
     if ltb max_calls calls
     then Err Damaged
@@ -44,7 +44,7 @@ head_tested calls busy call =
     else all_passed
 
 -- What BEGIN tests of the head.
-unfoldable pub begin_tested : Bool → Head → (worker call : ℕ) → Tested
+abbrev pub begin_tested : Bool → Head → (worker call : ℕ) → Tested
 begin_tested large head worker call =
     unless_refused (worker_tested large head.workers worker) Err (head_tested head.calls (held_at head worker) call)
 

@@ -26,7 +26,6 @@ fn state_of(status: &[u64], call: usize) -> u64
 }
 
 // 22 and 23, and 20 for the numbers that these use: the number of calls, and the call that the worker holds.
-#[tactic(auto, unfolding(crate::specs::Tests::head_tested))]
 fn head_tested(calls: usize, busy: usize, call: usize) -> Result<(), Answer>
     ensures tested { result ≡ head_tested calls busy call }
     ensures known { OnOk result ((call < calls) × (calls ≤ max_calls)) }
@@ -47,7 +46,6 @@ fn head_tested(calls: usize, busy: usize, call: usize) -> Result<(), Answer>
 }
 
 // What BEGIN tests of the head.
-#[tactic(auto, unfolding(crate::specs::Tests::begin_tested))]
 fn begin_tested(head: &Head, large: bool, worker: usize, call: usize) -> Result<(), Answer>
     ensures tested { result ≡ begin_tested large head.now worker call }
     ensures sized { OnOk result (IsTrue large) }
@@ -122,6 +120,7 @@ fn begin_call(
 }
 
 // BEGIN(worker, call): running, at entry, the old values of the write set kept.
+#[tactic(auto, using(crate::proofs::HeldLaws::sizes_known), unfolding(machine::specs::Moves::begin_by))]
 pub fn begin(
     head: Head,
     plan: &[u64],

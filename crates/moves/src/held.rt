@@ -24,7 +24,6 @@ impl Hold {
 }
 
 // 20 for the run's sizes and the number of workers, and 21.
-#[tactic(auto, unfolding(crate::specs::Tests::worker_tested))]
 pub(crate) fn worker_tested(workers: usize, large: bool, worker: usize) -> Result<(), Answer>
     ensures tested { result ≡ worker_tested large workers worker }
     ensures sized { OnOk result (IsTrue large) }
@@ -40,7 +39,6 @@ pub(crate) fn worker_tested(workers: usize, large: bool, worker: usize) -> Resul
 }
 
 // What STEP and CANCEL test of the head: behind the worker 26, and 20 for a held call that is none of the run; else the held call.
-#[tactic(auto, unfolding(crate::specs::HeldCall::held_tested))]
 pub(crate) fn held_call(head: &Head, large: bool, worker: usize) -> Result<Hold, Answer>
     ensures held { as_held result ≡ held_tested large head.now worker }
     ensures sized { OnOk result (IsTrue large) }

@@ -204,6 +204,11 @@ fn settle(
 }
 
 // STEP(worker) on a lent run and block: the answer and the head, with the cells, the status, the seats and the frames changed in place.
+#[tactic(
+    auto,
+    using(crate::proofs::HeldLaws::sizes_known),
+    unfolding(machine::specs::Moves::held_by, machine::specs::Moves::step_for)
+)]
 pub fn step(
     head: Head,
     block: &[u8],
