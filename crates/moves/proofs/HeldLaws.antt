@@ -1,24 +1,12 @@
 -- What the first test of every move tells of the lent buffers: they have their fixed sizes.
-use mathlib.Core.Path.{◌≡◌, refl, sym, ap, ◌∙◌}
-use mathlib.Core.Bool.{Bool, true, false, ◌&&◌, ◌||◌, not}
-use mathlib.Core.List.{List}
+use mathlib.Core.Path.{◌≡◌, refl, sym}
+use mathlib.Core.Bool.{Bool, true, false, ◌&&◌}
 use Prim.Native.Nat.{ℕ, ◌≤◌}
 use native.Mathlib.Omega.{arith}
 use borrow.Author.Tests.{leb-true}
-use lib.Dec.{eqb, leb, ltb}
-use lib.IntN.{ℤ}
-use lib.Seq.{set-get_or}
-use Rattle.std.specs.Prelude.{if◌then◌else◌, Ok, Err}
-use Rattle.block.specs.Limits.{max_workers}
+use lib.Dec.{leb}
 use Rattle.footprint.specs.Plan.{room_enough}
-use Rattle.machine.specs.Run.{Sizes, fixed_sizes, room_in, large_enough, held_at, sizes_of, with_held}
-use Rattle.machine.specs.Moves.{held_by}
-use Rattle.machine.specs.declared.Head.{Head}
-use Rattle.machine.specs.declared.Answer.{Answer}
-use Rattle.machine.specs.declared.Answer.TheVariants.{Damaged, NoWorker}
-use Rattle.moves.specs.Lent.{lent}
-use Rattle.moves.specs.Tests.{Tested, all_passed, unless_refused, worker_tested}
-use Rattle.moves.specs.HeldCall.{held_tested}
+use Rattle.machine.specs.Run.{Sizes, fixed_sizes, room_in, large_enough}
 
 -- ---- tests
 

@@ -33,11 +33,7 @@ fn cancel_held(
 }
 
 // CANCEL(worker): the call's cells restored, the call waiting again, its count 0.
-#[tactic(
-    auto,
-    using(crate::proofs::HeldLaws::sizes_known),
-    unfolding(machine::specs::Moves::held_by, machine::specs::Moves::cancel_for)
-)]
+#[tactic(auto, using(crate::proofs::HeldLaws::sizes_known), unfolding(machine::specs::Moves::held_by, machine::specs::Moves::cancel_for))]
 pub fn cancel(
     head: Head,
     plan: &[u64],

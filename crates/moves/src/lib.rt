@@ -45,27 +45,24 @@ pub struct Site {
     pub count: u64,
 }
 
-// How a place of a call ends: the lent run is damaged, the call goes on at a place, or it ends with an outcome.
+// How a place of a call ends, where the lent run is not damaged: the call goes on at a place with its registers, or is over with an outcome; and
+// the count of executed instructions.
 #[derive(Clone, Copy)]
-pub enum Fate {
-    Broken,
-    Going(usize),
-    Over(u64),
+pub enum Turn {
+    Going {
+        place: usize,
+        count: u64,
+        regs: [i64; REGISTERS],
+    },
+    Over {
+        outcome: u64,
+        count: u64,
+    },
 }
 
-// That, with the count of executed instructions and the registers; they are zero where the fate needs none.
-#[derive(Clone, Copy)]
-pub struct Turn {
-    pub fate: Fate,
-    pub count: u64,
-    pub regs: [i64; REGISTERS],
-}
-
-// What is due at a place of a call: an action with the keys that it uses, and the count with this place's own instruction. Where it is not
-// sound, the lent block or run is damaged there, and nothing is due.
+// What is due at a place of a call: an action with the keys that it uses, and the count with this place's own instruction.
 #[derive(Clone, Copy)]
 pub struct Due {
-    pub sound: bool,
     pub count: u64,
     pub uses: Uses,
     pub action: Action,

@@ -13,11 +13,11 @@ ghost use Rattle.moves.specs.Turn.{cell_view, turn_settled, turned, view_in, wor
 
 use crate::held::{give_back, held_call, reply};
 use crate::lookup::plan_word;
-use crate::perform::{damaged, perform};
+use crate::perform::perform;
 use crate::place::due;
 use crate::seat::{count_of, place_of, put_regs, put_seat, regs_of};
 use crate::waits::{can_lower, lower};
-use crate::{Fate, Hold, Reply, Site, Turn};
+use crate::{Hold, Reply, Site, Turn};
 use block::format::{CALL_RECORD_BYTES, HEAD_BYTES};
 use block::limits::MAX_CODE;
 use block::outcomes::THROWN;
@@ -38,7 +38,7 @@ fn step_place(
     site: Site,
     regs: [i64; REGISTERS],
     body: Call,
-) -> Turn
+) -> Option<Turn>
     requires entries_ready { EntriesReady plan.now keys.now site.call }
     requires site_in_range { SiteInRange plan.now site }
     ensures { record { turn = result; cells = cells.new }
@@ -46,18 +46,8 @@ fn step_place(
         (step_place (view_in block.now plan.now keys.now site.call body) site.place site.count regs
         cells.old) }
 {
-    let d = due(block, plan, site, regs, body);
-    if !d.sound {
-        return damaged();
-    }
-    let counted = Site {
-        call: site.call,
-        place: site.place,
-        count: d.count,
-    };
-    let uses = d.uses;
-    let action = d.action;
-    perform(plan, keys, cells, counted, uses, action)
+    let due = due(block, plan, site, regs, body)?;
+    perform(plan, keys, cells, site, due)
 }
 
 // The place: entry, or 0 to the code's length.
@@ -91,6 +81,7 @@ fn record_of(block: &[u8], start: usize, call: usize) -> CallBody
 }
 
 // The call that a worker holds, in a run whose first call record starts at `start`: what its place comes to.
+#[tactic(auto, unfolding(machine::specs::Moves::step_held, machine::specs::Moves::step_record, machine::specs::Moves::stepped, machine::specs::Step::concluded))]
 fn step_held(
     hold: Hold,
     start: usize,
@@ -100,7 +91,7 @@ fn step_held(
     cells: &mut [i64],
     seats: &[u64],
     frames: &[i64],
-) -> Turn
+) -> Option<Turn>
     requires entries_ready { EntriesReady plan.now keys.now hold.call }
     requires frames_in_bounds { fixed_sizes.frames ≤ length frames.now }
     ensures { (head : Head) (status : List ℕ) → start ≡ head.first_call
@@ -117,10 +108,10 @@ fn step_held(
         count: count_of(seats, worker),
     };
     if !in_range(plan, site) {
-        return damaged();
+        return None;
     }
     let CallBody::InRange(body) = record_of(block, start, call) else {
-        return damaged();
+        return None;
     };
     let regs = regs_of(frames, worker);
     step_place(block, plan, keys, cells, site, regs, body)
@@ -179,7 +170,7 @@ fn settle(
     status: &mut [u64],
     seats: &mut [u64],
     frames: &mut [i64],
-    turn: Turn,
+    turn: Option<Turn>,
 ) -> Result<u16, Answer>
     requires plan_in_bounds { fixed_sizes.plan ≤ length plan.now }
     requires frames_in_bounds { fixed_sizes.frames ≤ length frames.old }
@@ -190,25 +181,21 @@ fn settle(
         ≡ turn_settled head plan.now keys cells.old status.old seats.old frames.old
         hold.worker hold.call turn }
 {
-    let fate = turn.fate;
-    let regs = turn.regs;
-    match fate {
-        Fate::Broken => Err(Answer::Damaged),
-        Fate::Going(place) => {
-            put_seat(seats, hold.worker, place as u64, turn.count);
+    match turn {
+        None => Err(Answer::Damaged),
+        Some(Turn::Going { place, count, regs }) => {
+            put_seat(seats, hold.worker, place as u64, count);
             put_regs(frames, hold.worker, regs);
             Ok(hold.held())
         }
-        Fate::Over(outcome) => finish(hold, plan, cells, status, frames, outcome, turn.count),
+        Some(Turn::Over { outcome, count }) => finish(
+            hold, plan, cells, status, frames, outcome, count,
+        ),
     }
 }
 
 // STEP(worker) on a lent run and block: the answer and the head, with the cells, the status, the seats and the frames changed in place.
-#[tactic(
-    auto,
-    using(crate::proofs::HeldLaws::sizes_known),
-    unfolding(machine::specs::Moves::held_by, machine::specs::Moves::step_for)
-)]
+#[tactic(auto, using(crate::proofs::HeldLaws::sizes_known), unfolding(machine::specs::Moves::held_by, machine::specs::Moves::step_for))]
 pub fn step(
     head: Head,
     block: &[u8],
