@@ -1,4 +1,4 @@
-// The tests of a closing sheet. The loops over the calls count down, as their definitions do.
+// The tests of a closing sheet.
 ghost use Rattle.std.specs.Prelude.{◌≡◌, ◌&&◌, ◌||◌, not, ◌/◌, ◌%◌, ◌^◌, ◌<◌, ◌≤◌, eqb, leb};
 ghost use Rattle.std.specs.Int.Signed.{non_neg};
 ghost use Rattle.block.specs.Limits.{max_calls, max_keys};
@@ -27,14 +27,7 @@ pub(crate) fn states_allowed(status: &[u64], calls: usize) -> bool
     requires { calls ≤ max_calls }
     ensures { result ≡ states_allowed status.now calls }
 {
-    let mut left = calls;
-    while 0 < left {
-        left -= 1;
-        if FINISHED < status_word(status, left, STATE_WORD) {
-            return false;
-        }
-    }
-    true
+    (0..calls).all(|call| status_word(status, call, STATE_WORD) <= FINISHED)
 }
 
 // Whether all calls are finished.
@@ -42,14 +35,7 @@ pub(crate) fn all_finished(status: &[u64], calls: usize) -> bool
     requires { calls ≤ max_calls }
     ensures { result ≡ all_finished status.now calls }
 {
-    let mut left = calls;
-    while 0 < left {
-        left -= 1;
-        if status_word(status, left, STATE_WORD) != FINISHED {
-            return false;
-        }
-    }
-    true
+    (0..calls).all(|call| status_word(status, call, STATE_WORD) == FINISHED)
 }
 
 // A receipt's outcome and count are in their ranges.
@@ -64,16 +50,12 @@ pub(crate) fn receipts_allowed(status: &[u64], calls: usize) -> bool
     requires { calls ≤ max_calls }
     ensures { result ≡ receipts_allowed status.now calls }
 {
-    let mut left = calls;
-    while 0 < left {
-        left -= 1;
-        let outcome = status_word(status, left, OUTCOME_WORD);
-        let count = status_word(status, left, COUNT_WORD);
-        if !receipt_allowed(outcome, count) {
-            return false;
-        }
-    }
-    true
+    (0..calls).all(|call| {
+        receipt_allowed(
+            status_word(status, call, OUTCOME_WORD),
+            status_word(status, call, COUNT_WORD),
+        )
+    })
 }
 
 // A balance, which is a cell of field 0, is not below zero.
