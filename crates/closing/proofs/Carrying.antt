@@ -39,9 +39,6 @@ module _ {records : List (List ℕ)} {before output : List ℕ} {at : ℕ} where
             ∙ ap (stored before 0) (sym (joined_append front part) ∙ ap flatten (sym more));
       }
 
-  pub carried_length : {k : ℕ} → Carried records before k at output → length output ≡ length before
-  carried_length {k} c = ap length c.written ∙ stored_length (flatten (take k records)) before 0
-
 -- ---- those of a sheet
 
 -- A record without a body is its head.

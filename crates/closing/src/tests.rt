@@ -7,7 +7,6 @@ ghost use Rattle.block.specs.Outcomes.{last_outcome, max_count};
 ghost use Rattle.sheet.specs.Sheet.{states_allowed, all_finished, receipts_allowed};
 ghost use Rattle.closing.specs.Found.{found_in};
 
-use crate::Found;
 use block::format::{FIELD_BASE, FIELDS};
 use block::outcomes::{LAST_OUTCOME, MAX_COUNT};
 use footprint::layout::KEY_WORDS;
@@ -42,7 +41,7 @@ pub(crate) fn all_finished(status: &[u64], calls: usize) -> bool
 fn receipt_allowed(outcome: u64, count: u64) -> bool
     ensures { result ≡ (leb outcome last_outcome && leb count max_count) }
 {
-    (outcome <= LAST_OUTCOME) & (count <= MAX_COUNT)
+    outcome <= LAST_OUTCOME && count <= MAX_COUNT
 }
 
 // Whether the receipt of each call is one.
@@ -62,29 +61,24 @@ pub(crate) fn receipts_allowed(status: &[u64], calls: usize) -> bool
 fn balance_allowed(high: u64, value: i64) -> bool
     ensures { result ≡ (not (eqb (high / 2 ^ 32 % 2 ^ 16) 0) || non_neg value) }
 {
-    if high / FIELD_BASE % FIELDS != 0 {
-        return true;
-    }
-    !arith::less(value, 0)
+    high / FIELD_BASE % FIELDS != 0 || value >= 0
 }
 
-// One look at each cell, for 20 and for 28: how many of the cells have a record, or that a balance is below zero.
-pub(crate) fn cells_found(keys: &[u64], cells: &[i64], count: usize) -> Found
+// One look at each cell, for 20 and for 28: how many of the cells have a record, or none where a balance is below zero.
+pub(crate) fn cells_found(keys: &[u64], cells: &[i64], count: usize) -> Option<usize>
     requires { count ≤ max_keys }
     ensures { result ≡ found_in keys.now cells.now count }
 {
     let mut records = 0;
-    let mut n = 0;
-    while n < count {
+    for n in 0..count {
         let value = wire::value(cells, n);
         let high = wire::word(keys, KEY_WORDS * n);
         if !balance_allowed(high, value) {
-            return Found::BelowZero;
+            return None;
         }
         if arith::unsigned64(value) != 0 {
             records += 1;
         }
-        n += 1;
     }
-    Found::Records(records)
+    Some(records)
 }

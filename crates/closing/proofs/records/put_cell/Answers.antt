@@ -10,21 +10,6 @@ returns-then-bits-eq0 c =
     let bits = bits_told {v = c.value.result} (record { sfits = c.value.type_inv }) c.unsigned64-bits.ensures c.value.ensures in
     record { output_after = (nothing_stored c.args.output.now c.args.at (cell_zero _ _ (sym bits ∙ c.if-bits-eq0.true))).0; value = (nothing_stored c.args.output.now c.args.at (cell_zero _ _ (sym bits ∙ c.if-bits-eq0.true))).1 }
 
-pub overflow_mul-n : goal.overflow_mul-n
-overflow_mul-n c = omega arith
-
-pub overflow_mul-n-2 : goal.overflow_mul-n-2
-overflow_mul-n-2 c = omega arith
-
-pub overflow_add-n : goal.overflow_add-n
-overflow_add-n c = omega arith
-
-pub overflow_add-result : goal.overflow_add-result
-overflow_add-result c = omega arith
-
-pub overflow_add-result-2 : goal.overflow_add-result-2
-overflow_add-result-2 c = omega arith
-
 pub returns : goal.returns
 returns c =
     let bits = bits_told {v = c.value.result} (record { sfits = c.value.type_inv }) c.unsigned64-bits.ensures c.value.ensures in
