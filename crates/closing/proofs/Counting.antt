@@ -1,14 +1,11 @@
 -- A test of every number below a bound, by a loop over the numbers: one law, and each test of the calls of a sheet as an instance.
 use mathlib.Core.Path.{◌≡◌, refl, sym, ap, ◌∙◌}
-use mathlib.Core.Bool.{Bool, true, false, ◌&&◌, not}
+use mathlib.Core.Bool.{Bool, true, false, ◌&&◌}
 use mathlib.Core.List.{List}
 use Prim.Native.Nat.{ℕ, zero, suc, ◌+◌}
 use Rattle.std.specs.List.{list_all, range_with_len}
 use native.Mathlib.Omega.{arith}
-use borrow.Author.Tests.{le-ltb}
-use lib.Dec.{eqb, leb, ltb}
-use lib.IntN.{ℤ, pos, negsuc}
-use lib.Signed.{lt_z, non_neg}
+use lib.Dec.{eqb, leb}
 use Rattle.machine.specs.Run.{status_word, state_of, is_state, finished}
 use Rattle.block.specs.Outcomes.{last_outcome, max_count}
 use Rattle.sheet.specs.Sheet.{states_allowed, all_finished, receipts_allowed}
@@ -64,8 +61,3 @@ module _ (status : List ℕ) where
   pub allowed_turn : (n : ℕ) → receipts_allowed status (suc n) ≡ (receipt_allowed n && receipts_allowed status n)
   unfolding receipts_allowed
   allowed_turn n = refl
-
--- A number is not below zero where it is not less than zero.
-pub not_less : (z : ℤ) → not (lt_z z (pos 0)) ≡ non_neg z
-not_less (pos n) = let e : ltb n 0 ≡ false = le-ltb n 0 (omega arith) in ap not e
-not_less (negsuc n) = refl

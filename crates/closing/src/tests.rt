@@ -76,7 +76,7 @@ pub(crate) fn cells_found(keys: &[u64], cells: &[i64], count: usize) -> Option<u
         if !balance_allowed(high, value) {
             return None;
         }
-        if arith::unsigned64(value) != 0 {
+        if value != 0 {
             records += 1;
         }
     }

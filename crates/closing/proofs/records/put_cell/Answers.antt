@@ -1,5 +1,4 @@
 -- `closing::records::put_cell` meets its contract: the record is stored for a value other than zero, and nothing for zero.
-use native.Mathlib.Omega.{arith}
 use mathlib.Core.Path.{sym, ◌∙◌}
 use Rattle.closing.proofs.Finding.{bits_told, cell_zero, cell_one, cell_size, cell_told}
 use Rattle.closing.proofs.Storing.{nothing_stored, one_stored}
