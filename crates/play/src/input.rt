@@ -10,7 +10,7 @@ ghost use Rattle.play.specs.Shown.{fresh_session, shown, shown_from};
 
 use crate::apply::apply_move;
 use crate::line::{line_move, read_byte};
-use crate::{LineMove, Played, Session, Told};
+use crate::{Played, Session, Told};
 use console::Line;
 use machine::numbers::answer_number;
 use machine::{Answer, Head};
@@ -81,15 +81,13 @@ fn play_line(
         frames.old))) }
 {
     match line_move(line) {
-        LineMove::NoMove => play_malformed(number, head, out, from),
-        LineMove::Move(m) => {
+        None => play_malformed(number, head, out, from),
+        Some(m) => {
             let reply = apply_move(head, block, plan, keys, cells, status, seats, frames, m);
-            let after = reply.head;
-            let answer = reply.answer;
-            let end = answer_line(out, from, number, answer);
+            let end = answer_line(out, from, number, reply.answer);
             Told {
                 number: next_number(number),
-                head: after,
+                head: reply.head,
                 end,
             }
         }

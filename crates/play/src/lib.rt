@@ -8,14 +8,6 @@ pub mod records;
 
 use console::Line;
 use machine::Head;
-use schedule::Move;
-
-// What a whole line names: a move, or, in no such form, none.
-#[derive(Clone, Copy)]
-pub enum LineMove {
-    Move(Move),
-    NoMove,
-}
 
 // Where the reading of the input stands: the number of the line from 1, what is read of it, and the head of the run.
 #[derive(Clone, Copy)]
