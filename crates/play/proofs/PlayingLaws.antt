@@ -69,11 +69,6 @@ take_most chunk n {end} e = go (leb n (length chunk)) refl
         let f : end ≡ length chunk = omega arith in
         rw (f, take_all n chunk (omega arith)) (take-length chunk)
 
--- The next of a piece's first bytes.
-pub byte_next : (chunk : List ℕ) (end at : ℕ) → end ≤ length chunk → at < end → drop at (take end chunk) ≡ get_or chunk at 0 ∷ drop (at + 1) (take end chunk)
-byte_next chunk end at fits l =
-    drop-cons (take end chunk) at 0 (rw (length-take-le end chunk fits) l) ∙ rw (get_or-take end chunk at 0 l, add-one at)
-
 -- A piece played up to a position: what is shown so far, and what is left.
 pub record Playing (block piece : List ℕ) (w : Shown) (at : ℕ) (v : Shown) : Type 0 where
   pub same : resumed block piece w ≡ resumed block (drop at piece) v
@@ -83,9 +78,11 @@ pub playing_start : (block piece : List ℕ) (w : Shown) → w.end ≡ 0 → Pla
 playing_start block piece w e = record { same = refl; short = omega (arith, e) }
 
 module _ {block piece : List ℕ} {w : Shown} {at : ℕ} {v : Shown} (g : Playing block piece w at v) where
-  pub playing_on : {x : ℕ} → drop at piece ≡ x ∷ drop (at + 1) piece → {u : Shown} → u ≡ byte_on block x v → Playing block piece w (at + 1) u
+  pub playing_on : at < length piece → {u : Shown} → u ≡ byte_on block (get_or piece at 0) v → Playing block piece w (at + 1) u
   unfolding play_bytes
-  playing_on {x} next {u} e =
+  playing_on l {u} e =
+      let x : ℕ = get_or piece at 0 in
+      let next : drop at piece ≡ x ∷ drop (at + 1) piece = drop-cons piece at 0 l ∙ rw (add-one at) refl in
       let s : Session = fresh_session v.number v.line v.run in
       let grown : u.end ≡ v.end + length (play_byte block s x).output = ap (λ (t : Shown). t.end) e in
       record {
@@ -104,9 +101,7 @@ module _ {block piece : List ℕ} {w : Shown} {at : ℕ} {v : Shown} (g : Playin
       let here : resumed block (drop at piece) v ≡ v = rw (none, add-zero) in
       sym (g.same ∙ here)
 
--- A piece played from its start to its end.
-pub playing_all : (block chunk : List ℕ) (n : ℕ) {end at : ℕ} → end ≡ min n (length chunk) → end ≤ at → {w v : Shown} → Playing block (take end chunk) w at v
+-- The first bytes of a piece, played from the start to the end.
+pub playing_all : (block chunk : List ℕ) (n : ℕ) {end at : ℕ} → end ≡ min n (length chunk) → length (take end chunk) ≤ at → {w v : Shown} → Playing block (take end chunk) w at v
     → v ≡ resumed block (take n chunk) w
-playing_all block chunk n {end} {at} e l {w} g =
-    let long : length (take end chunk) ≡ end = length-take-le end chunk (at_most_fits chunk n e).0 in
-    playing_end g (rw long l) ∙ ap (λ (ys : List ℕ). resumed block ys w) (take_most chunk n e)
+playing_all block chunk n e l {w} g = playing_end g l ∙ ap (λ (ys : List ℕ). resumed block ys w) (take_most chunk n e)

@@ -5,7 +5,6 @@ ghost use Rattle.play.specs.Printed.{TurnsWithin, Printed};
 ghost use Rattle.text.specs.Written.{Written};
 
 use crate::Reading;
-use crate::input::at_most;
 use block::format::{CELL_KIND, HEAD_BYTES, RECEIPT_KIND};
 use block::limits::{MAX_CALLS, MAX_KEYS};
 use text::{cell_line, receipt_line};
@@ -99,6 +98,6 @@ fn put_records(sheet: &[u8], out: &mut [u8]) -> usize
 pub fn sheet_text(sheet: &[u8], n: u16, out: &mut [u8]) -> usize
     ensures { Written out.old out.new 0 result (sheet_text (take n sheet.now)) }
 {
-    let end = at_most(n, sheet.len());
+    let end = sheet.len().min(usize::from(n));
     put_records(&sheet[..end], out)
 }
