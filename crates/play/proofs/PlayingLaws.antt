@@ -9,7 +9,7 @@ use native.Mathlib.Omega.{arith}
 use borrow.Author.Tests.{leb-true, leb-false, eq-eqb, ne_eqb}
 use lib.Dec.{eqb, leb}
 use lib.ListN.{length, get_or, take, drop, length-append, drop_of_length-le}
-use lib.Seq.{drop-cons, get_or-take, take_all, take-length, length-take-le}
+use lib.Seq.{drop-cons, take_all, take-length}
 use Rattle.wire.specs.Bytes.{stored}
 use Rattle.wire.proofs.BytesLaws.{stored_append}
 use Rattle.wire.specs.Decimal.{line_feed}
@@ -56,9 +56,6 @@ module _ (block : List ℕ) (number : ℕ) (line : Line) (run : Run) (out : List
   unfolding play_byte stored
   byte_read e is = let t : eqb x line_feed ≡ false = ne_eqb x line_feed e in rw (t, play_byte, is, add-zero) refl
 
-pub at_most_fits : (chunk : List ℕ) (n : ℕ) {end : ℕ} → end ≡ min n (length chunk) → (end ≤ length chunk) × (end ≤ n)
-at_most_fits chunk n e = (omega (arith, e), omega (arith, e))
-
 pub take_most : (chunk : List ℕ) (n : ℕ) {end : ℕ} → end ≡ min n (length chunk) → take end chunk ≡ take n chunk
 take_most chunk n {end} e = go (leb n (length chunk)) refl
   where
@@ -73,9 +70,6 @@ take_most chunk n {end} e = go (leb n (length chunk)) refl
 pub record Playing (block piece : List ℕ) (w : Shown) (at : ℕ) (v : Shown) : Type 0 where
   pub same : resumed block piece w ≡ resumed block (drop at piece) v
   pub short : v.end ≤ max_answer * at
-
-pub playing_start : (block piece : List ℕ) (w : Shown) → w.end ≡ 0 → Playing block piece w 0 w
-playing_start block piece w e = record { same = refl; short = omega (arith, e) }
 
 module _ {block piece : List ℕ} {w : Shown} {at : ℕ} {v : Shown} (g : Playing block piece w at v) where
   pub playing_on : at < length piece → {u : Shown} → u ≡ byte_on block (get_or piece at 0) v → Playing block piece w (at + 1) u

@@ -32,11 +32,10 @@ pub struct Told {
     pub end: usize,
 }
 
-// The records of a sheet, read up to a position: the number of the next receipt, how many turns are left, and where the text ends.
+// The records of a sheet, read up to a position: the number of the next receipt, and where the text ends.
 #[derive(Clone, Copy)]
 pub struct Reading {
     pub at: usize,
     pub call: u64,
-    pub left: usize,
     pub end: usize,
 }

@@ -171,10 +171,7 @@ pub fn line_move(line: Line) -> Option<Move>
     match line {
         Line::First { letter, number, .. } => move_for(letter, number),
         Line::Second { worker, number, .. } => Some(Move::Begin(worker, number)),
-        Line::Empty
-        | Line::Named(_)
-        | Line::Spaced(_)
-        | Line::Between { .. }
-        | Line::Malformed => None,
+        Line::Empty | Line::Named(_) | Line::Spaced(_) | Line::Between { .. } | Line::Malformed =>
+            None,
     }
 }

@@ -1,6 +1,4 @@
 use Rattle.moves.specs.Lent.{lent}
-use lib.ListN.{length}
-use mathlib.Core.Path.{◌≡◌}
 use Rattle.play.specs.Shown.{shown_from}
 use Rattle.play.proofs.PlayingLaws.{Playing}
 use Rattle.play.proofs.input.play_chunk.Given as goal
