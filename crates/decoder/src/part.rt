@@ -6,11 +6,7 @@ ghost use Rattle.wire.specs.Bytes.{read_le};
 pub fn from(s: &[u8], at: usize) -> &[u8]
     ensures { result.now ≡ drop at s.now }
 {
-    if s.len() < at {
-        let end = s.len();
-        return &s[end..];
-    }
-    &s[at..]
+    s.get(at..).unwrap_or(&[])
 }
 
 // The number of 16 bits at a position.
