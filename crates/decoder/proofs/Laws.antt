@@ -9,7 +9,7 @@ use lib.Seq.{length-take-le}
 use lib.Signed.{non_neg}
 use borrow.Author.Tests.{lt-ltb, le-ltb, le-leb, lt-leb, eq-eqb, ne_eqb}
 use Rattle.wire.specs.Bytes.{read_le}
-use Rattle.wire.proofs.BytesLaws.{read_suc, read_one, read_taken}
+use Rattle.wire.proofs.BytesLaws.{read_suc, read_one, read_lt, read_taken}
 use Rattle.arith.specs.Exact.{signed}
 use Rattle.block.specs.Key.{first_contract, withdrawn, address_of, address_number, payee_of}
 use Rattle.block.proofs.KeyLaws.{number_named, account_below, contract_above}
@@ -30,22 +30,29 @@ pub decode_parts_lem : (size : ℕ) (s : List ℕ) {op x y z w : ℕ} → op ≡
 decode_parts_lem size s p q r t u =
     simp (p ∙ sym (read_one s 0), q ∙ sym (read_one s 1), r ∙ sym (read_one s 2), t ∙ sym (read_one s 3), u)
 
--- They stand in the word of the eight bytes at a position, each at its place value.
-pub decode_word : (size : ℕ) (s : List ℕ) (at : ℕ) {word : ℕ} → AreBytes s → word ≡ read_le 8 s at
-    → decode_parts size (word % 256) (word / 256 % 256) (word / 65536 % 256) (word / 16777216 % 256) (word / 4294967296)
-    ≡ decode size (drop at s)
-decode_word size s at {word} bytes e =
+-- The upper four bytes of a word of eight.
+four_bytes : (n : ℕ) → n / 4294967296 < 4294967296
+    → n / 4294967296 % 256 + n / 1099511627776 % 256 * 256 + n / 281474976710656 % 256 * 65536 + n / 72057594037927936 % 256 * 16777216 ≡ n / 4294967296
+four_bytes n h = omega arith
+
+-- They are the bytes of the word at a position, w the last four of them.
+pub decode_word : (size : ℕ) (s : List ℕ) (at : ℕ) {word w : ℕ} → AreBytes s → word ≡ read_le 8 s at
+    → w ≡ word / 4294967296 % 256 + word / 1099511627776 % 256 * 256 + word / 281474976710656 % 256 * 65536 + word / 72057594037927936 % 256 * 16777216
+    → decode_parts size (word % 256) (word / 256 % 256) (word / 65536 % 256) (word / 16777216 % 256) w ≡ decode size (drop at s)
+decode_word size s at {word} {w} bytes e f =
     let t : List ℕ = drop at s in
     let small : AreBytes t = bytes_drop at s bytes in
-    let b : get_or t 0 0 < 256 = small 0 in
-    let c : get_or t 1 0 < 256 = small 1 in
-    let d : get_or t 2 0 < 256 = small 2 in
-    let f : get_or t 3 0 < 256 = small 3 in
+    let b₀ : get_or t 0 0 < 256 = small 0 in
+    let b₁ : get_or t 1 0 < 256 = small 1 in
+    let b₂ : get_or t 2 0 < 256 = small 2 in
+    let b₃ : get_or t 3 0 < 256 = small 3 in
     let op : word ≡ get_or t 0 0 + 256 * read_le 7 t 1 = e ∙ read_suc 7 t 0 in
     let x : read_le 7 t 1 ≡ get_or t 1 0 + 256 * read_le 6 t 2 = read_suc 6 t 1 in
     let y : read_le 6 t 2 ≡ get_or t 2 0 + 256 * read_le 5 t 3 = read_suc 5 t 2 in
     let z : read_le 5 t 3 ≡ get_or t 3 0 + 256 * read_le 4 t 4 = read_suc 4 t 3 in
-    decode_parts_lem size t (omega arith) (omega arith) (omega arith) (omega arith) (omega arith)
+    let high : word / 4294967296 ≡ read_le 4 t 4 = omega arith in
+    let below : read_le 4 t 4 < 4294967296 = read_lt 4 t small 4 in
+    decode_parts_lem size t (omega arith) (omega arith) (omega arith) (omega arith) (f ∙ four_bytes word (omega arith) ∙ high)
 
 -- What the address of a number that was read is.
 pub address_read : {r x : Address} {n m : ℕ} → r ≡ address_of n → n ≡ m → r ≡ x → address_of m ≡ x

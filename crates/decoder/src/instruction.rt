@@ -52,17 +52,6 @@ const FROM_CONSTANT: u8 = 6;
 // w holds the field in its lower half and the constant in its upper one.
 const HALF: u32 = 65536;
 
-// The eight bytes are read as one word: how many numbers a byte holds, and the place values of x, y, z and w in the word.
-const BYTE: u64 = 256;
-
-const PLACE_X: u64 = 256;
-
-const PLACE_Y: u64 = 65536;
-
-const PLACE_Z: u64 = 16777216;
-
-const PLACE_W: u64 = 4294967296;
-
 // Where a part of a key or a target comes from.
 #[tactic(auto, unfolding(block::specs::Instruction::source_of))]
 fn source_of(n: u8, w: u32) -> Source
@@ -91,15 +80,14 @@ fn allowed(rule: bool, i: Instr) -> Decoded
 fn decode_end(x: u8, y: u8, z: u8, w: u32, i: Instr) -> Decoded
     ensures { result ≡ allowed (eqb x 0 && eqb y 0 && eqb z 0 && eqb w 0) i }
 {
-    let rule = (x == 0) & (y == 0) & (z == 0) & (w == 0);
-    allowed(rule, i)
+    allowed(x == 0 && y == 0 && z == 0 && w == 0, i)
 }
 
 #[tactic(auto, unfolding(block::specs::Instruction::decode_set))]
 fn decode_set(x: u8, y: u8, z: u8, w: u32) -> Decoded
     ensures { result ≡ decode_set x y z w }
 {
-    let rule = (x <= LAST_REGISTER) & (y == 0) & (z == 0);
+    let rule = x <= LAST_REGISTER && y == 0 && z == 0;
     let value = arith::signed32(w);
     allowed(rule, Instr::Set { x, value })
 }
@@ -108,7 +96,7 @@ fn decode_set(x: u8, y: u8, z: u8, w: u32) -> Decoded
 fn decode_arg(x: u8, y: u8, z: u8, w: u32) -> Decoded
     ensures { result ≡ decode_arg x y z w }
 {
-    let rule = (x <= LAST_REGISTER) & ((1 <= y) & (y <= LAST_ARGUMENT)) & (z == 0) & (w == 0);
+    let rule = x <= LAST_REGISTER && 1 <= y && y <= LAST_ARGUMENT && z == 0 && w == 0;
     allowed(rule, Instr::Arg { x, argument: y })
 }
 
@@ -116,14 +104,14 @@ fn decode_arg(x: u8, y: u8, z: u8, w: u32) -> Decoded
 fn decode_fact(x: u8, y: u8, z: u8, w: u32, i: Instr) -> Decoded
     ensures { result ≡ decode_fact x y z w i }
 {
-    let rule = (x <= LAST_REGISTER) & (y == 0) & (z == 0) & (w == 0);
+    let rule = x <= LAST_REGISTER && y == 0 && z == 0 && w == 0;
     allowed(rule, i)
 }
 
 fn decode_arith(x: u8, y: u8, z: u8, w: u32, i: Instr) -> Decoded
     ensures { result ≡ allowed (is_register x && is_register y && is_register z && eqb w 0) i }
 {
-    let rule = (x <= LAST_REGISTER) & (y <= LAST_REGISTER) & (z <= LAST_REGISTER) & (w == 0);
+    let rule = x <= LAST_REGISTER && y <= LAST_REGISTER && z <= LAST_REGISTER && w == 0;
     allowed(rule, i)
 }
 
@@ -132,27 +120,28 @@ fn decode_arith(x: u8, y: u8, z: u8, w: u32, i: Instr) -> Decoded
 fn decode_cell(op: u8, x: u8, y: u8, z: u8, w: u32) -> Decoded
     ensures { result ≡ decode_cell op x y z w }
 {
-    let constant = (y == FROM_CONSTANT) | (z == FROM_CONSTANT) | (w / HALF == 0);
-    let rule = (x <= LAST_REGISTER)
-        & (y <= LAST_SOURCE)
-        & (z <= LAST_SOURCE)
-        & (w % HALF != 0)
-        & constant;
+    let constant = y == FROM_CONSTANT || z == FROM_CONSTANT || w / HALF == 0;
+    let rule = x <= LAST_REGISTER
+        && y <= LAST_SOURCE
+        && z <= LAST_SOURCE
+        && w % HALF != 0
+        && constant;
     let field = (w % HALF) as u16;
     let a = source_of(y, w);
     let b = source_of(z, w);
     if op == GET {
-        return allowed(rule, Instr::Get { x, field, a, b });
+        allowed(rule, Instr::Get { x, field, a, b })
+    } else {
+        allowed(rule, Instr::Put { x, field, a, b })
     }
-    allowed(rule, Instr::Put { x, field, a, b })
 }
 
 #[tactic(auto, unfolding(block::specs::Instruction::decode_pay))]
 fn decode_pay(x: u8, y: u8, z: u8, w: u32) -> Decoded
     ensures { result ≡ decode_pay x y z w }
 {
-    let constant = (y == FROM_CONSTANT) | (w / HALF == 0);
-    let rule = (x <= LAST_REGISTER) & (y <= LAST_SOURCE) & (z == 0) & (w % HALF == 0) & constant;
+    let constant = y == FROM_CONSTANT || w / HALF == 0;
+    let rule = x <= LAST_REGISTER && y <= LAST_SOURCE && z == 0 && w % HALF == 0 && constant;
     let target = source_of(y, w);
     allowed(rule, Instr::Pay { x, target })
 }
@@ -161,7 +150,7 @@ fn decode_jump(size: usize, x: u8, y: u8, z: u8, w: u32, i: Instr) -> Decoded
     ensures { result ≡ allowed (is_register x && is_register y && eqb z 0 && leb w size) i }
 {
     let to = w as usize;
-    let rule = (x <= LAST_REGISTER) & (y <= LAST_REGISTER) & (z == 0) & (to <= size);
+    let rule = x <= LAST_REGISTER && y <= LAST_REGISTER && z == 0 && to <= size;
     allowed(rule, i)
 }
 
@@ -194,12 +183,8 @@ fn decode_parts(size: usize, op: u8, x: u8, y: u8, z: u8, w: u32) -> Decoded
 pub fn decode(code: &[u8], at: usize, size: usize) -> Decoded
     ensures { result ≡ decode size (drop at code.now) }
 {
-    let word = wire::get64(code, at);
-    let op = (word % BYTE) as u8;
-    let x = (word / PLACE_X % BYTE) as u8;
-    let y = (word / PLACE_Y % BYTE) as u8;
-    let z = (word / PLACE_Z % BYTE) as u8;
-    let w = (word / PLACE_W) as u32;
+    let [op, x, y, z, w0, w1, w2, w3] = wire::get64(code, at).to_le_bytes();
+    let w = u32::from_le_bytes([w0, w1, w2, w3]);
     decode_parts(size, op, x, y, z, w)
 }
 

@@ -1,4 +1,4 @@
--- `block::record::call_in` meets its contract: the addresses and the value that it reads are those that the definition tests.
+-- `decoder::record::call_in` meets its contract: the addresses and the value that it reads are those that the definition tests.
 use mathlib.Core.Path.{sym, ap, ◌∙◌}
 use lib.Signed.{non_neg}
 use Rattle.arith.proofs.Laws.{read_back}
