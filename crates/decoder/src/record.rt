@@ -80,6 +80,7 @@ pub fn code_at(block: &[u8], start: usize, size: usize) -> &[u8]
 }
 
 // The call of a body.
+#[tactic(auto, unfolding(block::specs::Record::call_of, block::specs::Key::address_of))]
 fn call_in(s: &[u8]) -> CallBody
     requires { call_bytes ≤ length s.now }
     ensures { result ≡ call_of s.now }
