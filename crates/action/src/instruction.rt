@@ -9,6 +9,7 @@ ghost use Rattle.block.specs.Naming.{target_of};
 ghost use Rattle.machine.specs.Action.{assign, checked_action, doing, jump, pay_action};
 ghost use Rattle.block.specs.Outcomes.{ended, thrown};
 
+// Stays: document 01 names each instruction's own function, with the registers by value (a); they differ in one call each.
 use arith::Checked;
 use block::outcomes::{ENDED, NOT_PAID, OUT_OF_RANGE, THROWN, ZERO_DIVISOR};
 use block::{Call, Payee, Source};
@@ -25,6 +26,7 @@ fn register(regs: [i64; REGISTERS], x: usize) -> i64
 }
 
 // The registers with a value in x; one that does not exist takes none.
+// Stays: a test and a store (c); with a store through regs.get_mut(x) the check leaves what the registers become open.
 fn with_register(mut regs: [i64; REGISTERS], x: usize, v: i64) -> [i64; REGISTERS]
     ensures { result ≡ set regs x v }
 {

@@ -6,6 +6,7 @@ ghost use Rattle.block.specs.Instruction.{is_register, source_of, allowed, decod
 use block::{Decoded, Instr, Source};
 
 // The opcodes.
+// Stays: they are numbers (d), bytes of the code, which one match names each; an enum would repeat them in a conversion.
 const STOP: u8 = 0;
 
 const THROW: u8 = 1;

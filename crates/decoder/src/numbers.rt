@@ -4,6 +4,7 @@ ghost use Rattle.block.specs.Refusal.{number_of, offset_of};
 
 use block::Refusal;
 
+// Stays: document 01's numbers of refusals (a), each function the definition of its name in block/specs/Refusal.antt.
 // The number of a refusal.
 #[tactic(auto, unfolding(block::specs::Refusal::number_of))]
 pub fn number_of(why: Refusal) -> u64

@@ -9,6 +9,7 @@ pub fn from(s: &[u8], at: usize) -> &[u8]
     s.get(at..).unwrap_or(&[])
 }
 
+// Stays: short and long are two functions (d); as one, each call would name the type, and the one would tell the types apart.
 // The number of 16 bits at a position.
 pub fn short(s: &[u8], at: usize) -> u16
     ensures { result ≡ read_le 2 s.now at }

@@ -48,6 +48,7 @@ fn read_end(body: &[u8], p: Progress) -> Result<Turn, Refusal>
     Ok(Turn::End)
 }
 
+// Stays: a kind is a number (d); a file has it as 16 bits, and kinds are compared, since they never fall.
 // The body of a record by its kind; it is at the front of the rest of the file.
 #[tactic(auto, unfolding(block::specs::Reader::read_body))]
 fn read_body(body: &[u8], kind: usize, len: usize, p: Progress) -> Result<Turn, Refusal>
