@@ -5,6 +5,8 @@ ghost use Rattle.analysis.specs.KeyTable.{place_in, cell_place, stands_at, Sorte
 
 use block::limits::MAX_KEYS;
 
+// Stays: the words and the number of their keys are two parameters, since `zumbiqa_open` lends words and the table grows into those behind it.
+
 // How many of the n keys are below a key, by binary search.
 fn key_place(keys: &[u64], n: usize, high: u64, low: u64) -> usize
     requires sorted { Sorted n keys.now }
