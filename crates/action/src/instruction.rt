@@ -9,6 +9,7 @@ ghost use Rattle.block.specs.Naming.{target_of};
 ghost use Rattle.machine.specs.Action.{assign, checked_action, doing, jump, pay_action};
 ghost use Rattle.block.specs.Outcomes.{ended, thrown};
 
+// Stays: document 01 names each instruction's own function, with the registers by value (a); they differ in one call each.
 use arith::Checked;
 use block::outcomes::{ENDED, NOT_PAID, OUT_OF_RANGE, THROWN, ZERO_DIVISOR};
 use block::{Call, Payee, Source};
@@ -21,10 +22,11 @@ use machine::{Action, Next};
 fn register(regs: [i64; REGISTERS], x: usize) -> i64
     ensures { result ≡ get_or regs x (pos 0) }
 {
-    if x < REGISTERS { regs[x] } else { 0 }
+    regs.get(x).copied().unwrap_or(0)
 }
 
 // The registers with a value in x; one that does not exist takes none.
+// Stays: a test and a store (c); with a store through regs.get_mut(x) the check leaves what the registers become open.
 fn with_register(mut regs: [i64; REGISTERS], x: usize, v: i64) -> [i64; REGISTERS]
     ensures { result ≡ set regs x v }
 {
@@ -55,6 +57,7 @@ fn end(regs: [i64; REGISTERS], outcome: u64) -> Action
 }
 
 // x takes an exact result; "a result outside 64 signed bits .. with 4"; M-103: a zero divisor with 6.
+#[tactic(auto, unfolding(machine::specs::Action::checked_action))]
 fn assign_checked(place: u32, regs: [i64; REGISTERS], x: usize, r: Checked) -> Action
     ensures { result ≡ checked_action place regs x r }
 {
@@ -111,29 +114,25 @@ pub(crate) fn value(c: Call, place: u32, regs: [i64; REGISTERS], x: usize) -> Ac
 pub(crate) fn add(place: u32, regs: [i64; REGISTERS], x: usize, y: usize, z: usize) -> Action
     ensures { result ≡ checked_action place regs x (add_of (get_or regs y (pos 0)) (get_or regs z (pos 0))) }
 {
-    let sum = arith::add(register(regs, y), register(regs, z));
-    assign_checked(place, regs, x, sum)
+    assign_checked(place, regs, x, arith::add(register(regs, y), register(regs, z)))
 }
 
 pub(crate) fn sub(place: u32, regs: [i64; REGISTERS], x: usize, y: usize, z: usize) -> Action
     ensures { result ≡ checked_action place regs x (sub_of (get_or regs y (pos 0)) (get_or regs z (pos 0))) }
 {
-    let difference = arith::sub(register(regs, y), register(regs, z));
-    assign_checked(place, regs, x, difference)
+    assign_checked(place, regs, x, arith::sub(register(regs, y), register(regs, z)))
 }
 
 pub(crate) fn mul(place: u32, regs: [i64; REGISTERS], x: usize, y: usize, z: usize) -> Action
     ensures { result ≡ checked_action place regs x (mul_of (get_or regs y (pos 0)) (get_or regs z (pos 0))) }
 {
-    let product = arith::mul(register(regs, y), register(regs, z));
-    assign_checked(place, regs, x, product)
+    assign_checked(place, regs, x, arith::mul(register(regs, y), register(regs, z)))
 }
 
 pub(crate) fn div(place: u32, regs: [i64; REGISTERS], x: usize, y: usize, z: usize) -> Action
     ensures { result ≡ checked_action place regs x (div_of (get_or regs y (pos 0)) (get_or regs z (pos 0))) }
 {
-    let quotient = arith::div(register(regs, y), register(regs, z));
-    assign_checked(place, regs, x, quotient)
+    assign_checked(place, regs, x, arith::div(register(regs, y), register(regs, z)))
 }
 
 // What GET and BAL wait for: the value of their cell, which is for x.
@@ -171,23 +170,19 @@ pub(crate) fn bal(regs: [i64; REGISTERS], x: usize, balance: i64) -> [i64; REGIS
 }
 
 // "PAY with 5 if the amount is negative, the target no account, or the contract's balance lower"; M-101: to account 0 too.
+#[tactic(auto, unfolding(machine::specs::Action::pay_action))]
 fn pay_to(regs: [i64; REGISTERS], amount: i64, target: Payee) -> Action
     ensures { result ≡ pay_action regs amount target }
 {
     match target {
-        Payee::Nobody => end(regs, NOT_PAID),
-        Payee::To(_) => {
-            if amount < 0 {
-                return end(regs, NOT_PAID);
-            }
-            Action {
-                next: Next::Transfer {
-                    amount,
-                    short: NOT_PAID,
-                },
-                regs,
-            }
-        }
+        Payee::To(_) if 0 <= amount => Action {
+            next: Next::Transfer {
+                amount,
+                short: NOT_PAID,
+            },
+            regs,
+        },
+        _ => end(regs, NOT_PAID),
     }
 }
 
@@ -195,22 +190,16 @@ fn pay_to(regs: [i64; REGISTERS], amount: i64, target: Payee) -> Action
 pub(crate) fn pay(c: Call, regs: [i64; REGISTERS], x: usize, target: Source) -> Action
     ensures { result ≡ pay_action regs (get_or regs x (pos 0)) (target_of c target) }
 {
-    let amount = register(regs, x);
-    pay_to(regs, amount, payee_of(source_value(c, target)))
+    pay_to(regs, register(regs, x), payee_of(source_value(c, target)))
 }
 
 // A jump: to the instruction if the test holds, else on.
 fn jump(place: u32, regs: [i64; REGISTERS], to: u16, test: bool) -> Action
     ensures { result ≡ jump place regs to test }
 {
-    if test {
-        return Action {
-            next: Next::Go(to as usize + 1),
-            regs,
-        };
-    }
+    let from = if test { u32::from(to) } else { place };
     Action {
-        next: Next::Go(place as usize + 1),
+        next: Next::Go(from as usize + 1),
         regs,
     }
 }
@@ -219,13 +208,11 @@ fn jump(place: u32, regs: [i64; REGISTERS], to: u16, test: bool) -> Action
 pub(crate) fn jeq(place: u32, regs: [i64; REGISTERS], x: usize, y: usize, to: u16) -> Action
     ensures { result ≡ jump place regs to (eq_z (get_or regs x (pos 0)) (get_or regs y (pos 0))) }
 {
-    let test = arith::same(register(regs, x), register(regs, y));
-    jump(place, regs, to, test)
+    jump(place, regs, to, arith::same(register(regs, x), register(regs, y)))
 }
 
 pub(crate) fn jlt(place: u32, regs: [i64; REGISTERS], x: usize, y: usize, to: u16) -> Action
     ensures { result ≡ jump place regs to (lt_z (get_or regs x (pos 0)) (get_or regs y (pos 0))) }
 {
-    let test = arith::less(register(regs, x), register(regs, y));
-    jump(place, regs, to, test)
+    jump(place, regs, to, arith::less(register(regs, x), register(regs, y)))
 }

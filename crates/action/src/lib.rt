@@ -27,6 +27,7 @@ pub struct Acted {
 }
 
 // What an instruction does at a place. Its jump is that of a code's instruction, which 16 bits hold.
+#[tactic(auto, unfolding(machine::specs::Action::instr_action, crate::specs::Acted::jump_of))]
 fn act(c: Call, place: u32, regs: [i64; REGISTERS], i: Instr) -> Action
     requires { jump_of i < 65536 }
     ensures { result ≡ instr_action c place regs i }
@@ -42,19 +43,8 @@ fn act(c: Call, place: u32, regs: [i64; REGISTERS], i: Instr) -> Action
         Instr::Sub { x, y, z } => sub(place, regs, x as usize, y as usize, z as usize),
         Instr::Mul { x, y, z } => mul(place, regs, x as usize, y as usize, z as usize),
         Instr::Div { x, y, z } => div(place, regs, x as usize, y as usize, z as usize),
-        Instr::Get {
-            x,
-            field: _,
-            a: _,
-            b: _,
-        } => load(regs, x as usize),
-        Instr::Put {
-            x,
-            field: _,
-            a: _,
-            b: _,
-        } => put(regs, x as usize),
-        Instr::Bal { x } => load(regs, x as usize),
+        Instr::Get { x, .. } | Instr::Bal { x } => load(regs, x as usize),
+        Instr::Put { x, .. } => put(regs, x as usize),
         Instr::Pay { x, target } => pay(c, regs, x as usize, target),
         Instr::Jeq { x, y, to } => jeq(place, regs, x as usize, y as usize, to as u16),
         Instr::Jlt { x, y, to } => jlt(place, regs, x as usize, y as usize, to as u16),
@@ -62,6 +52,7 @@ fn act(c: Call, place: u32, regs: [i64; REGISTERS], i: Instr) -> Action
 }
 
 // What the bytes at a position of the code hold, which are the instruction at `index` of `size`, and what the call does there.
+#[tactic(auto, using(crate::proofs::JumpLaws::decode_bounded), unfolding(crate::specs::Acted::action_of))]
 pub fn act_at(
     code: &[u8],
     at: usize,
@@ -73,47 +64,35 @@ pub fn act_at(
     ensures { result ≡ acted_of c (index + 1) regs (decode size (drop at code.now)) }
 {
     let decoded = decode(code, at, size as usize);
-    match decoded {
-        Decoded::Valid(i) => Acted {
-            decoded,
-            action: act(c, index as u32 + 1, regs, i),
+    let action = match decoded {
+        Decoded::Valid(i) => act(c, index as u32 + 1, regs, i),
+        Decoded::Invalid => Action {
+            next: Next::Go(index as usize + 1),
+            regs,
         },
-        Decoded::Invalid => Acted {
-            decoded,
-            action: Action {
-                next: Next::Go(index as usize + 1),
-                regs,
-            },
-        },
-    }
+    };
+    Acted { decoded, action }
 }
 
 // The registers behind a load: BAL takes a balance, and GET any other value, since its field is not 0.
 pub fn loaded(balance: bool, regs: [i64; REGISTERS], x: usize, value: i64) -> [i64; REGISTERS]
     ensures { result ≡ set regs x value }
 {
-    if balance {
-        return bal(regs, x, value);
-    }
-    get(regs, x, value)
+    if balance { bal(regs, x, value) } else { get(regs, x, value) }
 }
 
 // "sender's balance below value, outcome 2; else value moves from sender to contract and the place is 0"
+#[tactic(auto, unfolding(machine::specs::Action::entry_action))]
 pub fn enter(c: Call, regs: [i64; REGISTERS]) -> Action
     ensures { result ≡ entry_action c regs }
 {
-    let amount = c.value;
-    if 0 < amount {
-        return Action {
-            next: Next::Transfer {
-                amount,
-                short: BALANCE_TOO_LOW,
-            },
-            regs,
-        };
-    }
-    Action {
-        next: Next::Go(FIRST_PLACE),
-        regs,
-    }
+    let next = if 0 < c.value {
+        Next::Transfer {
+            amount: c.value,
+            short: BALANCE_TOO_LOW,
+        }
+    } else {
+        Next::Go(FIRST_PLACE)
+    };
+    Action { next, regs }
 }

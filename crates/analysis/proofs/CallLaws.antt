@@ -1,16 +1,16 @@
 -- The mathematics of the proofs on the calls' keys, over plain variables: the keys of one set, and the table call by call.
-use mathlib.Core.Path.{◌≡◌, refl, sym, ap, ap₂, ◌∙◌, subst⁻¹}
-use mathlib.Core.Bool.{Bool, true, false}
+use mathlib.Core.Path.{◌≡◌, refl, sym, ap, ap₂, ◌∙◌}
+use mathlib.Core.Bool.{false}
 use mathlib.Core.List.{List, [], ◌∷◌, ◌++◌}
 use Prim.Native.Nat.{ℕ, ◌+◌, ◌*◌, ◌≤◌, ◌<◌}
-use native.Mathlib.Decide.{dec_lt}
 use native.Mathlib.Numerals.{add-one}
 use native.Mathlib.Omega.{arith}
-use borrow.Author.Tests.{ltb-false, le-ltb}
+use borrow.Author.Tests.{le-ltb, lt-ltb}
 use lib.Dec.{ltb}
 use lib.ListN.{length, get_or, take, drop, length-map, drop_of_length-le}
 use lib.Seq.{take-suc, drop-cons}
-use Rattle.std.specs.Prelude.{if◌then◌else◌}
+use Rattle.std.specs.Prelude.{Option}
+use Rattle.std.specs.declared.option.Option.TheVariants.{None, Some}
 use Rattle.wire.specs.Bytes.{padded}
 use Rattle.block.specs.Limits.{max_bytes, max_call_keys, max_keys}
 use Rattle.block.specs.Record.{Block, call_record_bytes}
@@ -25,10 +25,11 @@ use Rattle.footprint.specs.Table.{analysed, refused, analyse, insert_key, insert
 use Rattle.reader.specs.declared.Layout.{Layout}
 use Rattle.analysis.specs.Collected.{leaving, collected_of}
 use Rattle.footprint.proofs.AnalysedLaws.{analyse_over, analyse_full, analyse_next, opening_sound}
-use Rattle.analysis.specs.Filling.{KeysFilled, SetsWorded, set_keys, insert_all, count_of}
-use Rattle.analysis.proofs.FillingLaws.{keys_left, keys_none, set_keys_lem, gathered_worded, insert_all_lem, fitting_all, count_few, count_many, filled_none, filled_full, filled_more}
-use Rattle.analysis.specs.Gathered.{gathered, too_many, columns}
-use Rattle.footprint.specs.KeyWords.{key_from, keys_in}
+use Rattle.analysis.specs.Filling.{KeysFilled, set_key, set_keys, insert_all, count_of}
+use Rattle.analysis.proofs.FillingLaws.{keys_left, keys_none, set_keys_lem, set_worded, insert_all_lem, fitting_all, count_none, count_some, filled_none, filled_full, filled_more}
+use Rattle.analysis.specs.Gathered.{Holds, Worded}
+use Rattle.key_uses.specs.Uses.{no_use}
+use Rattle.footprint.specs.KeyWords.{keys_in}
 use Rattle.analysis.specs.KeyTable.{Inserted, Tabled}
 use Rattle.reader.specs.LayoutOfBlock.{LayoutOfBlock}
 use Rattle.block.specs.BlockOfFile.{block_of, opening_keys}
@@ -46,57 +47,39 @@ use Rattle.analysis.specs.declared.Sets.{Sets}
 
 -- Behind the first i keys: what the rest of them leads to, all of them lead to.
 pub record Filling (n : ℕ) (old : List ℕ) (s : Sets) (words : List ℕ) (count i : ℕ) : Type 0 where
-  pub few : i ≤ s.count
   pub tabled : Tabled count words
   pub kept : length words ≡ length old
-  pub rest : (r : ℕ) (after : List ℕ) → KeysFilled count words (drop i (set_keys s)) r after → KeysFilled n old (set_keys s) r after
-
-pub filling_start : (n : ℕ) (words : List ℕ) (s : Sets) → Tabled n words → Filling n words s words n 0
-filling_start n words s t = record { few = omega arith; tabled = t; kept = refl; rest = λ r after f. f }
+  pub rest : (r : Option ℕ) (after : List ℕ) → KeysFilled count words (drop i (set_keys s)) r after → KeysFilled n old (set_keys s) r after
 
 module _ (n : ℕ) (old : List ℕ) (s : Sets) (words : List ℕ) (count i : ℕ) (g : Filling n old s words count i) where
   abbrev key : ℕ
-  key = key_from (get_or s.highs i 0) (get_or s.lows i 0)
+  key = set_key (get_or (take s.count s.keys) i no_use)
 
-  next_rest : i < s.count → (r : ℕ) (after : List ℕ) → KeysFilled count words (key ∷ drop (i + 1) (set_keys s)) r after → KeysFilled n old (set_keys s) r after
+  next_rest : i < length (take s.count s.keys) → (r : Option ℕ) (after : List ℕ) → KeysFilled count words (key ∷ drop (i + 1) (set_keys s)) r after → KeysFilled n old (set_keys s) r after
   next_rest h r after f = g.rest r after (rw (keys_left s i h) f)
 
-  module _ (h : i < s.count) (r : ℕ) (after : List ℕ) (put : Inserted count words key r after) where
-    pub filling_full : max_keys < r → KeysFilled n old (set_keys s) r after
+  module _ (h : i < length (take s.count s.keys)) (r : ℕ) (after : List ℕ) (put : Inserted count words key r after) where
+    pub filling_full : max_keys < r → KeysFilled n old (set_keys s) None after
     filling_full full =
         let many : max_keys < length (insert_key (keys_in count words) key) = rw put.counted at full in
-        next_rest h r after (rw (put.counted, put.held) (filled_full count words g.tabled key (drop (i + 1) (set_keys s)) many))
+        next_rest h None after (rw put.held (filled_full count words g.tabled key (drop (i + 1) (set_keys s)) many))
 
     pub filling_more : r ≤ max_keys → Filling n old s after r (i + 1)
     filling_more room =
         let fits : length (insert_key (keys_in count words) key) ≤ max_keys = rw put.counted at room in
         record {
-          few = omega arith;
           tabled = rw (put.counted, put.held) (inserted_tabled count words key g.tabled fits);
           kept = ap length put.held ∙ inserted_length count words key g.tabled ∙ g.kept;
           rest = λ q last f. next_rest h q last (filled_more count words g.tabled key (drop (i + 1) (set_keys s)) fits (rw (put.counted, put.held) at f));
         }
 
-    pub filling_kept : length after ≡ length old
-    filling_kept = ap length put.held ∙ inserted_length count words key g.tabled ∙ g.kept
-
-  pub filling_end : s.count ≤ i → KeysFilled n old (set_keys s) count words
-  filling_end h = g.rest count words (rw (keys_none s i h) (filled_none count words g.tabled))
+  pub filling_end : length (take s.count s.keys) ≤ i → KeysFilled n old (set_keys s) (Some count) words
+  filling_end h = g.rest (Some count) words (rw (keys_none s i h) (filled_none count words g.tabled))
 
 -- ---- the calls
 
--- A set has too many keys exactly if `over` stands.
-over_is : (es : List Access) → (gathered es).over ≡ ltb max_call_keys (length es)
-unfolding gathered
-over_is es = go (ltb max_call_keys (length es))
-  where
-    go : (b : Bool) → (if b then too_many else columns es).over ≡ b
-    go true = refl
-    go false = refl
-
 -- Behind the first j calls: the analysis goes on from the table in the buffer.
 pub record Collecting (file old keys : List ℕ) (n j : ℕ) : Type 0 where
-  pub few : j ≤ length (block_of file).calls
   pub tabled : Tabled n keys
   pub kept : length keys ≡ length old
   pub same :
@@ -121,7 +104,6 @@ module _ (file : List ℕ) (l : Layout) (laid : LayoutOfBlock file l) where
       let from = start_from (length keys) keys room e in
       let here : block.first_call ≡ block.first_call + call_record_bytes * 0 = omega arith in
       record {
-        few = omega arith;
         tabled = from.0;
         kept = refl;
         same = ap₂ (λ (at : ℕ) (t : List ℕ). analyse file block.functions block.calls at [] t) here (sym from.1);
@@ -148,71 +130,55 @@ module _ (file : List ℕ) (l : Layout) (laid : LayoutOfBlock file l) where
           ∙ ap (λ (cs : List Call). analyse file block.functions cs (block.first_call + call_record_bytes * j) (take j (all_sets file block)) (keys_in n keys))
           (drop-cons block.calls j default_call h ∙ ap (λ (m : ℕ). call ∷ drop m block.calls) (sym (add-one j)))
 
-      module _ (s : Sets) (e : s ≡ gathered (sets_at file j)) where
-        over_call : s.over ≡ ltb max_call_keys (length (sets_of file block.functions call))
-        over_call = ap (λ (t : Sets). t.over) e ∙ over_is (sets_at file j) ∙ ap (λ (es : List Access). ltb max_call_keys (length es)) (sym set_is)
+      -- Refusal 11.
+      pub going_over : (at : ℕ) → at ≡ l.first_call + call_record_bytes * j → max_call_keys < length (sets_at file j) → analysis_of file (block_of file) ≡ refused (CallKeys at)
+      going_over at place over =
+          next_call
+          ∙ analyse_over file block.functions call (drop (j + 1) block.calls) (block.first_call + call_record_bytes * j) (take j (all_sets file block)) (keys_in n keys)
+          (lt-ltb max_call_keys (length (sets_of file block.functions call)) (rw set_is over))
+          ∙ ap (λ (m : ℕ). refused (CallKeys m)) (sym (place ∙ ap (λ (m : ℕ). m + call_record_bytes * j) (laid_first file l laid)))
 
-        pub set_worded : SetsWorded s
-        set_worded = subst⁻¹ SetsWorded e (gathered_worded (sets_at file j))
+      module _ (s : Sets) (e : Holds s (sets_at file j)) where
+        pub set_words : Worded s
+        set_words = set_worded s (sets_at file j) e
 
-        -- Refusal 11.
-        pub going_over : (at : ℕ) → at ≡ l.first_call + call_record_bytes * j → s.over ≡ true → analysis_of file (block_of file) ≡ refused (CallKeys at)
-        going_over at place over =
-            next_call
-            ∙ analyse_over file block.functions call (drop (j + 1) block.calls) (block.first_call + call_record_bytes * j) (take j (all_sets file block)) (keys_in n keys)
-            (sym over_call ∙ over)
-            ∙ ap (λ (m : ℕ). refused (CallKeys m)) (sym (place ∙ ap (λ (m : ℕ). m + call_record_bytes * j) (laid_first file l laid)))
+        fits : ltb max_call_keys (length (sets_of file block.functions call)) ≡ false
+        fits =
+            let few : s.count ≤ max_call_keys = s.few in
+            let count : s.count ≡ length (sets_at file j) = e.count in
+            le-ltb max_call_keys (length (sets_of file block.functions call)) (rw set_is (omega arith))
 
-        module _ (fits : s.over ≡ false) (r : ℕ) (after : List ℕ) (f : KeysFilled n keys (set_keys s) r after) where
-          few_keys_lem : length (sets_at file j) ≤ max_call_keys
-          few_keys_lem = ltb-false max_call_keys (length (sets_at file j)) (sym (over_is (sets_at file j)) ∙ ap (λ (t : Sets). t.over) (sym e) ∙ fits)
-
+        module _ (r : Option ℕ) (after : List ℕ) (f : KeysFilled n keys (set_keys s) r after) where
           abbrev next : List ℕ
           next = insert_keys (keys_in n keys) (sets_of file block.functions call)
 
           all_is : insert_all (keys_in n keys) (set_keys s) ≡ next
           all_is =
-              ap (λ (t : Sets). insert_all (keys_in n keys) (set_keys t)) e
-              ∙ ap (insert_all (keys_in n keys)) (set_keys_lem (sets_at file j) few_keys_lem)
+              ap (insert_all (keys_in n keys)) (set_keys_lem s (sets_at file j) e)
               ∙ insert_all_lem (keys_in n keys) (sets_at file j) ∙ ap (insert_keys (keys_in n keys)) (sym set_is)
 
           counted : r ≡ count_of next
           counted = f.counted ∙ ap count_of all_is
 
           -- Refusal 12.
-          pub going_full : (at : ℕ) → at ≡ l.first_call + call_record_bytes * j → max_keys < r → analysis_of file (block_of file) ≡ refused (AllKeys at)
+          pub going_full : (at : ℕ) → at ≡ l.first_call + call_record_bytes * j → r ≡ None → analysis_of file (block_of file) ≡ refused (AllKeys at)
           going_full at place full =
               next_call
               ∙ analyse_full file block.functions call (drop (j + 1) block.calls) (block.first_call + call_record_bytes * j) (take j (all_sets file block)) (keys_in n keys)
-              (sym over_call ∙ fits) (many (ltb max_keys (length next)) refl)
+              fits (lt-ltb max_keys (length next) (count_none next (sym full ∙ counted)))
               ∙ ap (λ (m : ℕ). refused (AllKeys m)) (sym (place ∙ ap (λ (m : ℕ). m + call_record_bytes * j) (laid_first file l laid)))
-            where
-              many : (b : Bool) → ltb max_keys (length next) ≡ b → ltb max_keys (length next) ≡ true
-              many true p = p
-              many false p =
-                  let few : length next ≤ max_keys = ltb-false max_keys (length next) p in
-                  let same : r ≡ length next = counted ∙ count_few next few in
-                  absurd (omega arith)
 
           -- The table behind call j.
-          next_few : r ≤ max_keys → length next ≤ max_keys
-          next_few room = go (dec_lt max_keys (length next))
-            where
-              go : Dec (max_keys < length next) → length next ≤ max_keys
-              go (yes many) = let same : r ≡ max_keys + 1 = counted ∙ count_many next many in absurd (omega arith)
-              go (no few) = omega arith
-
-          after_is : r ≤ max_keys → after ≡ padded (length keys) 0 (table_words next)
-          after_is room =
-              let few : length next ≤ max_keys = next_few room in
+          after_is : length next ≤ max_keys → after ≡ padded (length keys) 0 (table_words next)
+          after_is few =
               f.held
               ∙ ap (λ (t : List ℕ). padded (length keys) 0 (table_words t))
               (fitting_all (keys_in n keys) (set_keys s) (rw all_is few) ∙ all_is)
 
-          pub collecting_more : r ≤ max_keys → Collecting file old after r (j + 1)
-          collecting_more room =
-              let few : length next ≤ max_keys = next_few room in
-              let size : r ≡ length next = counted ∙ count_few next few in
+          pub collecting_more : {m : ℕ} → r ≡ Some m → Collecting file old after m (j + 1)
+          collecting_more {m} some =
+              let size : m ≡ length next = (count_some next (sym some ∙ counted)).0 in
+              let few : length next ≤ max_keys = (count_some next (sym some ∙ counted)).1 in
               let made : Tabled (length next) (padded (length keys) 0 (table_words next)) =
               tabled next (length keys) (rising_inserts (keys_in n keys) (sets_of file block.functions call) g.tabled.rising) few g.tabled.room in
               let space : 2 * max_keys ≤ length keys = g.tabled.room in
@@ -221,18 +187,17 @@ module _ (file : List ℕ) (l : Layout) (laid : LayoutOfBlock file l) where
               let sets : take j (all_sets file block) ++ (sets_of file block.functions call ∷ []) ≡ take (j + 1) (all_sets file block) =
               ap (λ (es : List Access). take j (all_sets file block) ++ (es ∷ [])) set_is
               ∙ sym (ap (λ (m : ℕ). take m (all_sets file block)) (add-one j) ∙ take-suc (all_sets file block) j [] (simp length-map h)) in
-              let table : next ≡ keys_in r after =
-              sym (ap₂ keys_in size (after_is room) ∙ keys_padded (length keys) next) in
+              let table : next ≡ keys_in m after =
+              sym (ap₂ keys_in size (after_is few) ∙ keys_padded (length keys) next) in
               record {
-                few = omega arith;
-                tabled = rw (size, after_is room) made;
-                kept = ap length (after_is room) ∙ padded_length (length keys) 0 (table_words next) within ∙ g.kept;
+                tabled = rw (size, after_is few) made;
+                kept = ap length (after_is few) ∙ padded_length (length keys) 0 (table_words next) within ∙ g.kept;
                 same =
                     next_call
                     ∙ analyse_next file block.functions call (drop (j + 1) block.calls) (block.first_call + call_record_bytes * j) (take j (all_sets file block)) (keys_in n keys)
-                    (sym over_call ∙ fits) (le-ltb max_keys (length next) few)
+                    fits (le-ltb max_keys (length next) few)
                     ∙ ap₂ (λ (at : ℕ) (t : List ℕ). analyse file block.functions (drop (j + 1) block.calls) at (take j (all_sets file block) ++ (sets_of file block.functions call ∷ [])) t) there table
-                    ∙ ap (λ (e : List (List Access)). analyse file block.functions (drop (j + 1) block.calls) (block.first_call + call_record_bytes * (j + 1)) e (keys_in r after)) sets;
+                    ∙ ap (λ (e : List (List Access)). analyse file block.functions (drop (j + 1) block.calls) (block.first_call + call_record_bytes * (j + 1)) e (keys_in m after)) sets;
               }
 
     -- Behind the last call the analysis is done.

@@ -1,17 +1,18 @@
 -- Laws of the codes that a layout's tables tell: they are those of the block's functions, and so are the sets of their calls.
 use mathlib.Core.Path.{◌≡◌, refl, sym, ap, ap₂, ◌∙◌}
-use mathlib.Core.Bool.{Bool, true, false}
+use mathlib.Core.Bool.{Bool, true, false, not, cond}
 use mathlib.Core.List.{List, [], ◌∷◌, map}
 use mathlib.Core.Option.{Option, none, some}
 use Prim.Native.Nat.{ℕ, suc, ◌+◌, ◌-◌}
-use native.Mathlib.Nat.{zero-add}
 use native.Mathlib.Omega.{arith}
 use borrow.Author.Tests.{lt-ltb, eq-eqb, ne_eqb}
 use lib.Dec.{eqb, ltb, leb-suc-suc}
-use lib.ListN.{length, get_or, length-map}
+use lib.ListN.{length, get_or, take, length-map}
+use lib.Seq.{take-append_seam}
 use Rattle.std.specs.Prelude.{if◌then◌else◌}
 use Rattle.wire.proofs.BytesLaws.{padded_at}
-use Rattle.wire.specs.RowOps.{first_of}
+use Rattle.std.specs.List.{position_or_len}
+use Rattle.std.specs.declared.option.Option.TheVariants.{None, Some}
 use Rattle.block.specs.Record.{Function, Block, function_id, call_id, code_at}
 use Rattle.block.specs.Reader.{accepted}
 use Rattle.block.specs.declared.Call.{Call}
@@ -21,9 +22,8 @@ use Rattle.footprint.specs.Sets.{merge_all, code_accesses, function_sets}
 use Rattle.block.specs.Naming.{function_of}
 use Rattle.reader.specs.Layout.{table, layout_of}
 use Rattle.analysis.specs.declared.Code.{Code}
-use Rattle.analysis.specs.Coded.{words_of, noCode, holds_id, id_place, code_at_place, code_in, code_sets}
+use Rattle.analysis.specs.Coded.{words_of, noCode, id_place, code_at_place, code_in, code_sets}
 use Rattle.arith.proofs.ChoiceLaws.{if_true, if_false}
-use Rattle.analysis.proofs.GatheredLaws.{first_place, search_place}
 
 -- ---- the code of a function
 
@@ -32,38 +32,51 @@ code_of : List Function → ℕ → Code
 code_of fs at =
     if ltb at (length fs) then record { start = get_or (map (λ f. f.start) fs) at 0; length = get_or (map (λ f. f.size) fs) at 0 + 1 } else noCode
 
-code_by_place : (fs : List Function) (c : Call) → words_of (code_of fs (first_place (map function_id fs) (call_id c))) ≡ code_words (function_of fs c)
-unfolding code_of first_place function_of code_words
+-- The place of the function that a call names.
+abbrev place : List Function → Call → ℕ
+place fs c = position_or_len (λ i. eqb i (call_id c)) (map function_id fs)
+
+code_by_place : (fs : List Function) (c : Call) → words_of (code_of fs (place fs c)) ≡ code_words (function_of fs c)
+unfolding code_of function_of code_words
 code_by_place [] c = refl
 code_by_place (f ∷ fs) c = go (eqb (function_id f) (call_id c)) (code_by_place fs c)
   where
-    go : (b : Bool) → words_of (code_of fs (first_place (map function_id fs) (call_id c))) ≡ code_words (function_of fs c)
-        → words_of (code_of (f ∷ fs) (if b then 0 else suc (first_place (map function_id fs) (call_id c)))) ≡ code_words (if b then some f else function_of fs c)
+    go : (b : Bool) → words_of (code_of fs (place fs c)) ≡ code_words (function_of fs c)
+        → words_of (code_of (f ∷ fs) (cond (not b) (1 + place fs c) 0)) ≡ code_words (if b then some f else function_of fs c)
     go true ih = rw (lt-ltb 0 (suc (length fs)) (omega arith))
-    go false ih = rw (leb-suc-suc (suc (first_place (map function_id fs) (call_id c))) (length fs)) ih
+    go false ih = let one : 1 + place fs c ≡ suc (place fs c) = omega arith in rw (one, leb-suc-suc (suc (place fs c)) (length fs)) ih
 
 module _ (b : Block) (c : Call) where
-  place_found : id_place (table function_id b.functions) (length b.functions) (call_id c) ≡ first_place (map function_id b.functions) (call_id c)
-  unfolding id_place
+  place_found : id_place (take (length b.functions) (table function_id b.functions)) (call_id c) ≡ id_place (map function_id b.functions) (call_id c)
   place_found =
-      let ids : List ℕ = map function_id b.functions in
-      ap (λ (n : ℕ). first_of (holds_id (table function_id b.functions) (call_id c)) n 0) (sym (length-map b.functions function_id))
-      ∙ search_place (holds_id (table function_id b.functions) (call_id c)) (call_id c) ids 0
-      (λ i h. ap (λ (n : ℕ). eqb n (call_id c)) (padded_at 64 0 ids (0 + i) ∙ ap (λ (k : ℕ). get_or ids k 0) (zero-add i)))
-      ∙ zero-add (first_place ids (call_id c))
+      ap (λ (ids : List ℕ). id_place ids (call_id c))
+      (ap (λ (n : ℕ). take n (table function_id b.functions)) (sym (length-map b.functions function_id))
+      ∙ take-append_seam (map function_id b.functions) _)
 
   -- The code that the tables tell is that of the function that the call names.
   pub code_found : words_of (code_in (layout_of (accepted b)) (call_id c)) ≡ code_words (function_of b.functions c)
   unfolding code_in layout_of code_of
   code_found =
-      ap (λ (at : ℕ). words_of (code_at_place (layout_of (accepted b)) at)) place_found
-      ∙ ap₂ (λ (s n : ℕ). words_of (if ltb at (length b.functions) then record { start = s; length = n + 1 } else noCode))
-      (padded_at 64 0 (map (λ f. f.start) b.functions) at)
-      (padded_at 64 0 (map (λ f. f.size) b.functions) at)
+      ap (λ at. words_of (code_at_place (layout_of (accepted b)) at)) place_found
+      ∙ chosen
       ∙ code_by_place b.functions c
     where
       at : ℕ
-      at = first_place (map function_id b.functions) (call_id c)
+      at = place b.functions c
+
+      ids : List ℕ
+      ids = map function_id b.functions
+
+      chosen : words_of (code_at_place (layout_of (accepted b)) (cond (ltb at (length ids)) (Some at) None)) ≡ words_of (code_of b.functions at)
+      chosen = rw (length-map b.functions function_id) (go (ltb at (length b.functions)))
+        where
+          go : (b' : Bool) → words_of (code_at_place (layout_of (accepted b)) (cond b' (Some at) None))
+              ≡ words_of (if b' then record { start = get_or (map (λ f. f.start) b.functions) at 0; length = get_or (map (λ f. f.size) b.functions) at 0 + 1 } else noCode)
+          go true =
+              ap₂ (λ (s n : ℕ). words_of (record { start = s; length = n + 1 }))
+              (padded_at 64 0 (map (λ f. f.start) b.functions) at)
+              (padded_at 64 0 (map (λ f. f.size) b.functions) at)
+          go false = refl
 
 -- ---- the set of a call
 

@@ -1,27 +1,28 @@
 -- Laws of the insertion of a set's keys: the keys that its words name are those of the accesses, and inserting one after another up to the
 -- first that does not fit answers as inserting all does.
 use mathlib.Core.Path.{◌≡◌, refl, sym, ap, ap₂, ◌∙◌}
-use mathlib.Core.List.{List, [], ◌∷◌, ◌++◌, map}
-use Prim.Native.Nat.{ℕ, zero, suc, ◌+◌, ◌-◌, ◌^◌, ◌≤◌, ◌<◌}
-use native.Mathlib.Nat.{le_of_suc-le-suc, not-suc-le-zero, mod-lt}
+use mathlib.Core.List.{List, [], ◌∷◌, map}
+use Prim.Native.Nat.{ℕ, zero, suc, ◌+◌, ◌^◌, ◌≤◌, ◌<◌}
+use native.Mathlib.Nat.{mod-lt}
 use native.Mathlib.Decide.{dec_lt}
 use native.Mathlib.Numerals.{add-one}
 use native.Mathlib.Omega.{arith}
 use borrow.Author.Tests.{le-leb, lt-leb}
 use lib.Dec.{lit<}
-use lib.ListN.{length, get_or, drop, drop_of_length-le}
+use lib.ListN.{length, get_or, take, drop, length-map, get_or-map, drop_of_length-le}
 use lib.Seq.{drop-cons}
-use Rattle.wire.specs.Bytes.{repeated, padded}
-use Rattle.wire.proofs.BytesLaws.{padded_at}
-use Rattle.block.specs.Limits.{max_call_keys, max_keys}
+use Rattle.std.specs.Prelude.{Option}
+use Rattle.std.specs.declared.option.Option.TheVariants.{None, Some}
+use Rattle.wire.specs.Bytes.{padded}
+use Rattle.block.specs.Limits.{max_keys}
 use Rattle.footprint.specs.Access.{Access}
 use Rattle.footprint.specs.Plan.{table_words}
 use Rattle.footprint.specs.Table.{insert_key, insert_keys}
-use Rattle.analysis.specs.Filling.{paired_keys, set_keys, insert_all, fitting, count_of, SetsWorded, KeysFilled}
-use Rattle.analysis.specs.Gathered.{high_of, low_of, gathered}
+use Rattle.analysis.specs.Filling.{set_key, set_keys, insert_all, fitting, count_of, KeysFilled}
+use Rattle.analysis.specs.Gathered.{Holds, Worded}
+use Rattle.key_uses.specs.Uses.{no_use, use_of}
 use Rattle.arith.proofs.ChoiceLaws.{if_true, if_false}
-use Rattle.analysis.proofs.GatheredLaws.{gathered_over, gathered_fits, gathered_count}
-use Rattle.footprint.specs.KeyWords.{key_from, keys_in}
+use Rattle.footprint.specs.KeyWords.{keys_in}
 use Rattle.analysis.specs.KeyTable.{inserted_in, Tabled}
 use Rattle.footprint.specs.Sets.{access_keys}
 use Rattle.footprint.proofs.TableLaws.{insert_length}
@@ -31,55 +32,34 @@ use Rattle.analysis.specs.declared.Sets.{Sets}
 
 -- ---- the keys of a set
 
-paired_length : (n : ℕ) (hs ls : List ℕ) → length (paired_keys n hs ls) ≡ n
-unfolding paired_keys
-paired_length zero hs ls = refl
-paired_length (suc n) hs ls = ap suc (paired_length n (drop 1 hs) (drop 1 ls))
-
-paired_at : (n : ℕ) (hs ls : List ℕ) (i : ℕ) → i < n → get_or (paired_keys n hs ls) i 0 ≡ key_from (get_or hs i 0) (get_or ls i 0)
-unfolding paired_keys
-paired_at zero hs ls i h = absurd (not-suc-le-zero h)
-paired_at (suc n) hs ls zero h = refl
-paired_at (suc n) hs ls (suc i) h =
-    paired_at n (drop 1 hs) (drop 1 ls) i (le_of_suc-le-suc h) ∙ ap₂ key_from (later hs) (later ls)
-  where
-    later : (l : List ℕ) → get_or (drop 1 l) i 0 ≡ get_or l (suc i) 0
-    later [] = refl
-    later (a ∷ l) = refl
-
 -- The keys from the i-th on.
 module _ (s : Sets) (i : ℕ) where
-  pub keys_left : i < s.count → drop i (set_keys s) ≡ key_from (get_or s.highs i 0) (get_or s.lows i 0) ∷ drop (i + 1) (set_keys s)
+  pub keys_left : i < length (take s.count s.keys) → drop i (set_keys s) ≡ set_key (get_or (take s.count s.keys) i no_use) ∷ drop (i + 1) (set_keys s)
   keys_left h =
-      drop-cons (set_keys s) i 0 (rw (paired_length s.count s.highs s.lows) h)
-      ∙ rw (paired_at s.count s.highs s.lows i h, add-one i)
+      drop-cons (set_keys s) i 0 (simp length-map h)
+      ∙ rw (get_or-map set_key (take s.count s.keys) i no_use, add-one i)
 
-  pub keys_none : s.count ≤ i → drop i (set_keys s) ≡ []
-  keys_none h = drop_of_length-le (set_keys s) {i = i} (rw (paired_length s.count s.highs s.lows) h)
+  pub keys_none : length (take s.count s.keys) ≤ i → drop i (set_keys s) ≡ []
+  keys_none h = drop_of_length-le (set_keys s) {i = i} (simp length-map h)
 
-paired_columns : (es : List Access) (xs ys : List ℕ) → paired_keys (length es) (map high_of es ++ xs) (map low_of es ++ ys) ≡ access_keys es
-unfolding paired_keys
-paired_columns [] xs ys = refl
-paired_columns (e ∷ es) xs ys = ap₂ (λ (k : ℕ) (ks : List ℕ). k ∷ ks) (key_of_words e.key) (paired_columns es xs ys)
+-- The keys of a set are those of its accesses.
+pub set_keys_lem : (s : Sets) (es : List Access) → Holds s es → set_keys s ≡ access_keys es
+unfolding use_of
+set_keys_lem s es h = ap (map set_key) h.keys ∙ go es
+  where
+    go : (fs : List Access) → map set_key (map use_of fs) ≡ access_keys fs
+    go [] = refl
+    go (f ∷ fs) = ap₂ (λ (k : ℕ) (ks : List ℕ). k ∷ ks) (key_of_words f.key) (go fs)
 
--- The keys of a set that fits are those of its accesses.
-pub set_keys_lem : (es : List Access) → length es ≤ max_call_keys → set_keys (gathered es) ≡ access_keys es
-set_keys_lem es h =
-    ap set_keys (gathered_fits es h)
-    ∙ paired_columns es (repeated (max_call_keys - length (map high_of es)) 0) (repeated (max_call_keys - length (map low_of es)) 0)
-
-lows_below : (es : List Access) (i : ℕ) → get_or (map low_of es) i 0 < 2 ^ 32
+lows_below : (es : List Access) (i : ℕ) → (get_or (map use_of es) i no_use).low < 2 ^ 32
+unfolding use_of
 lows_below [] i = lit< tt
 lows_below (e ∷ es) zero = mod-lt e.key (lit< tt)
 lows_below (e ∷ es) (suc i) = lows_below es i
 
--- The words of a gathered set are those of keys.
-pub gathered_worded : (es : List Access) → SetsWorded (gathered es)
-gathered_worded es = record { few = gathered_count es; lows = go (dec_lt max_call_keys (length es)) }
-  where
-    go : Dec (max_call_keys < length es) → (i : ℕ) → get_or (gathered es).lows i 0 < 2 ^ 32
-    go (yes h) i = rw (gathered_over es h, padded_at {A = ℕ} max_call_keys 0 [] i) (lit< tt)
-    go (no h) i = rw (gathered_fits es (omega arith), padded_at {A = ℕ} max_call_keys 0 (map low_of es) i) (lows_below es i)
+-- The words of a set are those of keys.
+pub set_worded : (s : Sets) (es : List Access) → Holds s es → Worded s
+set_worded s es h i = rw h.keys (lows_below es i)
 
 -- ---- all keys, and those that fit
 
@@ -106,23 +86,38 @@ fitting_all table (k ∷ ks) h =
     if_true (fitting (insert_key table k) ks) table (le-leb (length (insert_key table k)) max_keys (omega arith)) ∙ fitting_all (insert_key table k) ks h
 
 -- The number of keys where the limit is kept, and where it is not.
-pub count_few : (table : List ℕ) → length table ≤ max_keys → count_of table ≡ length table
+pub count_few : (table : List ℕ) → length table ≤ max_keys → count_of table ≡ Some (length table)
 unfolding count_of
-count_few table h = if_true (length table) (max_keys + 1) (le-leb (length table) max_keys h)
+count_few table h = if_true (Some (length table)) None (le-leb (length table) max_keys h)
 
-pub count_many : (table : List ℕ) → max_keys < length table → count_of table ≡ max_keys + 1
+pub count_many : (table : List ℕ) → max_keys < length table → count_of table ≡ None
 unfolding count_of
-count_many table h = if_false (length table) (max_keys + 1) (lt-leb (length table) max_keys h)
+count_many table h = if_false (Some (length table)) None (lt-leb (length table) max_keys h)
+
+-- What an answered number tells of the table.
+pub count_none : (table : List ℕ) → None ≡ count_of table → max_keys < length table
+count_none table e = go (dec_lt max_keys (length table))
+  where
+    go : Dec (max_keys < length table) → max_keys < length table
+    go (yes many) = many
+    go (no few) = let same : None ≡ Some (length table) = e ∙ count_few table (omega arith) in absurd (cc)
+
+pub count_some : (table : List ℕ) {m : ℕ} → Some m ≡ count_of table → (m ≡ length table) × (length table ≤ max_keys)
+count_some table {m} e = go (dec_lt max_keys (length table))
+  where
+    go : Dec (max_keys < length table) → (m ≡ length table) × (length table ≤ max_keys)
+    go (yes many) = let same : Some m ≡ None = e ∙ count_many table many in absurd (cc)
+    go (no few) = let same : Some m ≡ Some (length table) = e ∙ count_few table (omega arith) in (cc, omega arith)
 
 -- ---- one key after another
 
 module _ (n : ℕ) (ws : List ℕ) (tabled : Tabled n ws) where
   -- Behind the last key.
-  pub filled_none : KeysFilled n ws [] n ws
+  pub filled_none : KeysFilled n ws [] (Some n) ws
   unfolding insert_all fitting
   filled_none =
       record {
-        counted = sym (count_few (keys_in n ws) (rw (keys_length n ws) tabled.few) ∙ keys_length n ws);
+        counted = sym (count_few (keys_in n ws) (rw (keys_length n ws) tabled.few) ∙ ap Some (keys_length n ws));
         held = tabled.same;
       }
 
@@ -131,23 +126,19 @@ module _ (n : ℕ) (ws : List ℕ) (tabled : Tabled n ws) where
     next = insert_key (keys_in n ws) k
 
     -- A key that does not fit ends the insertion.
-    pub filled_full : max_keys < length next → KeysFilled n ws (k ∷ ks) (length next) (inserted_in n ws k)
+    pub filled_full : max_keys < length next → KeysFilled n ws (k ∷ ks) None (inserted_in n ws k)
     unfolding insert_all fitting
     filled_full h =
         let all : length next ≤ length (insert_all next ks) = all_length next ks in
-        let old : length (keys_in n ws) ≡ n = keys_length n ws in
-        let few : n ≤ max_keys = tabled.few in
-        let one : length next ≤ suc (length (keys_in n ws)) = (insert_length (keys_in n ws) k).1 in
-        let last : length next ≡ max_keys + 1 = omega arith in
         record {
-          counted = last ∙ sym (count_many (insert_all next ks) (omega arith));
+          counted = sym (count_many (insert_all next ks) (omega arith));
           held =
               inserted_full n ws k h ∙ tabled.same
               ∙ ap (λ (t : List ℕ). padded (length ws) 0 (table_words t)) (sym (if_false (fitting next ks) (keys_in n ws) (lt-leb (length next) max_keys h)));
         }
 
     -- Behind one that does, the insertion goes on.
-    pub filled_more : length next ≤ max_keys → {r : ℕ} {after : List ℕ} → KeysFilled (length next) (inserted_in n ws k) ks r after → KeysFilled n ws (k ∷ ks) r after
+    pub filled_more : length next ≤ max_keys → {r : Option ℕ} {after : List ℕ} → KeysFilled (length next) (inserted_in n ws k) ks r after → KeysFilled n ws (k ∷ ks) r after
     unfolding insert_all fitting
     filled_more h {r} {after} f =
         record {

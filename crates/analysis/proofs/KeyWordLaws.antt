@@ -1,17 +1,23 @@
 -- The mathematics of the table's proofs, over plain variables: keys compared by their words, a turn of the search, and the words that an
 -- insertion moves.
 use mathlib.Core.Path.{◌≡◌, refl, sym, ap, ap₂, ◌∙◌}
-use mathlib.Core.Bool.{Bool, true, false}
+use mathlib.Core.Bool.{Bool, true, false, ◌&&◌, ◌||◌}
 use mathlib.Core.List.{List, [], ◌∷◌, ◌++◌, append_assoc}
-use Prim.Native.Nat.{ℕ, suc, ◌+◌, ◌-◌, ◌*◌, ◌/◌, ◌^◌, ◌≤◌, ◌<◌}
+use Prim.Native.Nat.{ℕ, zero, suc, ◌+◌, ◌-◌, ◌*◌, ◌/◌, ◌^◌, ◌≤◌, ◌<◌}
 use native.Mathlib.Nat.{zero-add, add-zero, suc-add, add_assoc}
 use native.Mathlib.Numerals.{add-one}
+use native.Mathlib.Decide.{dec_lt}
 use native.Mathlib.Omega.{arith}
 use borrow.Author.Tests.{ltb-true, ltb-false, eqb-true, eqb-false, lt-ltb, le-ltb, eq-eqb, ne_eqb}
 use lib.Dec.{eqb, ltb}
-use lib.ListN.{length, get_or, take, drop, set, replicate, length-append, length-drop, take-append-drop, get_or-append}
-use lib.Seq.{slice, slice_empty, slice-cons, length-slice, take-suc, set_at, get_or-take, length-take-le, take-append-add, take-append_seam, drop-append-add, drop-append_seam}
+use lib.ListN.{length, get_or, take, drop, set, replicate, length-append, length-drop, take-append-drop}
+use lib.Seq.{slice, get_or-take, length-take-le, take-append-add, take-append_seam, drop-append-add, drop-append_seam}
 use Rattle.std.specs.Prelude.{if◌then◌else◌}
+use Rattle.std.specs.List.{copy_within}
+use Rattle.std.specs.List.Sorted.{IsPartitionedBy, IsPartitionPoint}
+use Rattle.std.specs.Simd.{first_chunks}
+use Rattle.std.proofs.lemmas.Slice.{between_is}
+use Rattle.std.proofs.lemmas.List.{drop-drop, get_or-drop}
 use Rattle.wire.specs.Bytes.{repeated, padded}
 use Rattle.block.specs.Limits.{max_keys}
 use Rattle.footprint.specs.Conflict.{member}
@@ -20,7 +26,7 @@ use Rattle.footprint.specs.Plan.{high_word, low_word, table_words}
 use Rattle.footprint.specs.KeyWords.{key_from, key_at, keys_in}
 use Rattle.analysis.specs.KeyTable.{place_in, stands_at, moved_up, Sorted, Tabled, Inserted}
 use Rattle.analysis.proofs.PlaceLaws.{place_le, place_above, place_below, stands_member, insert_absent, insert_length_is}
-use Rattle.footprint.proofs.TableLaws.{insert_present}
+use Rattle.footprint.proofs.TableLaws.{Order, below, equal, above, order, insert_present}
 use Rattle.footprint.proofs.TableWordLaws.{keys_length, keys_at, words_append, words_length, high_of_key, low_of_key}
 use Rattle.analysis.proofs.TableWords.{inserted_fits, inserted_full}
 
@@ -50,54 +56,101 @@ module _ (h l high low : ℕ) (hl : l < 2 ^ 32) (hlow : low < 2 ^ 32) where
       go true t = let same : l ≡ low = eqb-true l low t in eq-eqb (key_from h l) (key_from high low) (omega arith)
       go false t = ne_eqb (key_from h l) (key_from high low) (λ q. eqb-false l low t (omega arith))
 
--- ---- a turn of the search
+-- ---- the search
 
--- The place lies between `from` and `from + size`.
-pub record Between (n : ℕ) (words : List ℕ) (k from size : ℕ) : Type 0 where
-  pub least : from ≤ place_in (keys_in n words) k
-  pub most : place_in (keys_in n words) k ≤ from + size
-  pub inside : from + size ≤ n
+first_pairs : (m : ℕ) (ws : List ℕ) (i : ℕ) (d : List ℕ) → i < m → get_or (first_chunks 2 m ws) i d ≡ take 2 (drop (2 * i) ws)
+first_pairs zero ws i d h = absurd (omega arith)
+first_pairs (suc m) ws zero d h = refl
+first_pairs (suc m) ws (suc i) d h =
+    let e : 2 + 2 * i ≡ 2 * suc i = omega arith in
+    first_pairs m (drop 2 ws) i d (omega arith) ∙ rw (drop-drop (2 * i) 2 ws, e)
 
-pub between_all : (n : ℕ) (words : List ℕ) (k : ℕ) → Between n words k 0 n
-between_all n words k =
-    let le : place_in (keys_in n words) k ≤ length (keys_in n words) = place_le (keys_in n words) k in
-    let len : length (keys_in n words) ≡ n = keys_length n words in
-    record { least = omega arith; most = omega arith; inside = omega arith }
+-- Whether a pair of words is below another, the first words first.
+abbrev pub pair_below : (high low : ℕ) → List ℕ → Bool
+pair_below high low pair = ltb (get_or pair 0 0) high || (eqb (get_or pair 0 0) high && ltb (get_or pair 1 0) low)
 
-module _ (n : ℕ) (words : List ℕ) (k from size : ℕ) (sorted : Sorted n words) (b : Between n words k from size) (some : 0 < size) where
-  abbrev mid : ℕ
-  mid = from + size / 2
+words_below : (h l high low : ℕ) → l < 2 ^ 32 → low < 2 ^ 32 → (ltb h high || (eqb h high && ltb l low)) ≡ ltb (key_from h l) (key_from high low)
+words_below h l high low hl hlow = go (order h high)
+  where
+    go : Order h high → (ltb h high || (eqb h high && ltb l low)) ≡ ltb (key_from h l) (key_from high low)
+    go (below e) = rw (lt-ltb h high e) (sym (below_high h l high low hl hlow e))
+    go (equal e) =
+        rw (le-ltb h high (omega arith), eq-eqb h high e) (sym (same_high h l high low hl hlow (omega arith) (omega arith)))
+    go (above e) =
+        rw (le-ltb h high (omega arith), ne_eqb h high (λ q. omega arith)) (sym (above_high h l high low hl hlow e))
 
-  mid_lt : mid < length (keys_in n words)
-  mid_lt = let w : from + size ≤ n = b.inside in rw (keys_length n words) (omega arith)
+pairs_count : (m : ℕ) (ws : List ℕ) → length (first_chunks 2 m ws) ≡ m
+pairs_count zero ws = refl
+pairs_count (suc m) ws = ap suc (pairs_count m (drop 2 ws))
 
-  mid_key : get_or (keys_in n words) mid 0 ≡ key_at words mid
-  mid_key = let w : from + size ≤ n = b.inside in keys_at n words mid (omega arith)
+module _ (n : ℕ) (words : List ℕ) (high low : ℕ) (sorted : Sorted n words) (small : low < 2 ^ 32) (all : List (List ℕ))
+    (made : all ≡ first_chunks 2 (length words / 2) words) where
+  abbrev place : ℕ
+  place = place_in (keys_in n words) (key_from high low)
 
-  -- What reading the key in the middle asks.
-  pub mid_inside : 2 * mid + 1 < length words
-  mid_inside =
-      let w : from + size ≤ n = b.inside in
+  place_most : place ≤ n
+  place_most = rw (keys_length n words) at (place_le (keys_in n words) (key_from high low))
+
+  pair_at : (i : ℕ) (d : List ℕ) → i < n → pair_below high low (get_or (take n all) i d) ≡ ltb (key_at words i) (key_from high low)
+  pair_at i d h =
       let room : 2 * n ≤ length words = sorted.room in
-      omega arith
+      let pair : get_or (take n all) i d ≡ take 2 (drop (2 * i) words) =
+      get_or-take n all i d h ∙ ap (λ (l : List (List ℕ)). get_or l i d) made ∙ first_pairs (length words / 2) words i d (omega arith) in
+      let first : get_or (take 2 (drop (2 * i) words)) 0 0 ≡ get_or words (2 * i) 0 =
+      get_or-take 2 (drop (2 * i) words) 0 0 (omega arith) ∙ get_or-drop (2 * i) words 0 0 ∙ ap (λ (j : ℕ). get_or words j 0) (add-zero (2 * i)) in
+      let second : get_or (take 2 (drop (2 * i) words)) 1 0 ≡ get_or words (2 * i + 1) 0 =
+      get_or-take 2 (drop (2 * i) words) 1 0 (omega arith) ∙ get_or-drop (2 * i) words 1 0 in
+      ap (pair_below high low) pair
+      ∙ ap₂ (λ (h' l' : ℕ). ltb h' high || (eqb h' high && ltb l' low)) first second
+      ∙ words_below (get_or words (2 * i) 0) (get_or words (2 * i + 1) 0) high low (sorted.lows i h) small
 
-  pub mid_low : get_or words (2 * mid + 1) 0 < 2 ^ 32
-  mid_low = let w : from + size ≤ n = b.inside in sorted.lows mid (omega arith)
+  -- A pair is below the key exactly if it stands before the key's place.
+  pair_before : (i : ℕ) (d : List ℕ) → i < n → pair_below high low (get_or (take n all) i d) ≡ true → i < place
+  pair_before i d h t =
+      place_above (keys_in n words) i (key_from high low) sorted.rising (rw (keys_length n words) h)
+      (rw (keys_at n words i h) (ltb-true (key_at words i) (key_from high low) (sym (pair_at i d h) ∙ t)))
 
-  pub between_upper : ltb (key_at words mid) k ≡ true → Between n words k (from + (size / 2 + 1)) (size - (size / 2 + 1))
-  between_upper t =
-      let less : mid < place_in (keys_in n words) k =
-      place_above (keys_in n words) mid k sorted.rising mid_lt (rw mid_key (ltb-true (key_at words mid) k t)) in
-      let m : place_in (keys_in n words) k ≤ from + size = b.most in
-      let w : from + size ≤ n = b.inside in
-      record { least = omega arith; most = omega arith; inside = omega arith }
+  pair_behind : (i : ℕ) (d : List ℕ) → i < n → pair_below high low (get_or (take n all) i d) ≡ false → place ≤ i
+  pair_behind i d h t =
+      place_below (keys_in n words) i (key_from high low) sorted.rising (rw (keys_length n words) h)
+      (rw (keys_at n words i h) (ltb-false (key_at words i) (key_from high low) (sym (pair_at i d h) ∙ t)))
 
-  pub between_lower : ltb (key_at words mid) k ≡ false → Between n words k from (size / 2)
-  between_lower t =
-      let le : place_in (keys_in n words) k ≤ mid =
-      place_below (keys_in n words) mid k sorted.rising mid_lt (rw mid_key (ltb-false (key_at words mid) k t)) in
-      let w : from + size ≤ n = b.inside in
-      record { least = b.least; most = le; inside = omega arith }
+  pairs_length : length (take n all) ≡ n
+  pairs_length =
+      let room : 2 * n ≤ length words = sorted.room in
+      let count : length all ≡ length words / 2 = ap length made ∙ pairs_count (length words / 2) words in
+      length-take-le n all (omega arith)
+
+  pub pairs_parted : IsPartitionedBy (pair_below high low) (take n all)
+  pairs_parted i j d le within t = go (pair_below high low (get_or (take n all) i d)) refl
+    where
+      go : (b : Bool) → pair_below high low (get_or (take n all) i d) ≡ b → b ≡ true
+      go true e = refl
+      go false e =
+          let size : length (take n all) ≡ n = pairs_length in
+          let before : j < place = pair_before j d (omega arith) t in
+          let behind : place ≤ i = pair_behind i d (omega arith) e in
+          absurd (omega arith)
+
+  -- The point between those below the key and the others is its place.
+  pub point_is_place : (r : ℕ) → r ≤ length (take n all)
+      → IsPartitionPoint (λ y. pair_below high low y ≡ true) (λ y. pair_below high low y ≡ false) (take n all) r → (r ≡ place) × (r ≤ n)
+  point_is_place r bound point =
+      let size : length (take n all) ≡ n = pairs_length in
+      let up : place ≤ r = upper (dec_lt r n) in
+      let down : r ≤ place = lower r (omega arith) in
+      (omega arith, omega arith)
+    where
+      upper : Dec (r < n) → place ≤ r
+      upper (yes h) = let size : length (take n all) ≡ n = pairs_length in pair_behind r [] h (point.1 r [] (omega arith) (omega arith))
+      upper (no h) = let most : place ≤ n = place_most in omega arith
+
+      lower : (q : ℕ) → q ≤ r → q ≤ place
+      lower zero h = omega arith
+      lower (suc q) h =
+          let size : length (take n all) ≡ n = pairs_length in
+          let before : q < place = pair_before q [] (omega arith) (point.0 q [] (omega arith) (omega arith)) in
+          omega arith
 
 -- ---- whether a key stands at a place
 
@@ -122,61 +175,12 @@ module _ (n : ℕ) (words : List ℕ) (at high low : ℕ) (sorted : Sorted n wor
 
 -- ---- the words that an insertion moves
 
-moved_none : (s : List ℕ) (to : ℕ) → moved_up s to to ≡ s
-moved_none s to = ap (λ (m : List ℕ). take (to + 2) s ++ (m ++ drop (to + 2) s)) (slice_empty to s) ∙ take-append-drop (to + 2) s
-
-moved_length : (s : List ℕ) (from to : ℕ) → from ≤ to → to + 2 ≤ length s → length (moved_up s from to) ≡ length s
-moved_length s from to h fits =
-    simp (length-append, length-slice from to s (omega arith), length-take-le (from + 2) s (omega arith), length-drop) (omega arith)
-
--- One word more is moved.
-moved_more : (s : List ℕ) (i to : ℕ) → i < to → to + 2 ≤ length s
-    → set (moved_up s (suc i) to) (i + 2) (get_or (moved_up s (suc i) to) i 0) ≡ moved_up s i to
-moved_more s i to h fits =
-    ap (λ (v : ℕ). set (moved_up s (suc i) to) (i + 2) v) same_word
-    ∙ ap (λ (t : List ℕ). set (t ++ rest) (i + 2) (get_or s i 0)) one_more
-    ∙ ap (λ (t : List ℕ). set t (i + 2) (get_or s i 0)) (append_assoc (take (i + 2) s) (get_or s (i + 2) 0 ∷ []) rest)
-    ∙ set_at (take (i + 2) s) (get_or s (i + 2) 0) rest (get_or s i 0) (i + 2) (length-take-le (i + 2) s (omega arith))
-    ∙ ap (λ (t : List ℕ). take (i + 2) s ++ (t ++ drop (to + 2) s)) (sym (slice-cons i to s 0 h (omega arith)))
-  where
-    rest : List ℕ
-    rest = slice (suc i) to s ++ drop (to + 2) s
-
-    same_word : get_or (moved_up s (suc i) to) i 0 ≡ get_or s i 0
-    same_word =
-        get_or-append (take (suc i + 2) s) rest 0 i (rw (length-take-le (suc i + 2) s (omega arith)) (omega arith))
-        ∙ get_or-take (suc i + 2) s i 0 (omega arith)
-
-    one_more : take (suc i + 2) s ≡ take (i + 2) s ++ (get_or s (i + 2) 0 ∷ [])
-    one_more = rw (suc-add i 2) (take-suc s (i + 2) 0 (omega arith))
-
--- The words from `from + left` on are moved.
-pub record Moving (s : List ℕ) (from to : ℕ) (now : List ℕ) (left : ℕ) : Type 0 where
-  pub within : from + left ≤ to
-  pub kept : length now ≡ length s
-  pub held : now ≡ moved_up s (from + left) to
-
-module _ (s : List ℕ) (from to : ℕ) (fits : to + 2 ≤ length s) where
-  moving : (now : List ℕ) (left : ℕ) → from + left ≤ to → now ≡ moved_up s (from + left) to → Moving s from to now left
-  moving now left w e = record { within = w; kept = ap length e ∙ moved_length s (from + left) to w fits; held = e }
-
-  pub moving_none : from ≤ to → Moving s from to s (to - from)
-  moving_none h =
-      let e : from + (to - from) ≡ to = omega arith in
-      moving s (to - from) (omega arith) (rw e (sym (moved_none s to)))
-
-  pub moving_more : (now : List ℕ) (left : ℕ) → Moving s from to now left → 0 < left
-      → Moving s from to (set now (from + (left - 1) + 2) (get_or now (from + (left - 1)) 0)) (left - 1)
-  moving_more now left m some =
-      let w : from + left ≤ to = m.within in
-      let i : ℕ = from + (left - 1) in
-      let e : from + left ≡ suc (from + (left - 1)) = omega arith in
-      let same : now ≡ moved_up s (suc i) to = m.held ∙ ap (λ (j : ℕ). moved_up s j to) e in
-      moving (set now (i + 2) (get_or now i 0)) (left - 1) (omega arith)
-      (ap (λ (t : List ℕ). set t (i + 2) (get_or t i 0)) same ∙ moved_more s i to (omega arith) fits)
-
-  pub moving_all : (now : List ℕ) (left : ℕ) → Moving s from to now left → left ≤ 0 → now ≡ moved_up s from to
-  moving_all now left m none = let e : from + left ≡ from = omega arith in m.held ∙ ap (λ (i : ℕ). moved_up s i to) e
+-- Words that are copied two places up are moved.
+pub moved_by_copy : (s : List ℕ) (from to : ℕ) → from ≤ to → copy_within s from to (from + 2) ≡ moved_up s from to
+moved_by_copy s from to h =
+    let end : from + 2 + (to - from) ≡ to + 2 = omega arith in
+    append_assoc (take (from + 2) s) (take (to - from) (drop from s)) (drop (from + 2 + (to - from)) s)
+    ∙ ap₂ (λ (m r : List ℕ). take (from + 2) s ++ (m ++ r)) (between_is s from to) (ap (λ (n : ℕ). drop n s) end)
 
 -- ---- the pair that an insertion stores
 
@@ -267,7 +271,7 @@ module _ (n : ℕ) (words : List ℕ) (high low at : ℕ) (tab : Tabled n words)
   stands_is = rw place (stands_member table key tab.rising)
 
   -- The key's place is in the table or right behind it.
-  pub at_le : at ≤ n
+  at_le : at ≤ n
   at_le =
       let le : place_in table key ≤ length table = place_le table key in
       let len : length table ≡ n = keys_length n words in

@@ -39,12 +39,6 @@ module _ (file : List ℕ) (at : ℕ) {s : List ℕ} (there : s ≡ drop at file
       (ap₂ (λ (p q : ℕ). key_of p q a (read_le 4 s 8)) ex ey ∙ ap (λ (q : ℕ). key_of (number 2 s) (read_le 2 s 2) q (read_le 4 s 8)) ea)
       ∙ ap (λ (t : List ℕ). high_word (cell_of t).key) there
 
-  pub cell_low : {b : ℕ} → b ≡ read_le 4 s 8 → b < 2 ^ 32 → b ≡ low_word (cell_of (drop at file)).key
-  cell_low {b} e h =
-      sym (low_word_lem (number 2 s) (read_le 2 s 2) (read_le 4 s 4) b h)
-      ∙ ap (λ (q : ℕ). low_word (key_of (number 2 s) (read_le 2 s 2) (read_le 4 s 4) q)) e
-      ∙ ap (λ (t : List ℕ). low_word (cell_of t).key) there
-
 -- ---- one more key behind the others
 
 -- The two words of the next key stored behind those of the keys before it.
@@ -70,14 +64,13 @@ stored_key n ks i h room =
 
 -- The buffer holds the first i keys of the opening.
 pub record OpeningKeysIn (file old keys : List ℕ) (i : ℕ) : Type 0 where
-  pub few : i ≤ length (block_of file).cells
   pub kept : length keys ≡ length old
   pub held : keys ≡ padded (length old) 0 (table_words (take i (opening_keys (block_of file))))
 
 pub keys_opened_none : (file keys : List ℕ) → keys ≡ repeated (length keys) 0 → OpeningKeysIn file keys keys 0
 unfolding table_words
 keys_opened_none file keys e =
-    record { few = omega arith; kept = refl; held = e ∙ ap (λ (n : ℕ). repeated n 0) (sym (sub-zero (length keys))) }
+    record { kept = refl; held = e ∙ ap (λ (n : ℕ). repeated n 0) (sym (sub-zero (length keys))) }
 
 module _ (file : List ℕ) (l : Layout) (laid : LayoutOfBlock file l) (old : List ℕ) (room : 2 * max_keys ≤ length old) where
   -- The places of a cell and of its key's words.
@@ -103,7 +96,6 @@ module _ (file : List ℕ) (l : Layout) (laid : LayoutOfBlock file l) (old : Lis
       let high_is : high ≡ high_word (get_or ks i 0) = eh ∙ ap (λ (k : ℕ). high_word k) key in
       let low-is : low ≡ low_word (get_or ks i 0) = el ∙ ap (λ (k : ℕ). low_word k) key in
       record {
-        few = omega arith;
         kept = length-set (set keys (2 * i) high) (2 * i + 1) low ∙ length-set keys (2 * i) high ∙ o.kept;
         held =
             ap₂ (λ (x y : ℕ). set (set keys (2 * i) x) (2 * i + 1) y) high_is low-is

@@ -19,7 +19,7 @@ use Rattle.footprint.specs.Sets.{sets_of}
 use Rattle.block.specs.Naming.{function_of}
 use Rattle.footprint.specs.Conflict.{row_for, conflict_bits}
 use Rattle.footprint.specs.Plan.{plan_words, entry_word, code_words, call_plan, plans, entry_writes}
-use Rattle.analysis.specs.Gathered.{column}
+use Rattle.analysis.specs.Planned.{column}
 use Rattle.block.specs.BlockOfFile.{block_of, function_at}
 use Rattle.footprint.specs.BlockSets.{all_sets, sets_at, TableOf}
 use Rattle.footprint.proofs.AnalysedLaws.{Complete, analysed_complete}

@@ -1,5 +1,5 @@
 -- The mathematics of the proofs of `plan`, over plain variables: the words of a call, and the entries of a set.
-use mathlib.Core.Path.{◌≡◌, refl, sym, ap, ap₂, ◌∙◌}
+use mathlib.Core.Path.{◌≡◌, refl, sym, ap, ap₂, ◌∙◌, subst}
 use mathlib.Core.Bool.{Bool, true, false}
 use mathlib.Core.List.{List, [], ◌∷◌, ◌++◌, map, append_assoc}
 use Prim.Native.Nat.{ℕ, zero, suc, ◌+◌, ◌-◌, ◌*◌, ◌^◌, ◌≤◌, ◌<◌}
@@ -8,19 +8,22 @@ use native.Mathlib.Numerals.{add-one}
 use native.Mathlib.Omega.{arith}
 use lib.Dec.{lit<}
 use lib.IntN.{ℤ}
-use lib.ListN.{length, get_or, take, set, replicate, length-map}
+use lib.ListN.{length, get_or, take, set, replicate, length-map, length-append}
 use lib.Seq.{take-suc, take_all, length-take-le}
+use Rattle.std.specs.Prelude.{Option, IsSome}
+use Rattle.std.specs.declared.option.Option.TheVariants.{None, Some}
 use Rattle.wire.specs.Bytes.{read_le, repeated, padded, stored}
 use Rattle.wire.specs.Rows.{bit}
-use Rattle.wire.proofs.BytesLaws.{stored_append}
 use Rattle.arith.specs.Exact.{signed}
 use Rattle.block.specs.Key.{key_of}
 use Rattle.block.specs.Record.{cell_of}
 use Rattle.block.specs.Limits.{max_call_keys, max_keys}
 use Rattle.footprint.specs.Access.{Access}
 use Rattle.footprint.specs.Plan.{plan_words, entry_word, code_words}
-use Rattle.analysis.specs.Gathered.{column, columns, high_of, low_of, flags_of, gathered}
-use Rattle.analysis.proofs.GatheredLaws.{gathered_fits}
+use Rattle.analysis.specs.Filling.{set_key}
+use Rattle.analysis.specs.Gathered.{Gathered, Holds}
+use Rattle.key_uses.specs.Uses.{no_use, use_of}
+use Rattle.key_uses.specs.declared.KeyUse.{KeyUse}
 use Rattle.footprint.specs.KeyWords.{key_from, keys_in}
 use Rattle.analysis.specs.KeyTable.{cell_place, Sorted}
 use Rattle.analysis.proofs.PlaceLaws.{place_le, place_cell, cell_place_member}
@@ -31,84 +34,37 @@ use Rattle.analysis.specs.Masks.{add_call_words, CellsInTable}
 use Rattle.footprint.specs.EntryUses.{entry_words}
 use Rattle.footprint.specs.Listed.{AllListed}
 use Rattle.analysis.proofs.MaskBuffers.{entries_taken, in_table}
-use Rattle.analysis.specs.Planned.{GatheredFits, words_of_call, call_words}
+use Rattle.analysis.specs.Planned.{GatheredFits, words_of_call, call_words, column, use_flags}
+use Rattle.analysis.proofs.RowLoops.{stored_on}
 use Rattle.analysis.proofs.PlanLaws.{stored_padded, complete, listed_set}
 use Rattle.analysis.specs.declared.Sets.{Sets}
 
 -- ---- the words of a call
 
-three_stored : (s : List ℕ) (at a b c : ℕ) (ws : List ℕ)
-    → stored s at (a ∷ b ∷ c ∷ ws) ≡ stored (set (set (set s at a) (at + 1) b) (at + 2) c) (at + 3) ws
-unfolding stored
-three_stored s at a b c ws =
-    let two : at + 1 + 1 ≡ at + 2 = omega arith in
-    let three : at + 2 + 1 ≡ at + 3 = omega arith in
-    rw (two, three)
-
-five_stored : (s : List ℕ) (at a b c d e : ℕ)
-    → stored s at (a ∷ b ∷ c ∷ d ∷ e ∷ []) ≡ set (set (set (set (set s at a) (at + 1) b) (at + 2) c) (at + 3) d) (at + 4) e
-unfolding stored
-five_stored s at a b c d e =
-    let four : at + 3 + 1 ≡ at + 4 = omega arith in
-    three_stored s at a b c (d ∷ e ∷ []) ∙ rw four
-
--- A row and a 0 behind it, word by word.
-abbrev row_stored : List ℕ → ℕ → List ℕ → List ℕ
-row_stored s at row = set (set (set (set (set s at (get_or row 0 0)) (at + 1) (get_or row 1 0)) (at + 2) (get_or row 2 0)) (at + 3) (get_or row 3 0)) (at + 4) 0
-
-row_stored_lem : (s : List ℕ) (at : ℕ) (row : List ℕ) → length row ≡ 4 → row_stored s at row ≡ stored s at (row ++ (0 ∷ []))
-row_stored_lem s at [] h = absurd (omega arith)
-row_stored_lem s at (p ∷ []) h = absurd (omega arith)
-row_stored_lem s at (p ∷ q ∷ []) h = absurd (omega arith)
-row_stored_lem s at (p ∷ q ∷ r ∷ []) h = absurd (omega arith)
-row_stored_lem s at (p ∷ q ∷ r ∷ t ∷ []) h = sym (five_stored s at p q r t 0)
-row_stored_lem s at (p ∷ q ∷ r ∷ t ∷ u ∷ row) h = absurd (omega arith)
-
 -- What the stores of a call leave.
-pub call_stored : (s : List ℕ) (at a b c : ℕ) (words row mid : List ℕ) → length words ≡ 24 → length row ≡ 4
-    → mid ≡ stored (set (set (set s at a) (at + 1) b) (at + 2) c) (at + 3) words
-    → row_stored mid (at + 27) row ≡ stored s at (words_of_call (a ∷ b ∷ []) c words row)
-call_stored s at a b c words row mid e four m =
-    let front : List ℕ = set (set (set s at a) (at + 1) b) (at + 2) c in
-    let behind : at + 27 ≡ at + 3 + length words = omega arith in
-    row_stored_lem mid (at + 27) row four
-    ∙ ap₂ (λ (l : List ℕ) (n : ℕ). stored l n (row ++ (0 ∷ []))) m behind
-    ∙ sym (stored_append words (row ++ (0 ∷ [])) front (at + 3))
-    ∙ ap (stored front (at + 3)) (sym (append_assoc words row (0 ∷ [])))
-    ∙ sym (three_stored s at a b c (words ++ row ++ (0 ∷ [])))
+pub call_stored : (s : List ℕ) (at a b c : ℕ) (words row : List ℕ) {one two three : List ℕ} → length words ≡ 24 → length row ≡ 4
+    → one ≡ stored s at (a ∷ b ∷ c ∷ []) → two ≡ stored one (at + 3) words → three ≡ stored two (at + 27) row
+    → set three (at + 27 + 4) 0 ≡ stored s at (words_of_call (a ∷ b ∷ []) c words row)
+unfolding stored
+call_stored s at a b c words row {one} {two} {three} e f p q r =
+    let front : List ℕ = a ∷ b ∷ c ∷ [] in
+    let n : length (front ++ words) ≡ 3 + length words = length-append front words in
+    let m : length (front ++ words ++ row) ≡ length (front ++ words) + length row = length-append (front ++ words) row in
+    let entered : two ≡ stored s at (front ++ words) = stored_on s at front words (at + 3) p refl q in
+    let whole : three ≡ stored s at (front ++ words ++ row) = stored_on s at (front ++ words) row (at + 27) entered (omega arith) r in
+    stored_on s at (front ++ words ++ row) (0 ∷ []) (at + 27 + 4) whole (omega arith) refl
 
 -- ---- the entries of a set
 
--- What is below a bound in a column and in what fills it up is so everywhere.
-small_at : (f : Access → ℕ) (m : ℕ) → ((e : Access) → f e < m) → (es : List Access) (rest : List ℕ) → ((i : ℕ) → get_or rest i 0 < m)
-    → (i : ℕ) → get_or (map f es ++ rest) i 0 < m
-small_at f m h [] rest r i = r i
-small_at f m h (e ∷ es) rest r zero = h e
-small_at f m h (e ∷ es) rest r (suc i) = small_at f m h es rest r i
-
-zeros_small : (n m : ℕ) → 0 < m → (i : ℕ) → get_or (repeated n 0) i 0 < m
-unfolding repeated
-zeros_small zero m h i = h
-zeros_small (suc n) m h zero = h
-zeros_small (suc n) m h (suc i) = zeros_small n m h i
-
-column_small : (f : Access → ℕ) (m : ℕ) → 0 < m → ((e : Access) → f e < m) → (es : List Access) (i : ℕ) → get_or (column f es) i 0 < m
-column_small f m z h es = small_at f m h es (repeated (max_call_keys - length (map f es)) 0) (zeros_small (max_call_keys - length (map f es)) m z)
-
-flags_small : (r w : Bool) → bit r + 2 * bit w < 4
-flags_small true true = lit< tt
-flags_small true false = lit< tt
-flags_small false true = lit< tt
-flags_small false false = lit< tt
-
--- The columns of at most 24 accesses make entries.
-pub columns_fit : (es : List Access) → length es ≤ max_call_keys → GatheredFits (columns es)
-columns_fit es h =
-    record {
-      few = h;
-      lows = column_small low_of (2 ^ 32) (lit< tt) (λ e. mod-lt e.key (lit< tt)) es;
-      flags = column_small flags_of 4 (lit< tt) (λ e. flags_small e.reads e.writes) es;
-    }
+-- The flags of a use are two bits.
+pub flags_small : (u : KeyUse) → use_flags u < 4
+flags_small u = go u.reads u.writes
+  where
+    go : (r w : Bool) → bit r + 2 * bit w < 4
+    go true true = lit< tt
+    go true false = lit< tt
+    go false true = lit< tt
+    go false false = lit< tt
 
 -- A place in the table is at most the number of its keys.
 pub place_few : (n : ℕ) (words : List ℕ) (k cell : ℕ) → Sorted n words → cell ≡ cell_place (keys_in n words) k → cell ≤ max_keys
@@ -118,79 +74,73 @@ place_few n words k cell h e =
     (omega (arith, place_le (keys_in n words) k, keys_length n words))
 
 -- A key's cell number and flags are its entry.
-entry_at : (table : List ℕ) (es : List Access) (hs ls fs : List ℕ) (k : ℕ) → k < length es → AllListed table es
-    → cell_place table (key_from (get_or (map high_of es ++ hs) k 0) (get_or (map low_of es ++ ls) k 0)) * 4 + get_or (map flags_of es ++ fs) k 0
-    ≡ get_or (entry_words table es) k 0
-unfolding entry_word
-entry_at table [] hs ls fs k h l = absurd (omega arith)
-entry_at table (e ∷ es) hs ls fs zero h l =
+entry_at : (table : List ℕ) (es : List Access) (k : ℕ) → k < length es → AllListed table es
+    → cell_place table (set_key (get_or (map use_of es) k no_use)) * 4 + use_flags (get_or (map use_of es) k no_use) ≡ get_or (entry_words table es) k 0
+unfolding entry_word use_of
+entry_at table [] k h l = absurd (omega arith)
+entry_at table (e ∷ es) zero h l =
     rw (key_of_words e.key, cell_place_member table e.key l.0.in_table) (omega arith)
-entry_at table (e ∷ es) hs ls fs (suc k) h l = entry_at table es hs ls fs k (omega arith) l.1
+entry_at table (e ∷ es) (suc k) h l = entry_at table es k (omega arith) l.1
 
--- The first k entries of the set whose columns are given, with zeros behind.
-pub record EntriesTo (table : List ℕ) (s : Sets) (words : List ℕ) (k : ℕ) : Type 0 where
-  pub within : k ≤ s.count
-  pub same : (es : List Access) → s ≡ columns es → AllListed table es → words ≡ padded max_call_keys 0 (take k (entry_words table es))
+-- The first k entries of a set, with zeros behind.
+abbrev pub EntriesTo : List ℕ → Sets → List ℕ → ℕ → Type 0
+EntriesTo table s words k = (es : List Access) → Holds s es → AllListed table es → words ≡ padded max_call_keys 0 (take k (entry_words table es))
 
 module _ (table : List ℕ) (s : Sets) where
   pub entries_none : EntriesTo table s (replicate 24 0) 0
   unfolding repeated
-  entries_none = record { within = omega arith; same = λ es e l. refl }
+  entries_none es e l = refl
 
-  pub entries_more : (words : List ℕ) (k cell : ℕ) → EntriesTo table s words k → k < s.count → s.count ≤ max_call_keys
-      → cell ≡ cell_place table (key_from (get_or s.highs k 0) (get_or s.lows k 0))
-      → EntriesTo table s (set words k (cell * 4 + get_or s.flags k 0)) (k + 1)
+  pub entries_more : (words : List ℕ) (k cell flags : ℕ) → EntriesTo table s words k → k < length (take s.count s.keys)
+      → cell ≡ cell_place table (set_key (get_or (take s.count s.keys) k no_use)) → flags ≡ use_flags (get_or (take s.count s.keys) k no_use)
+      → EntriesTo table s (set words k (cell * 4 + flags)) (k + 1)
   unfolding stored
-  entries_more words k cell h low few c =
-      record {
-        within = omega arith;
-        same = λ es e l.
-            let count : s.count ≡ length es = ap (λ (t : Sets). t.count) e in
-            let long : length (entry_words table es) ≡ length es = length-map es (entry_word table) in
-            let at : length (take k (entry_words table es)) ≡ k = length-take-le k (entry_words table es) (omega arith) in
-            let word : cell * 4 + get_or s.flags k 0 ≡ get_or (entry_words table es) k 0 =
-            ap (λ (m : ℕ). m * 4 + get_or s.flags k 0) c
-            ∙ ap (λ (t : Sets). cell_place table (key_from (get_or t.highs k 0) (get_or t.lows k 0)) * 4 + get_or t.flags k 0) e
-            ∙ entry_at table es _ _ _ k (omega arith) l in
-            let last : take (suc k) (entry_words table es) ≡ take k (entry_words table es) ++ (get_or (entry_words table es) k 0 ∷ []) =
-            take-suc (entry_words table es) k 0 (omega arith) in
-            ap₂ (λ (ws : List ℕ) (v : ℕ). set ws k v) (h.same es e l) word
-            ∙ ap (λ (i : ℕ). set (padded max_call_keys 0 (take k (entry_words table es))) i (get_or (entry_words table es) k 0)) (sym at)
-            ∙ stored_padded max_call_keys 0 (take k (entry_words table es)) (get_or (entry_words table es) k 0 ∷ []) (omega arith)
-            ∙ ap (padded max_call_keys 0) (sym last) ∙ rw (add-one k);
-      }
-
-  pub entries_all : (words : List ℕ) (k : ℕ) → EntriesTo table s words k → s.count ≤ k
-      → (es : List Access) → s ≡ columns es → AllListed table es → words ≡ column (entry_word table) es
-  entries_all words k h end es e l =
-      let count : s.count ≡ length es = ap (λ (t : Sets). t.count) e in
+  entries_more words k cell flags same h c f es e l =
+      let few : s.count ≤ max_call_keys = s.few in
+      let count : s.count ≡ length es = e.count in
+      let standing : length (take s.count s.keys) ≡ length es = ap length e.keys ∙ length-map es use_of in
       let long : length (entry_words table es) ≡ length es = length-map es (entry_word table) in
-      h.same es e l ∙ ap (padded max_call_keys 0) (take_all k (entry_words table es) (omega arith))
+      let at : length (take k (entry_words table es)) ≡ k = length-take-le k (entry_words table es) (omega arith) in
+      let word : cell * 4 + flags ≡ get_or (entry_words table es) k 0 =
+      ap₂ (λ (m n : ℕ). m * 4 + n) c f
+      ∙ ap (λ (us : List KeyUse). cell_place table (set_key (get_or us k no_use)) * 4 + use_flags (get_or us k no_use)) e.keys
+      ∙ entry_at table es k (omega arith) l in
+      let last : take (suc k) (entry_words table es) ≡ take k (entry_words table es) ++ (get_or (entry_words table es) k 0 ∷ []) =
+      take-suc (entry_words table es) k 0 (omega arith) in
+      ap₂ (λ (ws : List ℕ) (v : ℕ). set ws k v) (same es e l) word
+      ∙ ap (λ (i : ℕ). set (padded max_call_keys 0 (take k (entry_words table es))) i (get_or (entry_words table es) k 0)) (sym at)
+      ∙ stored_padded max_call_keys 0 (take k (entry_words table es)) (get_or (entry_words table es) k 0 ∷ []) (omega arith)
+      ∙ ap (padded max_call_keys 0) (sym last) ∙ rw (add-one k)
+
+  pub entries_all : (words : List ℕ) (k : ℕ) → EntriesTo table s words k → length (take s.count s.keys) ≤ k
+      → (es : List Access) → Holds s es → AllListed table es → words ≡ column (entry_word table) es
+  entries_all words k same end es e l =
+      let standing : length (take s.count s.keys) ≡ length es = ap length e.keys ∙ length-map es use_of in
+      let long : length (entry_words table es) ≡ length es = length-map es (entry_word table) in
+      same es e l ∙ ap (padded max_call_keys 0) (take_all k (entry_words table es) (omega arith))
 
 -- ---- one call
 
-module _ (file table : List ℕ) (known : TableOf file table) (j : ℕ) (s : Sets) (made : s ≡ gathered (sets_at file j)) where
+module _ (file table : List ℕ) (known : TableOf file table) (j : ℕ) where
   abbrev es : List Access
   es = sets_at file j
 
-  short_set : length es ≤ max_call_keys
-  short_set = (complete file table known).short j
+  -- A call of a complete table has a set.
+  pub some_set : (o : Option Sets) → Gathered o es → IsSome o
+  unfolding Gathered
+  some_set None over = let few : length es ≤ max_call_keys = (complete file table known).short j in absurd (omega arith)
+  some_set (Some s) held = refl
 
-  set_columns : s ≡ columns es
-  set_columns = made ∙ gathered_fits es short_set
+  pub set_held : (o : Option Sets) {s : Sets} → o ≡ Some s → Gathered o es → Holds s es
+  unfolding Gathered
+  set_held o e held = subst (λ (p : Option Sets). Gathered p es) e held
 
-  pub set_fitting : GatheredFits s
-  set_fitting = rw set_columns (columns_fit es short_set)
-
-  pub set_few : s.count ≤ max_call_keys
-  set_few = set_fitting.few
-
-  module _ (words : List ℕ) (right : (fs : List Access) → s ≡ columns fs → AllListed table fs → words ≡ column (entry_word table) fs) where
+  module _ (s : Sets) (made : Holds s es) (words : List ℕ) (right : (fs : List Access) → Holds s fs → AllListed table fs → words ≡ column (entry_word table) fs) where
     words_column : words ≡ column (entry_word table) es
-    words_column = right es set_columns (listed_set file table (complete file table known) j)
+    words_column = right es made (listed_set file table (complete file table known) j)
 
     set_count : s.count ≡ length es
-    set_count = ap (λ (t : Sets). t.count) set_columns
+    set_count = made.count
 
     words_taken : take s.count words ≡ entry_words table es
     words_taken = ap₂ (λ (n : ℕ) (ws : List ℕ). take n ws) set_count words_column ∙ entries_taken table es

@@ -1,7 +1,7 @@
 -- The code of the function that a call names, as the tables of a layout tell it, and the set of a call of a code.
-use Rattle.std.specs.Prelude.{Bool, List, [], ◌∷◌, ℕ, ◌+◌, ◌-◌, ◌≤◌, eqb, ltb, get_or}
+use Rattle.std.specs.Prelude.{List, [], ◌∷◌, ℕ, ◌+◌, ◌-◌, ◌≤◌, eqb, get_or, take, position, Option}
+use Rattle.std.specs.declared.option.Option.TheVariants.{None, Some}
 use Rattle.std.specs.Prelude.{if◌then◌else◌}
-use Rattle.wire.specs.RowOps.{first_of}
 use Rattle.block.specs.Limits.{max_code, max_functions}
 use Rattle.block.specs.Record.{code_at}
 use Rattle.block.specs.declared.Call.{Call}
@@ -17,23 +17,21 @@ words_of code = code.start ∷ code.length ∷ []
 abbrev pub noCode : Code
 noCode = record { start = 0; length = 0 }
 
--- The place of an id among the first n, or n.
-abbrev pub holds_id : List ℕ → ℕ → ℕ → Bool
-holds_id ids id i = eqb (get_or ids i 0) id
-
-unfoldable pub id_place : List ℕ → ℕ → ℕ → ℕ
-id_place ids n id = first_of (holds_id ids id) n 0
+-- The place of an id.
+abbrev pub id_place : List ℕ → ℕ → Option ℕ
+id_place ids id = position (λ i. eqb i id) ids
 
 -- The code at a place of the tables.
 abbrev pub code_from : Layout → ℕ → Code
 code_from l at = record { start = get_or l.starts at 0; length = get_or l.sizes at 0 + 1 }
 
-abbrev pub code_at_place : Layout → ℕ → Code
-code_at_place l at = if ltb at l.functions then code_from l at else noCode
+abbrev pub code_at_place : Layout → Option ℕ → Code
+code_at_place l None = noCode
+code_at_place l (Some at) = code_from l at
 
 -- The code of the function with an id.
 unfoldable pub code_in : Layout → ℕ → Code
-code_in l id = code_at_place l (id_place l.ids l.functions id)
+code_in l id = code_at_place l (id_place (take l.functions l.ids) id)
 
 -- The set of a call of a code.
 unfoldable pub code_sets : List ℕ → Code → Call → List Access

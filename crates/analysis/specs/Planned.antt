@@ -1,18 +1,21 @@
 -- The words of a call in the plan, by the parts that the code stores.
-use Rattle.std.specs.Prelude.{List, [], ◌∷◌, ◌++◌, ℕ, ◌^◌, ◌≤◌, ◌<◌, length, get_or}
+use Rattle.std.specs.Prelude.{List, [], ◌∷◌, ◌++◌, map, ℕ, ◌+◌, ◌*◌, length}
 use Rattle.std.proofs.Math.Option.{Option}
+use Rattle.wire.specs.Bytes.{padded}
+use Rattle.wire.specs.Rows.{bit}
 use Rattle.block.specs.Limits.{max_call_keys}
 use Rattle.block.specs.Record.{Function}
 use Rattle.footprint.specs.Access.{Access}
 use Rattle.footprint.specs.Plan.{entry_word, code_words}
-use Rattle.analysis.specs.Gathered.{column}
-use Rattle.analysis.specs.declared.Sets.{Sets}
+use Rattle.key_uses.specs.declared.KeyUse.{KeyUse}
 
--- A gathered set whose words make entries: its keys stand, their last words are of 32 bits and their flags of two.
-pub record GatheredFits (s : Sets) : Type 0 where
-  pub few : s.count ≤ max_call_keys
-  pub lows : (k : ℕ) → get_or s.lows k 0 < 2 ^ 32
-  pub flags : (k : ℕ) → get_or s.flags k 0 < 4
+-- The flags of a use: 1 if it reads, plus 2 if it writes.
+abbrev pub use_flags : KeyUse → ℕ
+use_flags u = bit u.reads + 2 * bit u.writes
+
+-- What each access has in 24 places, and zeros behind.
+abbrev pub column : (Access → ℕ) → List Access → List ℕ
+column f es = padded max_call_keys 0 (map f es)
 
 -- "word 0 is the start of its code .., word 1 the length .., word 2 the number of its keys, words 3 to 26 its entries, words 27 to 30 its
 -- row; word 31 is 0."

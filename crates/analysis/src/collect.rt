@@ -1,14 +1,14 @@
 // The table of all keys of a block: the keys of its opening, and call by call those of the calls' sets.
 ghost use Rattle.std.specs.Prelude.{◌≡◌, ◌+◌, ◌*◌, ◌≤◌, ◌<◌, length, drop};
 ghost use Rattle.wire.specs.Bytes.{repeated, padded};
-ghost use Rattle.block.specs.Limits.{max_bytes, max_code, max_functions, max_keys};
+ghost use Rattle.block.specs.Limits.{max_bytes, max_code, max_keys};
 ghost use Rattle.block.specs.Record.{call_id, cell_of, head_bytes, call_record_bytes};
 ghost use Rattle.footprint.specs.Plan.{code_words, high_word, low_word, table_words};
 ghost use Rattle.footprint.specs.Table.{refused};
 ghost use Rattle.analysis.specs.Coded.{Narrow, code_in, code_sets, id_place, words_of};
 ghost use Rattle.analysis.specs.Collected.{collected_of, leaving};
-ghost use Rattle.analysis.specs.Filling.{KeysFilled, SetsWorded, set_keys};
-ghost use Rattle.analysis.specs.Gathered.{gathered};
+ghost use Rattle.analysis.specs.Filling.{KeysFilled, set_keys};
+ghost use Rattle.analysis.specs.Gathered.{Gathered, Worded};
 ghost use Rattle.analysis.specs.KeyTable.{Tabled};
 ghost use Rattle.reader.specs.LayoutOfBlock.{LayoutOfBlock};
 ghost use Rattle.footprint.specs.BlockSets.{analysis_of, sets_at};
@@ -19,25 +19,23 @@ use crate::table::key_insert;
 use crate::{Code, Collected, Sets};
 use block::address::address_of;
 use block::format::{CALL_RECORD_BYTES, CELL_BYTES, HEAD_BYTES};
-use block::limits::{MAX_FUNCTIONS, MAX_KEYS};
+use block::limits::MAX_KEYS;
 use block::{Call, CallBody, Refusal, Verdict};
 use decoder::part::{from, long, short};
 use decoder::record::{call_at, code_at, high_of, id_of};
 use reader::Layout;
 
-// The place of an id among the first n, or n.
-fn id_place(ids: [u64; MAX_FUNCTIONS], n: usize, id: u64) -> usize
-    requires { n ≤ max_functions }
-    ensures { result ≡ id_place ids n id }
+// The code of an unknown function.
+const NO_CODE: Code = Code {
+    start: 0,
+    length: 0,
+};
+
+// The place of an id.
+fn id_place(ids: &[u64], id: u64) -> Option<usize>
+    ensures { result ≡ id_place ids.now id }
 {
-    let mut at = 0;
-    while at < n {
-        if ids[at] == id {
-            return at;
-        }
-        at += 1;
-    }
-    at
+    ids.iter().position(|i| *i == id)
 }
 
 // The code of the function that a call names, from the layout's tables.
@@ -46,16 +44,12 @@ fn code_of(l: Layout, c: Call) -> Code
     ensures { result ≡ code_in l (call_id c) }
 {
     let contract = c.contract;
-    let at = id_place(l.ids, l.functions, id_of(contract, c.function));
-    if at < l.functions {
-        return Code {
+    match id_place(&l.ids[..l.functions], id_of(contract, c.function)) {
+        Some(at) => Code {
             start: l.starts[at] as u64,
             length: l.sizes[at] as u64 + 1,
-        };
-    }
-    Code {
-        start: 0,
-        length: 0,
+        },
+        None => NO_CODE,
     }
 }
 
@@ -75,34 +69,31 @@ pub(crate) fn call_code(file: &[u8], l: Layout, call: usize) -> Code
 {
     match call_at(file, call_place(l, call)) {
         CallBody::InRange(c) => code_of(l, c),
-        CallBody::OutOfRange => Code {
-            start: 0,
-            length: 0,
-        },
+        CallBody::OutOfRange => NO_CODE,
     }
 }
 
-// The set of a call of a code.
-fn sets_of(file: &[u8], code: Code, c: Call) -> Sets
+// The set of a call of a code, where it keeps the limit.
+fn sets_of(file: &[u8], code: Code, c: Call) -> Option<Sets>
     requires { code.length ≤ max_code + 1 }
-    ensures { result ≡ gathered (code_sets file.now code c) }
+    ensures { Gathered result (code_sets file.now code c) }
 {
     if code.length == 0 {
-        return no_keys();
+        return Some(no_keys());
     }
     let size = code.length as usize - 1;
     function_sets(code_at(file, code.start as usize, size), size, c)
 }
 
-// The set of a call.
-pub(crate) fn call_sets(file: &[u8], l: Layout, call: usize) -> Sets
+// The set of a call, where it keeps the limit.
+pub(crate) fn call_sets(file: &[u8], l: Layout, call: usize) -> Option<Sets>
     requires layout_of_block { LayoutOfBlock file.now l }
     requires call_in_bounds { call < length (block_of file.now).calls }
-    ensures { result ≡ gathered (sets_at file.now call) }
+    ensures { Gathered result (sets_at file.now call) }
 {
     match call_at(file, call_place(l, call)) {
         CallBody::InRange(c) => sets_of(file, code_of(l, c), c),
-        CallBody::OutOfRange => no_keys(),
+        CallBody::OutOfRange => Some(no_keys()),
     }
 }
 
@@ -128,32 +119,28 @@ pub(crate) fn opening_keys(file: &[u8], l: Layout, keys: &mut [u64])
     requires keys_value { keys.old ≡ repeated (length keys.old) 0 }
     ensures { keys.new ≡ padded (length keys.old) 0 (table_words (opening_keys (block_of file.now))) }
 {
-    let mut i = 0;
-    while i < l.cells {
+    for i in 0..l.cells {
         let at = l.opening + (HEAD_BYTES + CELL_BYTES) * i + HEAD_BYTES;
         keys[2 * i] = cell_high(file, at);
         keys[2 * i + 1] = cell_low(file, at);
-        i += 1;
     }
 }
 
-// The keys of a set inserted one after another, up to the first that the table of n keys has no room for. The answer is the number of
-// keys, or MAX_KEYS + 1.
-fn insert_sets(keys: &mut [u64], n: usize, s: Sets) -> usize
+// The keys of a set inserted one after another into the table of n keys, up to the first that it has no room for. The answer is the
+// number of keys, where all have room.
+fn insert_sets(keys: &mut [u64], n: usize, s: &Sets) -> Option<usize>
     requires tabled { Tabled n keys.old }
-    requires sets_worded { SetsWorded s }
-    ensures { KeysFilled n keys.old (set_keys s) result keys.new }
+    requires worded { Worded s.now }
+    ensures { KeysFilled n keys.old (set_keys s.now) result keys.new }
 {
     let mut count = n;
-    let mut i = 0;
-    while i < s.count {
-        count = key_insert(keys, count, s.highs[i], s.lows[i]);
+    for key in &s.keys[..s.count] {
+        count = key_insert(keys, count, key.high, key.low);
         if MAX_KEYS < count {
-            return count;
+            return None;
         }
-        i += 1;
     }
-    count
+    Some(count)
 }
 
 // What is answered of a refused block, with the keys cleared.
@@ -177,18 +164,15 @@ pub(crate) fn call_keys(file: &[u8], l: Layout, keys: &mut [u64]) -> Collected
         ≡ collected_of (length keys.old) (analysis_of file.now (block_of file.now)) }
 {
     let mut n = l.cells;
-    let mut call = 0;
-    while call < l.calls {
+    for call in 0..l.calls {
         let at = l.first_call + CALL_RECORD_BYTES * call;
-        let s = call_sets(file, l, call);
-        if s.over {
+        let Some(s) = call_sets(file, l, call) else {
             return refuse_keys(keys, Refusal::CallKeys(at));
-        }
-        n = insert_sets(keys, n, s);
-        if MAX_KEYS < n {
+        };
+        let Some(count) = insert_sets(keys, n, &s) else {
             return refuse_keys(keys, Refusal::AllKeys(at));
-        }
-        call += 1;
+        };
+        n = count;
     }
     Collected {
         verdict: Verdict::Accepted,

@@ -1,14 +1,14 @@
-// The set analysis of a call: its distinct keys with their flags, at most 24, gathered by a function walk over an instruction walk.
-ghost use Rattle.std.specs.Prelude.{◌≡◌, [], ◌*◌, ◌<◌, ◌≤◌, drop, length};
-ghost use Rattle.wire.specs.RowOps.{first_of};
+// The set analysis of a call: its distinct keys with their uses, at most 24, gathered by a function walk over an instruction walk.
+ghost use Rattle.std.specs.Prelude.{◌≡◌, List, [], ◌*◌, ◌<◌, ◌≤◌, option_map, drop, length, take, position};
 ghost use Rattle.block.specs.Instruction.{decode, instr_bytes};
 ghost use Rattle.block.specs.Limits.{max_code};
-ghost use Rattle.footprint.specs.Access.{entry_accesses};
-ghost use Rattle.analysis.specs.Gathered.{Wide, gathered, in_parts, use_stands_at, use_flags, with_use, with_uses};
-ghost use Rattle.footprint.specs.Sets.{code_accesses, decoded_accesses, merge_all};
-ghost use Rattle.key_uses.specs.Uses.{uses_of};
+ghost use Rattle.footprint.specs.Access.{Access, entry_accesses};
+ghost use Rattle.analysis.specs.Gathered.{Gathered, Holds, same_key};
+ghost use Rattle.analysis.specs.Planned.{use_flags};
+ghost use Rattle.footprint.specs.Sets.{code_accesses, decoded_accesses, merge, merge_all};
+ghost use Rattle.key_uses.specs.Uses.{use_of, uses_of};
 
-use crate::{Sets, Standing};
+use crate::Sets;
 use block::format::INSTR_BYTES;
 use block::limits::MAX_CALL_KEYS;
 use block::{Call, Decoded};
@@ -17,109 +17,64 @@ use key_uses::{KeyUse, Uses, entry_uses, instr_uses, no_uses};
 
 // No keys.
 pub(crate) fn no_keys() -> Sets
-    ensures { result ≡ gathered [] }
+    ensures { Holds result [] }
 {
     Sets {
-        over: false,
         count: 0,
-        highs: [0; MAX_CALL_KEYS],
-        lows: [0; MAX_CALL_KEYS],
-        flags: [0; MAX_CALL_KEYS],
+        keys: [no_uses().first; MAX_CALL_KEYS],
     }
 }
 
 // The flags of a use: 1 if it reads, plus 2 if it writes.
-fn use_flags(u: KeyUse) -> u64
+pub(crate) fn use_flags(u: KeyUse) -> u64
     ensures { result ≡ use_flags u }
 {
-    if u.reads {
-        if u.writes {
-            return 3;
-        }
-        return 1;
-    }
-    if u.writes {
-        return 2;
-    }
-    0
+    u.reads as u64 + 2 * u.writes as u64
 }
 
-// The place of a use's key among the first `count`, or their number.
-fn place(highs: &[u64], lows: &[u64], count: usize, u: KeyUse) -> usize
-    requires { (count ≤ length highs.now) × (count ≤ length lows.now) }
-    ensures { result ≡ first_of (use_stands_at highs.now lows.now u) count 0 }
+// The place of a use's key among those that stand.
+fn place(s: &Sets, u: KeyUse) -> Option<usize>
+    ensures { result ≡ position (same_key u) (take s.now.count s.now.keys) }
 {
-    let mut at = 0;
-    while at < count {
-        let found = (highs[at] == u.high) & (lows[at] == u.low);
-        if found {
-            return at;
-        }
-        at += 1;
-    }
-    at
+    s.keys[..s.count]
+        .iter()
+        .position(|k| k.high == u.high && k.low == u.low)
 }
 
-// One more use: its flags join those of its key, or its key is a new one behind the others.
-fn with_use(
-    highs: &mut [u64],
-    lows: &mut [u64],
-    flags: &mut [u64],
-    t: Standing,
-    u: KeyUse,
-) -> Standing
-    requires { Wide t highs.old lows.old flags.old }
-    ensures { in_parts result highs.new lows.new flags.new
-        ≡ with_use (in_parts t highs.old lows.old flags.old) u }
+// One more use: it joins that of its key, or its key is a new one behind the others, unless there are as many as the limit.
+fn with_use(s: &mut Sets, u: KeyUse) -> Option<()>
+    ensures { (es : List Access) (a : Access) → Holds s.old es → u ≡ use_of a → Gathered (option_map (λ _. s.new) result) (merge es a) }
 {
-    if t.over {
-        return t;
-    }
-    let at = place(highs, lows, t.count, u);
-    let joining = use_flags(u);
-    if at < t.count {
-        let old = flags[at];
-        flags[at] = old | joining;
-        return t;
-    }
-    if MAX_CALL_KEYS <= at {
-        wire::clear_words(highs);
-        wire::clear_words(lows);
-        wire::clear_words(flags);
-        return Standing {
-            over: true,
-            count: 0,
+    if let Some(at) = place(s, u) {
+        let key = s.keys[at];
+        s.keys[at] = KeyUse {
+            reads: key.reads | u.reads,
+            writes: key.writes | u.writes,
+            ..key
         };
+        return Some(());
     }
-    highs[at] = u.high;
-    lows[at] = u.low;
-    flags[at] = joining;
-    Standing {
-        over: false,
-        count: at + 1,
+    if s.count == MAX_CALL_KEYS {
+        return None;
     }
+    s.keys[s.count] = u;
+    s.count += 1;
+    Some(())
 }
 
 // The uses of one instruction, or of the entry, in their order.
-fn with_uses(
-    highs: &mut [u64],
-    lows: &mut [u64],
-    flags: &mut [u64],
-    t: Standing,
-    us: Uses,
-) -> Standing
-    requires { Wide t highs.old lows.old flags.old }
-    ensures { in_parts result highs.new lows.new flags.new
-        ≡ with_uses (in_parts t highs.old lows.old flags.old) us }
+fn with_uses(s: &mut Sets, us: Uses) -> Option<()>
+    ensures { (es more : List Access) → length more ≤ 2 → Holds s.old es → us ≡ uses_of more
+        → Gathered (option_map (λ _. s.new) result) (merge_all es more) }
 {
     if us.count == 0 {
-        return t;
+        return Some(());
     }
-    let one = with_use(highs, lows, flags, t, us.first);
+    with_use(s, us.first)?;
     if us.count == 1 {
-        return one;
+        return Some(());
     }
-    with_use(highs, lows, flags, one, us.second)
+    with_use(s, us.second)
 }
 
 // The instruction walk: the uses of the instruction at `index` of a code of `size`. What does not decode uses no key.
@@ -134,29 +89,14 @@ fn uses_at(code: &[u8], index: usize, size: usize, c: Call) -> Uses
 }
 
 // The function walk: the uses of the entry and of every instruction of the code, reached or not.
-pub(crate) fn function_sets(code: &[u8], size: usize, c: Call) -> Sets
+pub(crate) fn function_sets(code: &[u8], size: usize, c: Call) -> Option<Sets>
     requires { size ≤ max_code }
-    ensures { result ≡ gathered (merge_all (merge_all [] (entry_accesses c)) (code_accesses c size size code.now)) }
+    ensures { Gathered result (merge_all (merge_all [] (entry_accesses c)) (code_accesses c size size code.now)) }
 {
-    let mut highs = [0u64; MAX_CALL_KEYS];
-    let mut lows = [0u64; MAX_CALL_KEYS];
-    let mut flags = [0u64; MAX_CALL_KEYS];
-    let none = Standing {
-        over: false,
-        count: 0,
-    };
-    let mut t = with_uses(&mut highs, &mut lows, &mut flags, none, entry_uses(c));
-    let mut index = 0;
-    while index < size {
-        let us = uses_at(code, index, size, c);
-        t = with_uses(&mut highs, &mut lows, &mut flags, t, us);
-        index += 1;
+    let mut s = no_keys();
+    with_uses(&mut s, entry_uses(c))?;
+    for index in 0..size {
+        with_uses(&mut s, uses_at(code, index, size, c))?;
     }
-    Sets {
-        over: t.over,
-        count: t.count,
-        highs,
-        lows,
-        flags,
-    }
+    Some(s)
 }

@@ -7,7 +7,8 @@ mod plan;
 mod rows;
 mod table;
 
-ghost use Rattle.std.specs.Prelude.{◌≡◌, length};
+ghost use Rattle.std.specs.Prelude.{◌≡◌, ◌≤◌, length};
+ghost use Rattle.block.specs.Limits.{max_call_keys};
 ghost use Rattle.block.specs.Reader.{read_block};
 ghost use Rattle.footprint.specs.Plan.{room_enough, prepare_read, prepared_of};
 ghost use Rattle.reader.specs.LayoutOfBlock.{LayoutOfBlock};
@@ -17,25 +18,16 @@ use block::limits::{MAX_CALL_KEYS, MAX_CALLS, MAX_KEYS};
 use block::{Refusal, Verdict};
 use collect::{call_keys, opening_keys};
 use footprint::layout::{KEY_WORDS, PLAN_WORDS};
+use key_uses::KeyUse;
 use plan::{opening_values, plan_calls};
 use reader::Layout;
 
-// The distinct keys of a call, of which the first `count` stand, each with its flags: 1 if it is read, plus 2 if it is written. Where
-// there are more than the limit, `over` stands and all else is zero.
+// The distinct keys of a call, each with how the call uses it: the first `count` stand.
 #[derive(Clone, Copy)]
 pub struct Sets {
-    pub over: bool,
     pub count: usize,
-    pub highs: [u64; MAX_CALL_KEYS],
-    pub lows: [u64; MAX_CALL_KEYS],
-    pub flags: [u64; MAX_CALL_KEYS],
-}
-
-// What stands beside the columns of a set while it grows: whether there were more keys than the limit, and how many stand.
-#[derive(Clone, Copy)]
-pub struct Standing {
-    pub over: bool,
-    pub count: usize,
+    pub keys: [KeyUse; MAX_CALL_KEYS],
+    ghost few: { count ≤ max_call_keys },
 }
 
 // The code of the function that a call names: where it starts in the block, and how many instructions it has plus 1; both 0 for an

@@ -5,7 +5,7 @@ ghost use Rattle.block.specs.Limits.{max_calls, max_keys};
 ghost use Rattle.block.specs.Record.{cell_of};
 ghost use Rattle.footprint.specs.Access.{Access};
 ghost use Rattle.footprint.specs.Plan.{plan_words, entry_word, plans, opening_value, entry_writes};
-ghost use Rattle.analysis.specs.Gathered.{column, columns};
+ghost use Rattle.analysis.specs.Gathered.{Holds, Worded};
 ghost use Rattle.footprint.specs.KeyWords.{keys_in};
 ghost use Rattle.analysis.specs.KeyTable.{cell_place, Sorted};
 ghost use Rattle.reader.specs.LayoutOfBlock.{LayoutOfBlock};
@@ -14,11 +14,12 @@ ghost use Rattle.block.specs.BlockOfFile.{block_of, function_at};
 ghost use Rattle.footprint.specs.EntryUses.{entry_touches_cell, entry_words};
 ghost use Rattle.analysis.specs.Masks.{mask_words, mask_row_words, add_call_words};
 ghost use Rattle.footprint.specs.Listed.{AllListed};
-ghost use Rattle.analysis.specs.Planned.{GatheredFits, words_of_call, call_words};
+ghost use Rattle.analysis.specs.Planned.{column, words_of_call, call_words};
 
 use crate::Sets;
 use crate::collect::{call_code, call_sets};
-use crate::rows::{add_call, row_for};
+use crate::gather::use_flags;
+use crate::rows::{add_call, put_words, row_for};
 use crate::table::cell_number;
 use block::address::address_of;
 use block::format::{CELL_BYTES, HEAD_BYTES};
@@ -36,32 +37,18 @@ const VALUE_AT: usize = 12;
 const MASK_WORDS: usize = 4096;
 
 // The entry words of a call's set, each its key's cell number and flags.
-fn entries(keys: &[u64], n: usize, s: Sets) -> [u64; MAX_CALL_KEYS]
+fn entries(keys: &[u64], n: usize, s: &Sets) -> [u64; MAX_CALL_KEYS]
     requires sorted { Sorted n keys.now }
-    requires gathered_fits { GatheredFits s }
-    ensures { (es : List Access) → s ≡ columns es → AllListed (keys_in n keys.now) es
+    requires worded { Worded s.now }
+    ensures { (es : List Access) → Holds s.now es → AllListed (keys_in n keys.now) es
         → result ≡ column (entry_word (keys_in n keys.now)) es }
 {
     let mut words = [0u64; MAX_CALL_KEYS];
-    let mut k = 0;
-    while k < s.count {
-        let cell = cell_number(keys, n, s.highs[k], s.lows[k]);
-        words[k] = cell as u64 * ENTRY_FLAGS + s.flags[k];
-        k += 1;
+    for (k, key) in s.keys[..s.count].iter().enumerate() {
+        let cell = cell_number(keys, n, key.high, key.low);
+        words[k] = cell as u64 * ENTRY_FLAGS + use_flags(*key);
     }
     words
-}
-
-// The entry words of a call stored from a place on.
-fn put_entries(plan: &mut [u64], at: usize, words: [u64; MAX_CALL_KEYS])
-    requires { at + 24 ≤ length plan.old }
-    ensures { plan.new ≡ stored plan.old at words }
-{
-    let mut k = 0;
-    while k < MAX_CALL_KEYS {
-        plan[at + k] = words[k];
-        k += 1;
-    }
 }
 
 // The words of a call stored at its place in the plan.
@@ -78,16 +65,10 @@ fn put_call(
     ensures { plan.new ≡ stored plan.old (plan_words * call) (words_of_call (start ∷ size ∷ []) count words row) }
 {
     let at = PLAN_WORDS * call;
-    plan[at] = start;
-    plan[at + 1] = size;
-    plan[at + 2] = count;
-    put_entries(plan, at + FIRST_ENTRY, words);
-    let behind = at + FIRST_ROW_WORD;
-    plan[behind] = row[0];
-    plan[behind + 1] = row[1];
-    plan[behind + 2] = row[2];
-    plan[behind + 3] = row[3];
-    plan[behind + 4] = 0;
+    put_words(plan, at, &[start, size, count]);
+    put_words(plan, at + FIRST_ENTRY, &words);
+    put_words(plan, at + FIRST_ROW_WORD, &row);
+    plan[at + FIRST_ROW_WORD + ROW_WORDS] = 0;
 }
 
 // A call: its words go into the plan, with the row that the masks of the calls before it give, and its entries into the masks.
@@ -119,9 +100,9 @@ fn plan_call(
     ensures writers_after { writers.new
         ≡ add_call_words entry_writes writers.old call (entry_words (keys_in n keys.now) (sets_at file.now call)) }
 {
-    let s = call_sets(file, l, call);
+    let s = call_sets(file, l, call).unwrap();
     let count = s.count;
-    let words = entries(keys, n, s);
+    let words = entries(keys, n, &s);
     let row = row_for(touched, writers, words, count);
     add_call(touched, writers, words, count, call);
     let code = call_code(file, l, call);
@@ -150,10 +131,8 @@ pub(crate) fn plan_calls(file: &[u8], l: Layout, keys: &[u64], n: usize, plan: &
 {
     let mut touched = [0u64; MASK_WORDS];
     let mut writers = [0u64; MASK_WORDS];
-    let mut call = 0;
-    while call < l.calls {
+    for call in 0..l.calls {
         plan_call(file, l, keys, n, call, plan, &mut touched, &mut writers);
-        call += 1;
     }
 }
 
@@ -181,10 +160,8 @@ pub(crate) fn opening_values(file: &[u8], l: Layout, keys: &[u64], n: usize, val
         ≡ padded (length values.old) (pos 0)
         (map (opening_value (block_of file.now).cells) (keys_in n keys.now)) }
 {
-    let mut i = 0;
-    while i < l.cells {
+    for i in 0..l.cells {
         let at = l.opening + (HEAD_BYTES + CELL_BYTES) * i + HEAD_BYTES;
         open_cell(from(file, at), keys, n, values);
-        i += 1;
     }
 }

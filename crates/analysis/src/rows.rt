@@ -2,7 +2,8 @@
 ghost use Rattle.std.specs.Prelude.{◌≡◌, ◌+◌, ◌*◌, ◌≤◌, ◌<◌, length, take};
 ghost use Rattle.block.specs.Limits.{max_call_keys};
 ghost use Rattle.footprint.specs.EntryUses.{entry_touches_cell};
-ghost use Rattle.analysis.specs.Masks.{mask_words, row_at, with_row, entry_row, mask_row_words, marked, marked_if, add_call_words, CellsInTable};
+ghost use Rattle.analysis.specs.Masks.{mask_words, row_at, entry_row, mask_row_words, marked, marked_if, add_call_words, CellsInTable};
+ghost use Rattle.wire.specs.Bytes.{stored};
 ghost use Rattle.wire.specs.Rows.{row_words};
 ghost use Rattle.footprint.specs.Plan.{entry_cell, entry_writes};
 
@@ -16,8 +17,7 @@ fn row_at(masks: &[u64], cell: usize) -> [u64; ROW_WORDS]
     ensures { result ≡ row_at masks.now cell }
 {
     let at = ROW_WORDS * cell;
-    let end = at + ROW_WORDS;
-    wire::row_from(&masks[at..end])
+    wire::row_from(&masks[at..at + ROW_WORDS])
 }
 
 // The calls that an entry waits for: those that write its cell, and if it writes the cell itself all that touch it.
@@ -48,26 +48,20 @@ pub(crate) fn row_for(
     requires mask_words_in_bounds_2 { mask_words ≤ length writers.now }
     ensures { result ≡ mask_row_words touched.now writers.now (take n entries) }
 {
-    let mut row = [0u64; ROW_WORDS];
-    let mut k = 0;
-    while k < n {
-        let wider = wire::row_union(row, entry_row(touched, writers, entries[k]));
+    let mut row = [0; ROW_WORDS];
+    for entry in &entries[..n] {
+        let wider = wire::row_union(row, entry_row(touched, writers, *entry));
         row = wider;
-        k += 1;
     }
     row
 }
 
-// A row stored as a cell's.
-fn put_row(masks: &mut [u64], cell: usize, row: [u64; ROW_WORDS])
-    requires { row_words * cell + row_words ≤ length masks.old }
-    ensures { masks.new ≡ with_row masks.old cell row }
+// Words stored from a place on.
+pub(crate) fn put_words(buffer: &mut [u64], at: usize, words: &[u64])
+    requires { at + length words.now ≤ length buffer.old }
+    ensures { buffer.new ≡ stored buffer.old at words.now }
 {
-    let at = ROW_WORDS * cell;
-    masks[at] = row[0];
-    masks[at + 1] = row[1];
-    masks[at + 2] = row[2];
-    masks[at + 3] = row[3];
+    buffer[at..at + words.len()].copy_from_slice(words);
 }
 
 // A call is set in a cell's row.
@@ -75,8 +69,8 @@ fn mark(masks: &mut [u64], cell: usize, call: usize)
     requires { row_words * cell + row_words ≤ length masks.old }
     ensures { masks.new ≡ marked masks.old cell call }
 {
-    let row = row_at(masks, cell);
-    put_row(masks, cell, wire::row_set(row, call));
+    let row = wire::row_set(row_at(masks, cell), call);
+    put_words(masks, ROW_WORDS * cell, &row);
 }
 
 // One entry of a call: its cell is touched, and written if the entry says so.
@@ -109,9 +103,7 @@ pub(crate) fn add_call(
     ensures touched_after { touched.new ≡ add_call_words entry_touches_cell touched.old call (take n entries) }
     ensures writers_after { writers.new ≡ add_call_words entry_writes writers.old call (take n entries) }
 {
-    let mut k = 0;
-    while k < n {
-        add_entry(touched, writers, entries[k], call);
-        k += 1;
+    for entry in &entries[..n] {
+        add_entry(touched, writers, *entry, call);
     }
 }

@@ -1,45 +1,21 @@
 // The sorted table of keys in a lent buffer, two words a key: binary search, and insertion in place.
-ghost use Rattle.std.specs.Prelude.{◌≡◌, ◌+◌, ◌*◌, ◌^◌, ◌≤◌, ◌<◌, ltb, length, get_or};
-ghost use Rattle.footprint.specs.KeyWords.{key_from, key_at, keys_in};
-ghost use Rattle.analysis.specs.KeyTable.{place_in, cell_place, stands_at, moved_up, Sorted, Tabled, Inserted};
+ghost use Rattle.std.specs.Prelude.{◌≡◌, ◌^◌, ◌<◌, ◌≤◌};
+ghost use Rattle.footprint.specs.KeyWords.{key_from, keys_in};
+ghost use Rattle.analysis.specs.KeyTable.{place_in, cell_place, stands_at, Sorted, Tabled, Inserted};
 
 use block::limits::MAX_KEYS;
 
-// Whether the key at a place is below a key.
-fn key_below(keys: &[u64], i: usize, high: u64, low: u64) -> bool
-    requires i_in_bounds { 2 * i + 1 < length keys.now }
-    requires i_bound { get_or keys.now (2 * i + 1) 0 < 2 ^ 32 }
-    requires low_bound { low < 2 ^ 32 }
-    ensures { result ≡ ltb (key_at keys.now i) (key_from high low) }
-{
-    let word = keys[2 * i];
-    if word < high {
-        return true;
-    }
-    if high < word {
-        return false;
-    }
-    keys[2 * i + 1] < low
-}
+// Stays: the words and the number of their keys are two parameters, since `zumbiqa_open` lends words and the table grows into those behind it.
 
 // How many of the n keys are below a key, by binary search.
-pub(crate) fn key_place(keys: &[u64], n: usize, high: u64, low: u64) -> usize
+fn key_place(keys: &[u64], n: usize, high: u64, low: u64) -> usize
     requires sorted { Sorted n keys.now }
     requires low_bound { low < 2 ^ 32 }
-    ensures { result ≡ place_in (keys_in n keys.now) (key_from high low) }
+    ensures place { result ≡ place_in (keys_in n keys.now) (key_from high low) }
+    ensures bound { result ≤ n }
 {
-    let mut from = 0;
-    let mut size = n;
-    while 0 < size {
-        let half = size / 2;
-        if key_below(keys, from + half, high, low) {
-            from += half + 1;
-            size -= half + 1;
-        } else {
-            size = half;
-        }
-    }
-    from
+    let (pairs, _) = keys.as_chunks::<2>();
+    pairs[..n].partition_point(|key| key[0] < high || key[0] == high && key[1] < low)
 }
 
 // The number of a key's cell; for a key that the table lacks, the place where it would stand.
@@ -57,27 +33,7 @@ fn key_stands(keys: &[u64], n: usize, at: usize, high: u64, low: u64) -> bool
     requires low_bound { low < 2 ^ 32 }
     ensures { result ≡ stands_at (keys_in n keys.now) at (key_from high low) }
 {
-    if n <= at {
-        return false;
-    }
-    if keys[2 * at] != high {
-        return false;
-    }
-    let last = keys[2 * at + 1];
-    last == low
-}
-
-// The words from one index up to another copied two places up, the last first.
-fn move_up(words: &mut [u64], from: usize, to: usize)
-    requires from_le_to { from ≤ to }
-    requires to_in_bounds { to + 2 ≤ length words.old }
-    ensures { words.new ≡ moved_up words.old from to }
-{
-    let mut left = to - from;
-    while 0 < left {
-        left -= 1;
-        words[from + left + 2] = words[from + left];
-    }
+    at < n && keys[2 * at] == high && keys[2 * at + 1] == low
 }
 
 // The table with one more key, or unchanged where the key is in it; the answer is the number of its keys. Where that would pass
@@ -94,7 +50,7 @@ pub(crate) fn key_insert(keys: &mut [u64], n: usize, high: u64, low: u64) -> usi
     if n == MAX_KEYS {
         return MAX_KEYS + 1;
     }
-    move_up(keys, 2 * at, 2 * n);
+    keys.copy_within(2 * at..2 * n, 2 * at + 2);
     keys[2 * at] = high;
     keys[2 * at + 1] = low;
     n + 1

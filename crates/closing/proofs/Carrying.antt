@@ -7,7 +7,7 @@ use lib.IntN.{ℤ}
 use lib.ListN.{length, take}
 use lib.Seq.{take-append_seam, take-length}
 use Rattle.wire.specs.Bytes.{bytes_of, stored}
-use Rattle.wire.proofs.BytesLaws.{stored_append, stored_length}
+use Rattle.wire.proofs.BytesLaws.{stored_append}
 use Rattle.block.specs.Record.{recordOf, end_kind}
 use Rattle.sheet.specs.Sheet.{cell_records, receipt_records, lengths, record_offset, offset_behind, records_for, records_at, receipt_at}
 use Rattle.sheet.proofs.RecordLists.{lengths_none, lengths_one, lengths_append, joined_one, joined_append, joined_length, offset_front}
@@ -38,9 +38,6 @@ module _ {records : List (List ℕ)} {before output : List ℕ} {at : ℕ} where
             ∙ sym (stored_append (flatten front) (flatten part) before 0)
             ∙ ap (stored before 0) (sym (joined_append front part) ∙ ap flatten (sym more));
       }
-
-  pub carried_length : {k : ℕ} → Carried records before k at output → length output ≡ length before
-  carried_length {k} c = ap length c.written ∙ stored_length (flatten (take k records)) before 0
 
 -- ---- those of a sheet
 

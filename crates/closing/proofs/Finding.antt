@@ -21,8 +21,7 @@ use Rattle.machine.specs.Step.{cell_at}
 use Rattle.sheet.specs.Sheet.{key_high, key_low, key_bytes, records_of_cell, cell_records, balances_allowed, field_of, records_at}
 use Rattle.sheet.proofs.SheetRecords.{cells_none, cells_more, cells_few, cell_body_lem}
 use Rattle.closing.specs.Found.{found_in}
-use Rattle.closing.specs.declared.Found.{Found}
-use Rattle.closing.specs.declared.Found.TheVariants.{BelowZero, Records}
+use Rattle.std.specs.Prelude.{Option, Some, None}
 
 -- The bits of a value that was read.
 pub bits_told : {bits : ℕ} {v z : ℤ} → SFits w64 v → bits ≡ unsigned 64 (read v) → v ≡ z → bits ≡ unsigned 64 z
@@ -98,7 +97,7 @@ module _ (keys : List ℕ) (cells : List ℤ) where
   looked_one count found n h l b {bits} {next} e z q =
       let one : length (records_at keys cells n) ≡ 1 = simp (← e, ne_eqb bits 0 z) in looked_more count found n h l b (omega arith)
 
-  pub looked_below : (count found n : ℕ) → Looked count found n → n < count → balance_allowed n ≡ false → BelowZero ≡ found_in keys cells count
+  pub looked_below : (count found n : ℕ) → Looked count found n → n < count → balance_allowed n ≡ false → None ≡ found_in keys cells count
   looked_below count found n h l b =
       let e : n + 1 + (count - (n + 1)) ≡ count = omega arith in
       let broken : balances_allowed keys cells count ≡ false =
@@ -106,35 +105,27 @@ module _ (keys : List ℕ) (cells : List ℤ) where
       ∙ balances_fewer (n + 1) (count - (n + 1)) (balances_turn n ∙ ap (λ (t : Bool). t && balances_allowed keys cells n) b) in
       simp (broken)
 
-  pub looked_all : (count found n : ℕ) → Looked count found n → count ≤ n → Records found ≡ found_in keys cells count
-  looked_all count found n h l =
-      let w : n ≤ count = h.within in
-      let e : n ≡ count = omega arith in
-      let allowed : balances_allowed keys cells count ≡ true = sym (ap (balances_allowed keys cells) e) ∙ h.allowed in
-      let few : found ≡ length (cell_records keys cells count 0) = h.records ∙ ap (λ (k : ℕ). length (cell_records keys cells k 0)) e in
-      simp (allowed) (ap Records few)
-
 -- ---- what was found
 
-abbrev is_records : Found → Bool
-is_records (Records n) = true
-is_records BelowZero = false
+abbrev is_records : Option ℕ → Bool
+is_records (Some n) = true
+is_records None = false
 
-abbrev records_in : Found → ℕ
-records_in (Records n) = n
-records_in BelowZero = 0
+abbrev records_in : Option ℕ → ℕ
+records_in (Some n) = n
+records_in None = 0
 
 module _ (keys : List ℕ) (cells : List ℤ) (count : ℕ) where
-  pub found_below : found_in keys cells count ≡ BelowZero → balances_allowed keys cells count ≡ false
+  pub found_below : found_in keys cells count ≡ None → balances_allowed keys cells count ≡ false
   found_below e = go (balances_allowed keys cells count) (length (cell_records keys cells count 0)) e
     where
-      go : (b : Bool) (n : ℕ) → (if b then Records n else BelowZero) ≡ BelowZero → b ≡ false
+      go : (b : Bool) (n : ℕ) → (if b then Some n else None) ≡ None → b ≡ false
       go true n e = ap is_records e
       go false n e = refl
 
-  pub found_records : {n : ℕ} → found_in keys cells count ≡ Records n → (balances_allowed keys cells count ≡ true) × (n ≡ length (cell_records keys cells count 0))
+  pub found_records : {n : ℕ} → found_in keys cells count ≡ Some n → (balances_allowed keys cells count ≡ true) × (n ≡ length (cell_records keys cells count 0))
   found_records {n} e = go (balances_allowed keys cells count) (length (cell_records keys cells count 0)) n e
     where
-      go : (b : Bool) (m n : ℕ) → (if b then Records m else BelowZero) ≡ Records n → (b ≡ true) × (n ≡ m)
+      go : (b : Bool) (m n : ℕ) → (if b then Some m else None) ≡ Some n → (b ≡ true) × (n ≡ m)
       go true m n e = (refl, sym (ap records_in e))
       go false m n e = absurd (false≢true (ap is_records e))

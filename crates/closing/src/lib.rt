@@ -15,13 +15,6 @@ use sheet::Closing;
 use tests::{all_finished, cells_found, states_allowed};
 use write::write_sheet;
 
-// What a look at the cells finds: a balance below zero, or how many of them have a record.
-#[derive(Clone, Copy)]
-enum Found {
-    BelowZero,
-    Records(usize),
-}
-
 // The closing sheet: 20 for the sizes, the number of calls and their states; 27 for a call unfinished; 20 for the number of cells and
 // the balances; 28; 20 for the receipts.
 pub fn sheet(
@@ -70,8 +63,8 @@ pub fn sheet(
     if MAX_KEYS < count {
         return Closing::Refused(Answer::Damaged);
     }
-    match cells_found(keys, cells, count) {
-        Found::BelowZero => Closing::Refused(Answer::Damaged),
-        Found::Records(records) => write_sheet(keys, cells, status, count, calls, records, output),
-    }
+    let Some(records) = cells_found(keys, cells, count) else {
+        return Closing::Refused(Answer::Damaged);
+    };
+    write_sheet(keys, cells, status, count, calls, records, output)
 }

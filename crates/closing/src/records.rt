@@ -99,17 +99,12 @@ pub(crate) fn put_sheet(
     ensures value { result ≡ offset_behind (records_for keys.now cells.now status.now count calls) }
 {
     let mut at = 0;
-    let mut n = 0;
-    while n < count {
+    for n in 0..count {
         at = put_cell(keys, cells, n, at, output);
-        n += 1;
     }
-    let mut call = 0;
-    while call < calls {
+    for call in 0..calls {
         at = put_receipt(status, call, at, output);
-        call += 1;
     }
     put_head(output, at, 0, END_KIND);
-    at += HEAD_BYTES;
-    at
+    at + HEAD_BYTES
 }

@@ -1,4 +1,4 @@
-// The tests of a closing sheet. The loops over the calls count down, as their definitions do.
+// The tests of a closing sheet.
 ghost use Rattle.std.specs.Prelude.{◌≡◌, ◌&&◌, ◌||◌, not, ◌/◌, ◌%◌, ◌^◌, ◌<◌, ◌≤◌, eqb, leb};
 ghost use Rattle.std.specs.Int.Signed.{non_neg};
 ghost use Rattle.block.specs.Limits.{max_calls, max_keys};
@@ -7,7 +7,6 @@ ghost use Rattle.block.specs.Outcomes.{last_outcome, max_count};
 ghost use Rattle.sheet.specs.Sheet.{states_allowed, all_finished, receipts_allowed};
 ghost use Rattle.closing.specs.Found.{found_in};
 
-use crate::Found;
 use block::format::{FIELD_BASE, FIELDS};
 use block::outcomes::{LAST_OUTCOME, MAX_COUNT};
 use footprint::layout::KEY_WORDS;
@@ -27,14 +26,7 @@ pub(crate) fn states_allowed(status: &[u64], calls: usize) -> bool
     requires { calls ≤ max_calls }
     ensures { result ≡ states_allowed status.now calls }
 {
-    let mut left = calls;
-    while 0 < left {
-        left -= 1;
-        if FINISHED < status_word(status, left, STATE_WORD) {
-            return false;
-        }
-    }
-    true
+    (0..calls).all(|call| status_word(status, call, STATE_WORD) <= FINISHED)
 }
 
 // Whether all calls are finished.
@@ -42,21 +34,14 @@ pub(crate) fn all_finished(status: &[u64], calls: usize) -> bool
     requires { calls ≤ max_calls }
     ensures { result ≡ all_finished status.now calls }
 {
-    let mut left = calls;
-    while 0 < left {
-        left -= 1;
-        if status_word(status, left, STATE_WORD) != FINISHED {
-            return false;
-        }
-    }
-    true
+    (0..calls).all(|call| status_word(status, call, STATE_WORD) == FINISHED)
 }
 
 // A receipt's outcome and count are in their ranges.
 fn receipt_allowed(outcome: u64, count: u64) -> bool
     ensures { result ≡ (leb outcome last_outcome && leb count max_count) }
 {
-    (outcome <= LAST_OUTCOME) & (count <= MAX_COUNT)
+    outcome <= LAST_OUTCOME && count <= MAX_COUNT
 }
 
 // Whether the receipt of each call is one.
@@ -64,45 +49,36 @@ pub(crate) fn receipts_allowed(status: &[u64], calls: usize) -> bool
     requires { calls ≤ max_calls }
     ensures { result ≡ receipts_allowed status.now calls }
 {
-    let mut left = calls;
-    while 0 < left {
-        left -= 1;
-        let outcome = status_word(status, left, OUTCOME_WORD);
-        let count = status_word(status, left, COUNT_WORD);
-        if !receipt_allowed(outcome, count) {
-            return false;
-        }
-    }
-    true
+    (0..calls).all(|call| {
+        receipt_allowed(
+            status_word(status, call, OUTCOME_WORD),
+            status_word(status, call, COUNT_WORD),
+        )
+    })
 }
 
 // A balance, which is a cell of field 0, is not below zero.
 fn balance_allowed(high: u64, value: i64) -> bool
     ensures { result ≡ (not (eqb (high / 2 ^ 32 % 2 ^ 16) 0) || non_neg value) }
 {
-    if high / FIELD_BASE % FIELDS != 0 {
-        return true;
-    }
-    !arith::less(value, 0)
+    high / FIELD_BASE % FIELDS != 0 || value >= 0
 }
 
-// One look at each cell, for 20 and for 28: how many of the cells have a record, or that a balance is below zero.
-pub(crate) fn cells_found(keys: &[u64], cells: &[i64], count: usize) -> Found
+// One look at each cell, for 20 and for 28: how many of the cells have a record, or none where a balance is below zero.
+pub(crate) fn cells_found(keys: &[u64], cells: &[i64], count: usize) -> Option<usize>
     requires { count ≤ max_keys }
     ensures { result ≡ found_in keys.now cells.now count }
 {
     let mut records = 0;
-    let mut n = 0;
-    while n < count {
+    for n in 0..count {
         let value = wire::value(cells, n);
         let high = wire::word(keys, KEY_WORDS * n);
         if !balance_allowed(high, value) {
-            return Found::BelowZero;
+            return None;
         }
-        if arith::unsigned64(value) != 0 {
+        if value != 0 {
             records += 1;
         }
-        n += 1;
     }
-    Found::Records(records)
+    Some(records)
 }

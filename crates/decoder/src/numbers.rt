@@ -4,7 +4,9 @@ ghost use Rattle.block.specs.Refusal.{number_of, offset_of};
 
 use block::Refusal;
 
+// Stays: document 01's numbers of refusals (a), each function the definition of its name in block/specs/Refusal.antt.
 // The number of a refusal.
+#[tactic(auto, unfolding(block::specs::Refusal::number_of))]
 pub fn number_of(why: Refusal) -> u64
     ensures { result ≡ number_of why }
 {
@@ -27,23 +29,22 @@ pub fn number_of(why: Refusal) -> u64
 }
 
 // The offset that a refusal tells; 0 where it has none.
+#[tactic(auto, unfolding(block::specs::Refusal::offset_of))]
 pub fn offset_of(why: Refusal) -> u64
     ensures { result ≡ offset_of why }
 {
     match why {
-        Refusal::InputTooLong => 0,
-        Refusal::Missing(at) => at as u64,
-        Refusal::Kind(at) => at as u64,
-        Refusal::Length(at) => at as u64,
-        Refusal::Field(at) => at as u64,
-        Refusal::NotRising(at) => at as u64,
-        Refusal::BeyondLimit(at) => at as u64,
-        Refusal::Behind(at) => at as u64,
-        Refusal::Balances(at) => at as u64,
-        Refusal::Code(at) => at as u64,
-        Refusal::CallKeys(at) => at as u64,
-        Refusal::AllKeys(at) => at as u64,
-        Refusal::Workers => 0,
-        Refusal::Buffers => 0,
+        Refusal::InputTooLong | Refusal::Workers | Refusal::Buffers => 0,
+        Refusal::Missing(at)
+        | Refusal::Kind(at)
+        | Refusal::Length(at)
+        | Refusal::Field(at)
+        | Refusal::NotRising(at)
+        | Refusal::BeyondLimit(at)
+        | Refusal::Behind(at)
+        | Refusal::Balances(at)
+        | Refusal::Code(at)
+        | Refusal::CallKeys(at)
+        | Refusal::AllKeys(at) => at as u64,
     }
 }

@@ -6,13 +6,10 @@ ghost use Rattle.wire.specs.Bytes.{read_le};
 pub fn from(s: &[u8], at: usize) -> &[u8]
     ensures { result.now ≡ drop at s.now }
 {
-    if s.len() < at {
-        let end = s.len();
-        return &s[end..];
-    }
-    &s[at..]
+    s.get(at..).unwrap_or(&[])
 }
 
+// Stays: short and long are two functions (d); as one, each call would name the type, and the one would tell the types apart.
 // The number of 16 bits at a position.
 pub fn short(s: &[u8], at: usize) -> u16
     ensures { result ≡ read_le 2 s.now at }

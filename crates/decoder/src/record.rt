@@ -11,56 +11,48 @@ use block::format::{
 };
 use block::{Address, Call, CallBody, Contract, Payee};
 
-// How many addresses there are, and the place value of the contract in a function's id.
-const ADDRESSES: u64 = 65536;
-
+// The place value of the contract in a function's id.
 const ID_BASE: u64 = 65536;
 
 // M-101: "account 0 marks withdrawn warrants".
 const WITHDRAWN: u64 = 0;
 
 // Whom PAY pays where a number names its target: all its bits count.
+#[tactic(auto, unfolding(block::specs::Key::payee_of, block::specs::Key::address_of))]
 pub fn payee_of(n: u64) -> Payee
     ensures { result ≡ payee_of n }
 {
-    if n == WITHDRAWN {
-        return Payee::Nobody;
-    }
-    if ADDRESSES <= n {
-        return Payee::Nobody;
-    }
-    match address_of(n as u16) {
-        Address::OfAccount(account) => Payee::To(account),
-        Address::OfContract(_) => Payee::Nobody,
+    match u16::try_from(n).map(address_of) {
+        Ok(Address::OfAccount(account)) if n != WITHDRAWN => Payee::To(account),
+        _ => Payee::Nobody,
     }
 }
 
 // "4 length not the kind's"
+#[tactic(auto, unfolding(block::specs::Record::length_allowed))]
 pub fn length_allowed(kind: usize, len: usize) -> bool
     ensures { result ≡ length_allowed kind len }
 {
-    if kind == FUNCTION_KIND {
-        if len < FUNCTION_BYTES {
-            return false;
+    match kind {
+        FUNCTION_KIND => {
+            FUNCTION_BYTES <= len
+                && len <= LONGEST_FUNCTION
+                && (len - FUNCTION_BYTES) % INSTR_BYTES == 0
         }
-        return (len <= LONGEST_FUNCTION) & ((len - FUNCTION_BYTES) % INSTR_BYTES == 0);
+        CELL_KIND => len == CELL_BYTES,
+        CALL_KIND => len == CALL_BYTES,
+        _ => len == 0,
     }
-    if kind == CELL_KIND {
-        return len == CELL_BYTES;
-    }
-    if kind == CALL_KIND {
-        return len == CALL_BYTES;
-    }
-    len == 0
 }
 
 // "Field 0 has only a = b = 0 and is the balance; an account has no other key (5 otherwise)."
+#[tactic(auto, unfolding(block::specs::Key::key_allowed))]
 pub fn key_allowed(address: Address, field: u16, a: u32, b: u32) -> bool
     ensures { result ≡ key_allowed address field a b }
 {
     match address {
-        Address::OfAccount(_) => (field == 0) & (a == 0) & (b == 0),
-        Address::OfContract(_) => (field != 0) | ((a == 0) & (b == 0)),
+        Address::OfAccount(_) => field == 0 && a == 0 && b == 0,
+        Address::OfContract(_) => field != 0 || (a == 0 && b == 0),
     }
 }
 
@@ -83,14 +75,12 @@ pub fn code_at(block: &[u8], start: usize, size: usize) -> &[u8]
     ensures { result.now ≡ code_at block.now start size }
 {
     let code = from(block, start);
-    if code.len() / INSTR_BYTES < size {
-        return code;
-    }
-    let end = INSTR_BYTES * size;
+    let end = INSTR_BYTES.saturating_mul(size).min(code.len());
     &code[..end]
 }
 
 // The call of a body.
+#[tactic(auto, unfolding(block::specs::Record::call_of, block::specs::Key::address_of))]
 fn call_in(s: &[u8]) -> CallBody
     requires { call_bytes ≤ length s.now }
     ensures { result ≡ call_of s.now }
@@ -123,25 +113,21 @@ fn call_in(s: &[u8]) -> CallBody
 pub fn call_at(block: &[u8], at: usize) -> CallBody
     ensures { result ≡ call_of (drop at block.now) }
 {
-    let rest = from(block, at);
-    if rest.len() < CALL_BYTES {
+    let Some(body) = from(block, at).get(..CALL_BYTES) else {
         return CallBody::OutOfRange;
-    }
-    call_in(&rest[..CALL_BYTES])
+    };
+    call_in(body)
 }
 
 // Argument 1 to 4 of a call.
+#[tactic(auto, unfolding(block::specs::Record::argument))]
 pub fn argument(c: Call, k: usize) -> u64
     ensures { result ≡ argument c k }
 {
-    if k == 1 {
-        return c.arg1 as u64;
-    }
-    if k == 2 {
-        return c.arg2 as u64;
-    }
-    if k == 3 {
-        return c.arg3 as u64;
-    }
-    c.arg4 as u64
+    u64::from(match k {
+        1 => c.arg1,
+        2 => c.arg2,
+        3 => c.arg3,
+        _ => c.arg4,
+    })
 }

@@ -18,17 +18,11 @@ pub const FIRST_HELD: usize = 4;
 
 pub const HEAD_WORDS: usize = FIRST_HELD + MAX_WORKERS;
 
-// The largest number of 16 bits.
-const LARGEST_HELD: u64 = 65535;
-
 // What a worker's word says that it holds; a word beyond 16 bits is read as the largest number of 16 bits.
 fn held_number(word: u64) -> u16
     ensures { result ≡ held_number word }
 {
-    if word < LARGEST_HELD {
-        return word as u16;
-    }
-    LARGEST_HELD as u16
+    u16::try_from(word).unwrap_or(u16::MAX)
 }
 
 // What a worker holds by the head's words.
@@ -42,16 +36,10 @@ fn held_word(words: &[u64], at: usize) -> u16
 pub fn head_in(words: &[u64]) -> Head
     ensures { result ≡ head_in words.now }
 {
-    let held = [
-        held_word(words, FIRST_HELD),
-        held_word(words, FIRST_HELD + 1),
-        held_word(words, FIRST_HELD + 2),
-        held_word(words, FIRST_HELD + 3),
-        held_word(words, FIRST_HELD + 4),
-        held_word(words, FIRST_HELD + 5),
-        held_word(words, FIRST_HELD + 6),
-        held_word(words, FIRST_HELD + 7),
-    ];
+    let mut held = [0; MAX_WORKERS];
+    for worker in 0..MAX_WORKERS {
+        held[worker] = held_word(words, FIRST_HELD + worker);
+    }
     Head {
         workers: wire::word(words, WORKERS_WORD) as usize,
         calls: wire::word(words, CALLS_WORD) as usize,

@@ -1,4 +1,5 @@
 // BEGIN, STEP and CANCEL on a run whose head is lent too: each takes the head out, makes the move by value, stores the head back and answers.
+// Stays: three functions, by the project's rule: BEGIN, STEP and CANCEL by value first, then a thin one for each over the lent head.
 #![tactic(auto)]
 
 pub mod lender;

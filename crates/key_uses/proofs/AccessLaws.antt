@@ -1,14 +1,9 @@
--- The mathematics of the proofs of `access`, over plain variables: a key's two words, the test of a value, and the instructions that use no key.
-use mathlib.Core.Path.{◌≡◌, refl, sym, ap, ◌∙◌}
+-- Laws over plain variables: a key's two words, and the instructions that use no key.
+use mathlib.Core.Path.{◌≡◌, refl}
 use mathlib.Core.Bool.{Bool}
 use mathlib.Core.List.{[]}
 use Prim.Native.Nat.{ℕ, ◌+◌, ◌*◌, ◌/◌, ◌%◌, ◌^◌, ◌<◌}
 use native.Mathlib.Omega.{arith}
-use lib.IntN.{ℤ, pos}
-use lib.Signed.{lt_z, mag}
-use mir.Syntax.{w64}
-use mir.Val.{to_z, of_z}
-use mir.Facts.{to_z-of_z}
 use Rattle.block.specs.Key.{key_of}
 use Rattle.block.specs.declared.Call.{Call}
 use Rattle.block.specs.declared.Source.{Source}
@@ -28,10 +23,6 @@ key_words_lem address field a b reads writes h =
     let high : address * 2 ^ 48 + field * 2 ^ 32 + a ≡ (address * 2 ^ 80 + field * 2 ^ 64 + a * 2 ^ 32 + b) / 2 ^ 32 = omega arith in
     let low : b ≡ (address * 2 ^ 80 + field * 2 ^ 64 + a * 2 ^ 32 + b) % 2 ^ 32 = omega arith in
     λ i. record { high = high i; low = low i; reads = reads; writes = writes }
-
--- A value that fits is the value of its bits, so the test of the bits is that of the value.
-pub value_test : (z : ℤ) {b : Bool} → mag z < 2 ^ 63 → lt_z (pos 0) (to_z w64 (of_z w64 z)) ≡ b → lt_z (pos 0) z ≡ b
-value_test z h e = sym (ap (lt_z (pos 0)) (to_z-of_z {w = w64} {z = z} (record { sfits = h }))) ∙ e
 
 -- The instructions other than GET, PUT, BAL and PAY use no key.
 pub others_none : (c : Call) (i : Instr) → ((x field : ℕ) (a b : Source) → i ≡ Get x field a b → ⊥) → ((x field : ℕ) (a b : Source) → i ≡ Put x field a b → ⊥)

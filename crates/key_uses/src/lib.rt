@@ -11,7 +11,7 @@ use block::{Address, Call, Instr, Payee, Source};
 use decoder::record::{argument, high_of, payee_of};
 
 // A key in two words, and how it is used.
-#[derive(Clone, Copy)]
+#[derive(Clone, Copy, Default)]
 pub struct KeyUse {
     pub high: u64,
     pub low: u64,
@@ -20,7 +20,7 @@ pub struct KeyUse {
 }
 
 // At most two uses, of which the first `count` stand.
-#[derive(Clone, Copy)]
+#[derive(Clone, Copy, Default)]
 pub struct Uses {
     pub count: usize,
     pub first: KeyUse,
@@ -28,15 +28,15 @@ pub struct Uses {
 }
 
 // The number that a source gives in a call: 32 bits hold it.
+#[tactic(auto, unfolding(block::specs::Naming::source_value))]
 fn source_word(c: Call, s: Source) -> u32
     ensures { result ≡ source_value c s }
 {
-    let sender = c.sender.number() as u32;
     match s {
         Source::Zero => 0,
         Source::Argument(k) => argument(c, k as usize) as u32,
-        Source::Sender => sender,
-        Source::Constant(n) => n as u32,
+        Source::Sender => u32::from(c.sender.number()),
+        Source::Constant(n) => u32::from(n),
     }
 }
 
@@ -44,10 +44,11 @@ fn source_word(c: Call, s: Source) -> u32
 pub fn source_value(c: Call, s: Source) -> u64
     ensures { result ≡ source_value c s }
 {
-    source_word(c, s) as u64
+    u64::from(source_word(c, s))
 }
 
 // The use of the key with these parts.
+#[tactic(auto, using(crate::proofs::AccessLaws::key_words_lem))]
 fn key_use(address: Address, field: u16, a: u32, b: u32, reads: bool, writes: bool) -> KeyUse
     ensures { result ≡ use_of (record { key = key_of (address_number address) field a b; reads = reads; writes = writes }) }
 {
@@ -70,9 +71,8 @@ fn balance_use(address: Address, reads: bool, writes: bool) -> KeyUse
 fn cell_use(c: Call, field: u16, a: Source, b: Source, reads: bool, writes: bool) -> KeyUse
     ensures { result ≡ use_of (record { key = cell_key c field a b; reads = reads; writes = writes }) }
 {
-    let contract = c.contract;
     key_use(
-        Address::OfContract(contract),
+        Address::OfContract(c.contract),
         field,
         source_word(c, a),
         source_word(c, b),
@@ -82,25 +82,11 @@ fn cell_use(c: Call, field: u16, a: Source, b: Source, reads: bool, writes: bool
 }
 
 // None, one or two uses.
-fn no_use() -> KeyUse
-    ensures { result ≡ no_use }
-{
-    KeyUse {
-        high: 0,
-        low: 0,
-        reads: false,
-        writes: false,
-    }
-}
-
+#[tactic(auto, unfolding(crate::specs::Uses::uses_of))]
 pub fn no_uses() -> Uses
     ensures { result ≡ uses_of [] }
 {
-    Uses {
-        count: 0,
-        first: no_use(),
-        second: no_use(),
-    }
+    Uses::default()
 }
 
 fn one(u: KeyUse) -> Uses
@@ -109,7 +95,7 @@ fn one(u: KeyUse) -> Uses
     Uses {
         count: 1,
         first: u,
-        second: no_use(),
+        ..Uses::default()
     }
 }
 
@@ -124,46 +110,48 @@ fn two(u: KeyUse, v: KeyUse) -> Uses
 }
 
 // "Value above 0: reads sender's balance, writes sender's and contract's."
+#[tactic(auto, unfolding(crate::specs::Uses::uses_of, footprint::specs::Access::entry_accesses))]
 pub fn entry_uses(c: Call) -> Uses
     ensures { result ≡ uses_of (entry_accesses c) }
 {
     if 0 < c.value {
-        let sender = c.sender;
-        let contract = c.contract;
-        return two(
-            balance_use(Address::OfAccount(sender), true, true),
-            balance_use(Address::OfContract(contract), false, true),
-        );
+        two(
+            balance_use(Address::OfAccount(c.sender), true, true),
+            balance_use(Address::OfContract(c.contract), false, true),
+        )
+    } else {
+        no_uses()
     }
-    no_uses()
 }
 
 // "GET reads its key, PUT writes its key, BAL reads the contract's balance": the uses of each.
+#[tactic(auto, unfolding(crate::specs::Uses::uses_of))]
 pub fn get_uses(c: Call, field: u16, a: Source, b: Source) -> Uses
     ensures { result ≡ uses_of (reading (cell_key c field a b) ∷ []) }
 {
     one(cell_use(c, field, a, b, true, false))
 }
 
+#[tactic(auto, unfolding(crate::specs::Uses::uses_of))]
 pub fn put_uses(c: Call, field: u16, a: Source, b: Source) -> Uses
     ensures { result ≡ uses_of (writing (cell_key c field a b) ∷ []) }
 {
     one(cell_use(c, field, a, b, false, true))
 }
 
+#[tactic(auto, unfolding(crate::specs::Uses::uses_of))]
 pub fn bal_uses(c: Call) -> Uses
     ensures { result ≡ uses_of (reading (contract_balance c.contract) ∷ []) }
 {
-    let contract = c.contract;
-    one(balance_use(Address::OfContract(contract), true, false))
+    one(balance_use(Address::OfContract(c.contract), true, false))
 }
 
 // "PAY reads and writes it and writes the target's balance if the target is an account": it is the contract's balance.
+#[tactic(auto, unfolding(crate::specs::Uses::uses_of, footprint::specs::Access::pay_accesses))]
 fn payee_uses(c: Call, target: Payee) -> Uses
     ensures { result ≡ uses_of (pay_accesses c target) }
 {
-    let contract = c.contract;
-    let own = balance_use(Address::OfContract(contract), true, true);
+    let own = balance_use(Address::OfContract(c.contract), true, true);
     match target {
         Payee::To(account) => two(own, balance_use(Address::OfAccount(account), false, true)),
         Payee::Nobody => one(own),
@@ -177,14 +165,15 @@ pub fn pay_uses(c: Call, target: Source) -> Uses
 }
 
 // The uses of an instruction; the others use no key.
+#[tactic(auto, using(crate::proofs::AccessLaws::others_none), unfolding(footprint::specs::Access::accesses))]
 pub fn instr_uses(c: Call, i: Instr) -> Uses
     ensures { result ≡ uses_of (accesses c i) }
 {
     match i {
-        Instr::Get { x: _, field, a, b } => get_uses(c, field, a, b),
-        Instr::Put { x: _, field, a, b } => put_uses(c, field, a, b),
-        Instr::Bal { x: _ } => bal_uses(c),
-        Instr::Pay { x: _, target } => pay_uses(c, target),
+        Instr::Get { field, a, b, .. } => get_uses(c, field, a, b),
+        Instr::Put { field, a, b, .. } => put_uses(c, field, a, b),
+        Instr::Bal { .. } => bal_uses(c),
+        Instr::Pay { target, .. } => pay_uses(c, target),
         _ => no_uses(),
     }
 }

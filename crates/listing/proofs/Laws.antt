@@ -1,19 +1,15 @@
 -- What the proofs of this crate cite: a row by its words, and a loop over the rows of a plan.
-use mathlib.Core.Path.{◌≡◌, refl, sym, ap, ap₂, ◌∙◌, subst, fun_ext}
-use mathlib.Core.Bool.{Bool}
+use mathlib.Core.Path.{◌≡◌, refl, sym, ap, ap₂, ◌∙◌, subst}
 use mathlib.Core.List.{List, [], ◌∷◌, ◌++◌, map}
-use Prim.Native.Nat.{ℕ, suc, ◌+◌, ◌-◌, ◌*◌, ◌/◌, ◌%◌, ◌≤◌, ◌<◌, min}
-use native.Mathlib.Decide.{dec_lt}
+use Prim.Native.Nat.{ℕ, suc, ◌+◌, ◌-◌, ◌*◌, ◌≤◌, ◌<◌, min}
 use native.Mathlib.Nat.{add-zero}
 use native.Mathlib.Omega.{arith}
 use lib.IntN.{ℤ}
-use lib.ListN.{length, get_or, drop, length-append, length-take, get_or-eq_default}
-use lib.Seq.{get_or-take, get_or-drop}
+use lib.ListN.{length, length-append}
 use Rattle.wire.specs.Bytes.{stored}
 use Rattle.wire.specs.Decimal.{decimal, line_feed, parts}
 use Rattle.wire.proofs.BytesLaws.{stored_append, stored_length}
-use Rattle.wire.proofs.RowLaws.{four_at}
-use Rattle.wire.specs.Rows.{in_row, in_word}
+use Rattle.wire.specs.Rows.{in_row}
 use Rattle.block.specs.Limits.{max_calls, max_workers}
 use Rattle.block.specs.Reader.{Read, accepted, refused, read_block}
 use Rattle.block.specs.Refusal.{number_of, offset_of}
@@ -28,35 +24,15 @@ use Rattle.text.specs.Written.{Written, spaced}
 use Rattle.reader.specs.Layout.{layout_of}
 use Rattle.reader.specs.declared.Layout.{Layout}
 use Rattle.block.specs.BlockOfFile.{block_in, block_of}
-use Rattle.machine.specs.Run.{Sizes, row_in}
+use Rattle.machine.specs.Run.{Sizes, fixed_sizes, row_in}
 use Rattle.machine.specs.Opening as machine
 use Rattle.machine.specs.Opening.{opening_of}
 use Rattle.opening.specs.Opened.{opening_with}
 use Rattle.opening.specs.declared.Opened.{Opened}
-use Rattle.listing.specs.Listing.{call_row, rows_text, listing_text, listing_of, Listed}
+use Rattle.opening.proofs.Laws.{accepted_large}
+use Rattle.listing.specs.Listing.{rows_text, listing_text, listing_of, Listed}
 
 -- ---- a row
-
-past : (l : List ℕ) (q n : ℕ) → length l ≡ n → (q < n → ⊥) → length l ≤ q
-past l q n e h = omega arith
-
--- The words that are read are those of the row, where it has them, and 0.
-same_word : (plan : List ℕ) (j q : ℕ) → get_or (call_row plan j) q 0 ≡ get_or (row_in plan j) q 0
-same_word plan j q = go (dec_lt q 4)
-  where
-    go : Dec (q < 4) → get_or (call_row plan j) q 0 ≡ get_or (row_in plan j) q 0
-    go (yes h) =
-        four_at plan (32 * j + 27) q h
-        ∙ sym (get_or-take 4 (drop (32 * j + 27) plan) q 0 h ∙ get_or-drop (32 * j + 27) plan q 0)
-    go (no h) =
-        get_or-eq_default (call_row plan j) 0 (past (call_row plan j) q 4 refl h)
-        ∙ sym (get_or-eq_default (row_in plan j) 0 (simp length-take (omega arith)))
-
-same_row : (plan : List ℕ) (j : ℕ) → row_text j (call_row plan j) ≡ row_text j (row_in plan j)
-unfolding in_row
-same_row plan j =
-    ap (λ (test : ℕ → Bool). Rattle.wire.specs.Decimal.text_line 119 (decimal j ∷ map decimal (passing test 256 0)))
-    (fun_ext (λ i. ap (λ (w : ℕ). in_word w (i % 64)) (same_word plan j (i / 64))))
 
 row_length : (j : ℕ) (row : List ℕ) → length (row_text j row) ≤ 6000
 unfolding spaced
@@ -83,13 +59,12 @@ module _ (plan : List ℕ) (calls : ℕ) where
       record { whole = rw e; last = rw e; within = omega arith; short = omega arith; same = refl }
 
   pub rowing_on : (s t u : List ℕ) (from at end call : ℕ) (row : List ℕ) → Rowing s t from at call → call < calls
-      → row ≡ call_row plan call → Written t u at end (row_text call row) → Rowing s u from end (call + 1)
+      → row ≡ row_in plan call → Written t u at end (row_text call row) → Rowing s u from end (call + 1)
   unfolding rows_text
   rowing_on s t u from at end call row g h e w =
       let f : calls - call ≡ suc (calls - (call + 1)) = omega arith in
       let rest : List ℕ = rows_text (calls - (call + 1)) (call + 1) plan in
-      let text : row_text call row ≡ row_text call (row_in plan call) = rw e (same_row plan call) in
-      let next : rows_text (calls - call) call plan ≡ row_text call row ++ rest = rw f (ap (λ (l : List ℕ). l ++ rest) (sym text)) in
+      let next : rows_text (calls - call) call plan ≡ row_text call row ++ rest = rw (f, e) refl in
       record {
         whole =
             g.whole ∙ ap (λ (l : List ℕ). stored t at l) next ∙ stored_append (row_text call row) rest t at
@@ -142,6 +117,11 @@ cells_read : (x : Read) → (layout_of x).cells ≡ length (block_in x).cells
 unfolding layout_of block_in
 cells_read (accepted b) = refl
 cells_read (refused why) = refl
+
+-- An accepted block was opened in a plan that is large enough.
+pub plan_opened : (file : List ℕ) (s : Sizes) {plan keys : List ℕ} {cells : List ℤ} {status seats : List ℕ} {frames : List ℤ} {o : Opened}
+    → opening_with o plan keys cells status seats frames ≡ opening_of s file max_workers → o.verdict ≡ Accepted → fixed_sizes.plan ≤ s.plan
+plan_opened file s e h = accepted_large s file max_workers (sym (ap (λ (x : machine.Opened). x.answer) e) ∙ h)
 
 -- A file that is opened, read and listed.
 pub all_listed : (file : List ℕ) (s : Sizes) (plan keys : List ℕ) (cells : List ℤ) (status seats : List ℕ) (frames : List ℤ) (before after : List ℕ) (r : ℕ)

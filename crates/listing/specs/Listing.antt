@@ -1,5 +1,5 @@
 -- What a listing tells of a block: its refusal; or its numbers, and for each call those that it waits for.
-use Rattle.std.specs.Prelude.{◌≡◌, List, [], ◌∷◌, ◌++◌, ℕ, zero, suc, ◌+◌, ◌*◌, min, ℤ, length, get_or}
+use Rattle.std.specs.Prelude.{◌≡◌, List, [], ◌++◌, ℕ, zero, suc, ◌+◌, ◌*◌, min, ℤ, length}
 use Rattle.block.specs.Limits.{max_calls, max_workers}
 use Rattle.block.specs.Refusal.{number_of, offset_of}
 use Rattle.block.specs.declared.Verdict.{Verdict}
@@ -35,11 +35,6 @@ max_row_text = 4 * max_calls + 6
 -- The longest listing: its first line has four numbers of at most 20 digits.
 abbrev pub max_listing : ℕ
 max_listing = max_calls * max_row_text + 86
-
--- The four words of a call's row, 0 past the plan's end.
-abbrev pub call_row : List ℕ → ℕ → List ℕ
-call_row plan j =
-    get_or plan (32 * j + 27) 0 ∷ get_or plan (32 * j + 27 + 1) 0 ∷ get_or plan (32 * j + 27 + 2) 0 ∷ get_or plan (32 * j + 27 + 3) 0 ∷ []
 
 -- What a listed file leaves in the buffers of the run, all zero if the block is refused, and in that of the text, of which n bytes are written.
 pub record Listed (file : List ℕ) (s : Sizes) (plan keys : List ℕ) (cells : List ℤ) (status seats : List ℕ) (frames : List ℤ)

@@ -1,62 +1,27 @@
--- The mathematics of the proofs of `step` on a run, over plain variables: the tests before a turn, the run behind it, and the held call.
+-- The mathematics of the proofs of `step` on a run, over plain variables: where the block holds no record, and the run behind a turn.
 use mathlib.Core.Path.{◌≡◌, refl, sym, ap, ◌∙◌}
 use mathlib.Core.Bool.{Bool, true, false, ◌||◌, not}
 use mathlib.Core.List.{List}
-use Prim.Native.Nat.{ℕ, ◌+◌, ◌*◌, ◌≤◌, ◌<◌}
+use Prim.Native.Nat.{ℕ, ◌+◌, ◌*◌, ◌<◌}
 use native.Mathlib.Omega.{arith}
-use borrow.Author.Tests.{lt-ltb, le-ltb, leb-true, leb-false, ltb-false}
-use lib.Dec.{leb, ltb}
+use lib.Dec.{ltb}
 use lib.IntN.{ℤ}
-use lib.ListN.{length, set, drop, length-drop}
-use Rattle.std.specs.Prelude.{if◌then◌else◌}
-use Rattle.arith.proofs.ChoiceLaws.{if_all}
+use lib.ListN.{length, drop, length-drop}
+use Rattle.std.specs.Prelude.{if◌then◌else◌, Option}
 use Rattle.block.specs.Limits.{max_code}
-use Rattle.block.specs.Outcomes.{thrown}
 use Rattle.block.specs.Record.{head_bytes, call_bytes, call_record_bytes, call_of}
 use Rattle.decoder.proofs.Laws.{call_cut}
 use Rattle.block.specs.declared.Call.{Call}
 use Rattle.block.specs.declared.CallBody.{CallBody}
 use Rattle.block.specs.declared.CallBody.TheVariants.{InRange, OutOfRange}
-use Rattle.machine.specs.Run.{Run, entries_of, held_at, place_in, count_in, plan_word, regs_in, saved_in, with_held, with_regs, with_seat, with_receipt, finished}
-use Rattle.machine.specs.Waits.{waits_lowered, waits_lowerable}
-use Rattle.machine.specs.Step.{View, Performed, broken, onward, ending, Stepped, done, concluded, finish, restorable, restored, step_call, step_place}
-use Rattle.machine.specs.Moves.{Moved, answered, call_key_count, holds, held_by, local_of, stay, step_for, step_held, step_of, step_record, stepped, view_of}
-use Rattle.machine.specs.declared.Answer.{Answer}
-use Rattle.machine.specs.declared.Answer.TheVariants.{Accepted, Damaged}
+use Rattle.machine.specs.Run.{Run, place_in, count_in, plan_word, regs_in}
+use Rattle.machine.specs.Step.{View, Performed, broken, onward, ending, concluded, finish, step_call, step_place}
+use Rattle.machine.specs.Moves.{Moved, local_of, stay, step_held, step_record, stepped, view_of}
+use Rattle.machine.specs.declared.Answer.TheVariants.{Damaged}
 use Rattle.machine.specs.declared.Head.{Head}
-use Rattle.moves.specs.Lent.{lent, moved}
-use Rattle.moves.specs.Turn.{StandsForPlace, TurnWithCells, broken_turn, cell_view, performed_of, turn_settled, turned, view_in, worker_saved, SiteInRange}
-use Rattle.moves.specs.declared.Fate.TheVariants.{Broken, Going, Over}
-use Rattle.moves.specs.declared.Site.{Site}
+use Rattle.moves.specs.Lent.{lent}
+use Rattle.moves.specs.Turn.{StandsForPlace, TurnWithCells, cell_view, performed_of, turn_settled, turned, view_in, worker_saved}
 use Rattle.moves.specs.declared.Turn.{Turn}
-use Rattle.moves.proofs.HeldLaws.{held_kept}
-use Rattle.moves.proofs.PerformLaws.{finish_damaged, finish_kept, finish_restored}
-
--- ---- the status behind a turn
-
-pub receipt : (status : List ℕ) (c outcome count : ℕ) {one two three : List ℕ} → one ≡ set status (4 * c) finished → two ≡ set one (4 * c + 1) outcome → three ≡ set two (4 * c + 2) count
-    → three ≡ with_receipt status c outcome count
-receipt status c outcome count e f g = rw (g, f, e)
-
--- ---- the tests before a turn
-
-not_above : (a b : ℕ) → leb a b ≡ not (ltb b a)
-not_above a b = go (leb a b) refl
-  where
-    go : (t : Bool) → leb a b ≡ t → t ≡ not (ltb b a)
-    go true e = rw (le-ltb b a (leb-true a b e))
-    go false e = rw (lt-ltb b a (leb-false a b e))
-
--- The place is in its range.
-abbrev pub in_range : (code place : ℕ) → Bool
-in_range code place = not (ltb (max_code + 1) code || ltb code place)
-
-module _ (place : ℕ) {code : ℕ} {word : ℕ} (own : code ≡ word) where
-  pub range_code : max_code + 1 < code → false ≡ in_range word place
-  range_code h = rw (← own, lt-ltb (max_code + 1) code h)
-
-  pub range_place : code ≤ max_code + 1 → leb place code ≡ in_range word place
-  range_place g = rw (← own, le-ltb (max_code + 1) code g) (not_above place code)
 
 -- A record behind the end of the block.
 pub record_short : (block : List ℕ) (first c : ℕ) → length block < first + call_record_bytes * c + head_bytes
@@ -65,27 +30,14 @@ record_short block first c h =
     let cut : length (drop (first + call_record_bytes * c + head_bytes) block) < call_bytes = simp length-drop (omega arith) in
     call_cut (drop (first + call_record_bytes * c + head_bytes) block) cut
 
--- A test that is made the other way round: it fails, or it passes.
-test_failed : {A : Type 0} (p : Bool) {ok : Bool} (x y : A) → ok ≡ not p → ok ≡ false → x ≡ (if p then x else y)
-test_failed true x y e f = refl
-test_failed false x y e f = let z : ◌≡◌ {A = ℕ} 0 1 = cc in absurd (omega arith)
+-- The place is in its range.
+abbrev pub in_range : (code place : ℕ) → Bool
+in_range code place = not (ltb (max_code + 1) code || ltb code place)
 
+-- A test that is made the other way round, and passes.
 test_passed : {A : Type 0} (p : Bool) {ok : Bool} (x y : A) → ok ≡ not p → ok ≡ true → y ≡ (if p then x else y)
 test_passed false x y e f = refl
 test_passed true x y e f = let z : ◌≡◌ {A = ℕ} 0 1 = cc in absurd (omega arith)
-
-pub in_place : (plan : List ℕ) (s : Site) {ok : Bool} → ok ≡ in_range (plan_word plan s.call 1) s.place → ok ≡ true → SiteInRange plan s
-in_place plan s {ok} e f =
-    let all = go (ltb (max_code + 1) (plan_word plan s.call 1)) (ltb (plan_word plan s.call 1) s.place) ok e f in
-    record {
-      code = ltb-false (max_code + 1) (plan_word plan s.call 1) all.0;
-      place = ltb-false (plan_word plan s.call 1) s.place all.1;
-    }
-  where
-    go : (p q ok : Bool) → ok ≡ not (p || q) → ok ≡ true → (p ≡ false) × (q ≡ false)
-    go false false ok e f = (refl, refl)
-    go true q ok e f = let z : ◌≡◌ {A = ℕ} 0 1 = cc in absurd (omega arith)
-    go false true ok e f = let z : ◌≡◌ {A = ℕ} 0 1 = cc in absurd (omega arith)
 
 -- ---- a step on a run
 
@@ -101,11 +53,6 @@ module _ (head : Head) (block plan keys : List ℕ) (cells : List ℤ) (status s
   abbrev run : Run
   run = lent head plan keys cells status seats frames
 
-  -- A damaged turn leaves the run.
-  pub broken_stays : {t : Turn} {m : Moved} → t ≡ broken_turn → stay run Damaged ≡ m → turn_settled head plan keys cells status seats frames w c t ≡ m
-  unfolding concluded stepped
-  broken_stays e p = rw e p
-
   -- The run behind a turn is that behind the step that it stands for.
   stands_settled : (v : View) (saved : List ℤ) (p : Performed) → stepped (lent head plan keys (turned cells p).cells status seats frames) w c (concluded v saved (turned cells p).cells (performed_of (turned cells p).turn (turned cells p).cells))
       ≡ stepped run w c (concluded v saved cells p)
@@ -114,7 +61,7 @@ module _ (head : Head) (block plan keys : List ℕ) (cells : List ℤ) (status s
   stands_settled v saved (onward place count regs after) = refl
   stands_settled v saved (ending outcome count) = refl
 
-  pub place_settled : (call : Call) {place count : ℕ} {regs : List ℤ} {t : Turn} {after : List ℤ} → place ≡ place_in seats w → count ≡ count_in seats w → regs ≡ regs_in frames w
+  pub place_settled : (call : Call) {place count : ℕ} {regs : List ℤ} {t : Option Turn} {after : List ℤ} → place ≡ place_in seats w → count ≡ count_in seats w → regs ≡ regs_in frames w
       → StandsForPlace t after cells (step_place (view_in block plan keys c call) place count regs cells)
       → turn_settled head plan keys after status seats frames w c t ≡ stepped run w c (step_call (view_of block run c call) (local_of run w c) cells)
   unfolding step_call
@@ -136,10 +83,6 @@ module _ (head : Head) (block plan keys : List ℕ) (cells : List ℤ) (status s
     same_test : ok ≡ not bad_place
     same_test = rw (← placed) tested
 
-    pub held_unseated : ok ≡ false → stay run Damaged ≡ step_held block run w c
-    unfolding step_held
-    held_unseated = test_failed bad_place (stay run Damaged) (behind_place head.first_call) same_test
-
     module _ (seated : ok ≡ true) {first : ℕ} (starts : first ≡ head.first_call)
         {body : CallBody} (read : body ≡ call_of (drop (first + call_record_bytes * c + head_bytes) block)) where
       on_head : behind_place head.first_call ≡ step_held block run w c
@@ -149,87 +92,6 @@ module _ (head : Head) (block plan keys : List ℕ) (cells : List ℤ) (status s
       on_record : step_record block run w c body ≡ step_held block run w c
       on_record = ap (step_record block run w c) read ∙ ap behind_place starts ∙ on_head
 
-      pub held_broken : body ≡ OutOfRange → stay run Damaged ≡ step_held block run w c
-      unfolding step_record
-      held_broken e = ap (step_record block run w c) (sym e) ∙ on_record
-
       pub held_stepped : {call : Call} {m : Moved} → body ≡ InRange call → m ≡ stepped run w c (step_call (view_of block run c call) (local_of run w c) cells) → m ≡ step_held block run w c
       unfolding step_record
       held_stepped e p = p ∙ ap (step_record block run w c) (sym e) ∙ on_record
-
--- ---- the held call
-
-module _ (head : Head) (block plan keys : List ℕ) (cells : List ℤ) (status seats : List ℕ) (frames : List ℤ) (w : ℕ) where
-  pub step_answered : {a : Answer} → answered a ≡ held_by (lent head plan keys cells status seats frames) w
-      → moved a (lent head plan keys cells status seats frames) ≡ step_of block (lent head plan keys cells status seats frames) w
-  unfolding step_for
-  step_answered e = ap (step_for block (lent head plan keys cells status seats frames) w) e
-
-  pub step_holds : {c : ℕ} {m : Moved} → holds c ≡ held_by (lent head plan keys cells status seats frames) w
-      → m ≡ step_held block (lent head plan keys cells status seats frames) w c → m ≡ step_of block (lent head plan keys cells status seats frames) w
-  unfolding step_for
-  step_holds e p = p ∙ ap (step_for block (lent head plan keys cells status seats frames) w) e
-
--- ---- what a turn leaves
-
-module _ (head : Head) (plan keys : List ℕ) (cells : List ℤ) (status seats : List ℕ) (frames : List ℤ) (w c : ℕ) {held : ℕ} (own : held ≡ held_at head w) where
-  abbrev start : Run
-  start = lent head plan keys cells status seats frames
-
-  abbrev old : List ℤ
-  old = worker_saved plan frames w c
-
-  -- The end of a call.
-  module _ (outcome count : ℕ) where
-    abbrev finished_run : Moved
-    finished_run = stepped start w c (finish (cell_view plan keys c) old outcome count cells)
-
-    pub end_damaged : thrown ≤ outcome → {n : ℕ} → n ≡ call_key_count plan c → false ≡ restorable n (entries_of plan c n)
-        → moved Damaged (lent (with_held head w held) plan keys cells status seats frames) ≡ finished_run
-    unfolding stepped
-    end_damaged high n r = rw (held_kept head w own, finish_damaged (cell_view plan keys c) old outcome count cells high (sym (rw (← n) r)))
-
-    -- The numbers of the calls that wait for it can be lowered, or not.
-    module _ {calls : ℕ} (called : calls ≡ head.calls) {ok : Bool} (tested : ok ≡ waits_lowerable plan status c calls) where
-      lowerable : waits_lowerable plan status c head.calls ≡ ok
-      lowerable = sym (tested ∙ ap (waits_lowerable plan status c) called)
-
-      done_stays : ok ≡ false → (after : List ℤ) → stay start Damaged ≡ stepped start w c (done outcome count after)
-      unfolding stepped
-      done_stays f after = rw (lowerable, f)
-
-      pub end_stays : ok ≡ false → moved Damaged (lent (with_held head w held) plan keys cells status seats frames) ≡ finished_run
-      unfolding finish stepped
-      end_stays f =
-          rw (held_kept head w own)
-          (if_all (λ (s : Stepped). stay start Damaged ≡ stepped start w c s) (ltb outcome thrown) (λ e. done_stays f cells)
-          (λ e.
-          if_all (λ (s : Stepped). stay start Damaged ≡ stepped start w c s) (restorable (call_key_count plan c) (entries_of plan c (call_key_count plan c)))
-          (λ g. done_stays f (restored (entries_of plan c (call_key_count plan c)) old cells)) (λ g. refl)))
-
-      module _ (can : ok ≡ true) {status' : List ℕ} (closed : status' ≡ waits_lowered plan c calls (with_receipt status c outcome count)) where
-        pub end_restored : thrown ≤ outcome → {n : ℕ} → n ≡ call_key_count plan c → true ≡ restorable n (entries_of plan c n)
-            → {cells' : List ℤ} → cells' ≡ restored (entries_of plan c n) (saved_in frames w n) cells
-            → moved Accepted (lent (with_held head w 0) plan keys cells' status' seats frames) ≡ finished_run
-        unfolding stepped
-        end_restored high n r e =
-            rw (e, closed, called, n, finish_restored (cell_view plan keys c) old outcome count cells high (sym (rw (← n) r)), lowerable, can)
-
-        pub end_kept : outcome < thrown → moved Accepted (lent (with_held head w 0) plan keys cells status' seats frames) ≡ finished_run
-        unfolding stepped
-        end_kept low = rw (closed, called, finish_kept (cell_view plan keys c) old outcome count cells low, lowerable, can)
-
-  -- A turn.
-  module _ (t : Turn) where
-    pub settle_broken : t.fate ≡ Broken → moved Damaged (lent (with_held head w held) plan keys cells status seats frames) ≡ turn_settled head plan keys cells status seats frames w c t
-    unfolding concluded stepped
-    settle_broken e = rw (held_kept head w own, e)
-
-    pub settle_going : {place : ℕ} → t.fate ≡ Going place → {seats' : List ℕ} {frames' : List ℤ} → seats' ≡ with_seat seats w place t.count → frames' ≡ with_regs frames w t.regs
-        → moved Accepted (lent (with_held head w held) plan keys cells status seats' frames') ≡ turn_settled head plan keys cells status seats frames w c t
-    unfolding concluded stepped
-    settle_going e s r = rw (held_kept head w own, e, s, r)
-
-    pub settle_over : {outcome : ℕ} → t.fate ≡ Over outcome → {m : Moved} → m ≡ finished_run outcome t.count → m ≡ turn_settled head plan keys cells status seats frames w c t
-    unfolding concluded
-    settle_over e p = p ∙ rw e

@@ -1,21 +1,13 @@
--- The mathematics of the proofs of `seat`, over plain variables: the place and the count stored, and registers taken from a frame one by one.
+-- The mathematics of the proofs of `seat`, over plain variables: registers taken from a frame one by one.
 use mathlib.Core.Path.{◌≡◌, refl, sym, ◌∙◌}
 use mathlib.Core.List.{List}
-use Prim.Native.Nat.{ℕ, ◌+◌, ◌*◌, ◌≤◌, ◌<◌}
+use Prim.Native.Nat.{ℕ, ◌+◌, ◌≤◌, ◌<◌}
 use native.Mathlib.Decide.{ℕ_discrete}
 use native.Mathlib.Omega.{arith}
 use lib.IntN.{ℤ, pos}
 use lib.ListN.{length, get_or, take, drop, set, length-take, length-drop, length-set}
 use lib.Seq.{get_or-take, get_or-drop, get_or-set_same, get_or-set_other, ext_get_or}
-use Rattle.machine.specs.Run.{registers, seat_words, with_seat, zero_registers}
-
--- ---- the place and the count
-
-pub seat_stored : (seats : List ℕ) (w place count : ℕ) {one two : List ℕ} → one ≡ set seats (seat_words * w) place → two ≡ set one (seat_words * w + 1) count
-    → two ≡ with_seat seats w place count
-seat_stored seats w place count e f = rw (f, e)
-
--- ---- taken
+use Rattle.machine.specs.Run.{registers, zero_registers}
 
 -- The first k registers are those of the frame that starts at a place.
 pub record TakenTo (frames : List ℤ) (at : ℕ) (regs : List ℤ) (k : ℕ) : Type 0 where

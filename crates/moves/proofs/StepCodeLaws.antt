@@ -1,12 +1,10 @@
 -- The mathematics of the proofs of `step` up to what a place comes to, over plain variables: the entry, the instruction in the block, the
 -- fuel and the place that decide, and what is due there.
 use mathlib.Core.Path.{◌≡◌, sym, ap, ◌∙◌}
-use mathlib.Core.Bool.{true, false, or-true}
 use mathlib.Core.List.{List, []}
 use Prim.Native.Nat.{ℕ, ◌+◌, ◌-◌, ◌*◌, ◌≤◌, ◌<◌}
 use native.Mathlib.Omega.{arith}
-use borrow.Author.Tests.{eq-eqb, ne_eqb, le-leb, lt-leb, le-ltb, lt-ltb}
-use lib.Dec.{eqb}
+use borrow.Author.Tests.{eq-eqb, ne_eqb, le-leb, le-ltb}
 use lib.IntN.{ℤ}
 use lib.ListN.{length, get_or, drop}
 use lib.Seq.{get_or-take, get_or-drop}
@@ -17,21 +15,21 @@ use Rattle.block.specs.Limits.{max_code}
 use Rattle.block.specs.Record.{code_at}
 use Rattle.block.specs.declared.Call.{Call}
 use Rattle.block.specs.declared.Decoded.{Decoded}
-use Rattle.block.specs.declared.Decoded.TheVariants.{Valid, Invalid}
+use Rattle.block.specs.declared.Decoded.TheVariants.{Valid}
 use Rattle.block.specs.declared.Instr.{Instr}
 use Rattle.footprint.specs.Access.{Access, accesses, entry_accesses}
 use Rattle.key_uses.specs.Uses.{uses_of}
 use Rattle.key_uses.specs.declared.Uses.{Uses}
 use Rattle.machine.specs.Action.{entry_action, instr_action}
-use Rattle.block.specs.Outcomes.{ended, out_of_fuel, unknown_function}
+use Rattle.block.specs.Outcomes.{ended}
 use Rattle.machine.specs.Run.{plan_word}
-use Rattle.machine.specs.Step.{Performed, broken, perform, step_body, step_decoded, step_entry, step_instr, step_place}
+use Rattle.machine.specs.Step.{Performed, perform, step_body, step_decoded, step_entry, step_instr, step_place}
 use Rattle.machine.specs.declared.Action.{Action}
 use Rattle.action.specs.Acted.{acted_of, action_of}
-use Rattle.moves.specs.Turn.{StandsForPlace, accesses_of, broken_turn, cell_view, due_done, end_due, nothing_due, turned, view_in, DueDoable, Payable, KeyWorded}
+use Rattle.moves.specs.Turn.{cell_view, due_done, end_due, view_in, DueDoable, Payable, KeyWorded}
 use Rattle.action.specs.declared.Acted.{Acted}
 use Rattle.moves.specs.declared.Due.{Due}
-use Rattle.moves.specs.declared.Turn.{Turn}
+use Rattle.std.specs.Prelude.{Option, Some}
 use Rattle.moves.proofs.ViewCodeLaws.{NextHasAccesses, entry_fits, first_worded, fitting_payable, instr_fits, perform_held, second_worded}
 
 -- ---- what an action asks for
@@ -88,60 +86,37 @@ module _ (block : List ℕ) (start size index : ℕ) (inside : index < size) whe
 
 -- ---- what is due at a place
 
--- No use of a key is one that has its words.
-pub none_worded : KeyWorded (uses_of []).first × KeyWorded (uses_of []).second
-none_worded = (first_worded [], second_worded [])
-
--- Nothing, or an end, can be done.
-pub nothing_doable : {place : ℕ} {d : Due} → d ≡ nothing_due → place ≤ max_code + 1 → DueDoable place d
-nothing_doable e early = rw e (record { early = early; first = none_worded.0; second = none_worded.1; payable = tt })
-
-pub end_doable : {place outcome count : ℕ} {d : Due} → d ≡ end_due outcome count → place ≤ max_code + 1 → DueDoable place d
-end_doable e early = rw e (record { early = early; first = none_worded.0; second = none_worded.1; payable = tt })
+-- An end can be done.
+pub end_doable : {place outcome count : ℕ} {d : Due} → d ≡ end_due outcome count → place ≤ max_code + 1 → DueDoable place (Some d)
+end_doable e early = rw e (record { early = early; first = first_worded []; second = second_worded []; payable = tt })
 
 module _ (block plan keys : List ℕ) (c : ℕ) (call : Call) (place : ℕ) (regs cells : List ℤ) where
-  abbrev done_at : Due → Performed
+  abbrev done_at : Option Due → Performed
   done_at d = due_done (cell_view plan keys c) place d cells
-
-  pub entry_unknown : {d : Due} {code : ℕ} → code ≡ plan_word plan c 1 → code ≡ 0 → d ≡ end_due unknown_function 0
-      → done_at d ≡ step_entry (view_in block plan keys c call) place regs cells
-  unfolding step_entry perform
-  entry_unknown w z e = rw (e, eq-eqb (plan_word plan c 1) 0 (sym w ∙ z))
 
   -- An action that the code has stands for the definition's.
   acted_stands : (count' : ℕ) (as' : List Access) (wanted : Action) → NextHasAccesses wanted.next as' → {us : Uses} {a : Action} → us ≡ uses_of as' → a ≡ wanted
-      → done_at (record { sound = true; count = count'; uses = us; action = a }) ≡ perform (view_in block plan keys c call) place count' as' wanted.regs wanted.next cells
+      → done_at (Some (record { count = count'; uses = us; action = a })) ≡ perform (view_in block plan keys c call) place count' as' wanted.regs wanted.next cells
   acted_stands count' as' wanted fits u e =
       rw (u, e, perform_held place count' wanted.regs cells block plan keys c call as' wanted.next fits)
 
   pub entry_known : {code : ℕ} → code ≡ plan_word plan c 1 → (code ≡ 0 → ⊥) → {us : Uses} {a : Action} → us ≡ uses_of (entry_accesses call) → a ≡ entry_action call regs
-      → done_at (record { sound = true; count = 0; uses = us; action = a }) ≡ step_entry (view_in block plan keys c call) place regs cells
+      → done_at (Some (record { count = 0; uses = us; action = a })) ≡ step_entry (view_in block plan keys c call) place regs cells
   unfolding step_entry
   entry_known w n u e =
       rw (ne_eqb (plan_word plan c 1) 0 (λ z. n (w ∙ z)))
       (acted_stands 0 (entry_accesses call) (entry_action call regs) (entry_fits call regs) u e)
 
   module _ (count : ℕ) where
-    pub decoded_invalid : {d : Due} (x : Decoded) → x ≡ Invalid → d ≡ nothing_due → done_at d ≡ step_decoded (view_in block plan keys c call) place count regs cells x
-    unfolding step_decoded
-    decoded_invalid x e b = rw (b, e)
-
-    pub instr_outside : {d : Due} {start code : ℕ} → start ≡ plan_word plan c 0 → code ≡ plan_word plan c 1 → length block < start + 8 * (code - 1) → d ≡ nothing_due
-        → done_at d ≡ step_instr (view_in block plan keys c call) place count regs cells
-    unfolding step_instr
-    instr_outside e f h b =
-        let short : length block < plan_word plan c 0 + 8 * (plan_word plan c 1 - 1) = rw (e, f) at h in
-        rw (b, lt-leb (plan_word plan c 0 + 8 * (plan_word plan c 1 - 1)) (length block) short)
-
     pub decoded_valid : 0 < place → (x : Decoded) {acted : Acted} → acted ≡ acted_of call (place - 1 + 1) regs x → (i : Instr) → acted.decoded ≡ Valid i
         → {us : Uses} → us ≡ uses_of (accesses call i)
-        → done_at (record { sound = true; count = count + 1; uses = us; action = acted.action }) ≡ step_decoded (view_in block plan keys c call) place count regs cells x
+        → done_at (Some (record { count = count + 1; uses = us; action = acted.action })) ≡ step_decoded (view_in block plan keys c call) place count regs cells x
     unfolding step_decoded
     decoded_valid some x known i valid u =
         rw (acted_decoded call place regs x known i valid)
         (acted_stands (count + 1) (accesses call i) (instr_action call place regs i) (instr_fits call place regs i) u (acted_action call place regs x known i valid some))
 
-    pub instr_inside : (d : Due) {start code : ℕ} → start ≡ plan_word plan c 0 → code ≡ plan_word plan c 1 → start + 8 * (code - 1) ≤ length block → place - 1 < code - 1
+    pub instr_inside : (d : Option Due) {start code : ℕ} → start ≡ plan_word plan c 0 → code ≡ plan_word plan c 1 → start + 8 * (code - 1) ≤ length block → place - 1 < code - 1
         → {found : List ℕ} → found ≡ code_at block start (code - 1)
         → done_at d ≡ step_decoded (view_in block plan keys c call) place count regs cells (decode (code - 1) (drop (instr_bytes * (place - 1)) found))
         → done_at d ≡ step_instr (view_in block plan keys c call) place count regs cells
@@ -161,66 +136,16 @@ module _ (block plan keys : List ℕ) (c : ℕ) (call : Call) (place : ℕ) (reg
         rw (le-leb (from + 8 * size) (length block) fits)
         (p ∙ ap (step_decoded (view_in block plan keys c call) place count regs cells) here)
 
-    -- The tests of the fuel: none, past it, at the end of the code without any left, and at an instruction.
-    pub fuel_none : {d : Due} {fuel : ℕ} → fuel ≡ call.fuel → fuel ≡ 0 → d ≡ nothing_due → done_at d ≡ step_body (view_in block plan keys c call) place count regs cells
-    unfolding step_body
-    fuel_none own z b = rw (b, eq-eqb call.fuel 0 (sym own ∙ z))
-
-    pub fuel_past : {d : Due} {fuel : ℕ} → fuel ≡ call.fuel → fuel < count → d ≡ nothing_due → done_at d ≡ step_body (view_in block plan keys c call) place count regs cells
-    unfolding step_body
-    fuel_past {d} {fuel} own h b =
-        let past : call.fuel < count = rw own at h in
-        rw (b, lt-ltb call.fuel count past, or-true (eqb call.fuel 0))
-
-    pub body_ended : {d : Due} {fuel : ℕ} → fuel ≡ call.fuel → (fuel ≡ 0 → ⊥) → count ≤ fuel → {code : ℕ} → code ≡ plan_word plan c 1 → place ≡ code → d ≡ end_due ended count
-        → done_at d ≡ step_body (view_in block plan keys c call) place count regs cells
+    -- At the end of the code.
+    pub body_ended : {d : Due} → count < call.fuel → {code : ℕ} → code ≡ plan_word plan c 1 → place ≡ code → d ≡ end_due ended count
+        → done_at (Some d) ≡ step_body (view_in block plan keys c call) place count regs cells
     unfolding step_body perform
-    body_ended {d} {fuel} own some h w e o =
-        let within : count ≤ call.fuel = rw own at h in
-        rw (o, ne_eqb call.fuel 0 (λ z. some (own ∙ z)), le-ltb call.fuel count within, eq-eqb place (plan_word plan c 1) (e ∙ w))
-
-    pub fuel_out : {d : Due} {fuel : ℕ} → fuel ≡ call.fuel → (fuel ≡ 0 → ⊥) → count ≡ fuel → {code : ℕ} → code ≡ plan_word plan c 1 → (place ≡ code → ⊥) → d ≡ end_due out_of_fuel count
-        → done_at d ≡ step_body (view_in block plan keys c call) place count regs cells
-    unfolding step_body perform
-    fuel_out {d} {fuel} own some h w n o =
-        let spent : count ≡ call.fuel = h ∙ own in
-        let within : count ≤ call.fuel = omega (arith, spent) in
-        rw (o, ne_eqb call.fuel 0 (λ z. some (own ∙ z)), le-ltb call.fuel count within, ne_eqb place (plan_word plan c 1) (λ z. n (z ∙ sym w)), eq-eqb count call.fuel spent)
-
-    pub body_instr : (d : Due) → count < call.fuel → {code : ℕ} → code ≡ plan_word plan c 1 → (place ≡ code → ⊥)
-        → done_at d ≡ step_instr (view_in block plan keys c call) place count regs cells
-        → done_at d ≡ step_body (view_in block plan keys c call) place count regs cells
-    unfolding step_body
-    body_instr d h w n p =
+    body_ended h w e o =
         let some : call.fuel ≡ 0 → ⊥ = λ z. absurd (omega (arith, h, z)) in
-        let apart : count ≡ call.fuel → ⊥ = λ z. absurd (omega (arith, h, z)) in
         let within : count ≤ call.fuel = omega (arith, h) in
-        rw (ne_eqb call.fuel 0 some, le-ltb call.fuel count within, ne_eqb place (plan_word plan c 1) (λ z. n (z ∙ sym w)), ne_eqb count call.fuel apart) p
+        rw (o, ne_eqb call.fuel 0 some, le-ltb call.fuel count within, eq-eqb place (plan_word plan c 1) (e ∙ w))
 
-    -- The place decides.
-    pub place_entry : (d : Due) → place ≡ 0 → done_at d ≡ step_entry (view_in block plan keys c call) place regs cells
-        → done_at d ≡ step_place (view_in block plan keys c call) place count regs cells
-    unfolding step_place
-    place_entry d e p = rw (eq-eqb place 0 e) p
-
-    pub place_body : (d : Due) → (place ≡ 0 → ⊥) → done_at d ≡ step_body (view_in block plan keys c call) place count regs cells
+    pub place_body : (d : Option Due) → (place ≡ 0 → ⊥) → done_at d ≡ step_body (view_in block plan keys c call) place count regs cells
         → done_at d ≡ step_place (view_in block plan keys c call) place count regs cells
     unfolding step_place
     place_body d some p = rw (ne_eqb place 0 some) p
-
-    -- ---- what is due, done
-
-    unsound : (d : Due) → d.sound ≡ false → done_at d ≡ broken
-    unsound d e = rw e
-
-    sound : (d : Due) → d.sound ≡ true → done_at d ≡ perform (cell_view plan keys c) place d.count (accesses_of d.uses) d.action.regs d.action.next cells
-    sound d e = rw e
-
-    module _ (d : Due) (known : done_at d ≡ step_place (view_in block plan keys c call) place count regs cells) {t : Turn} where
-      pub due_none : d.sound ≡ false → t ≡ broken_turn → StandsForPlace t cells cells (step_place (view_in block plan keys c call) place count regs cells)
-      due_none e b = rw b (ap (turned cells) (sym (unsound d e) ∙ known))
-
-      pub due_done_lem : {after : List ℤ} → d.sound ≡ true
-          → StandsForPlace t after cells (perform (cell_view plan keys c) place d.count (accesses_of d.uses) d.action.regs d.action.next cells)
-          → StandsForPlace t after cells (step_place (view_in block plan keys c call) place count regs cells)
-      due_done_lem e p = p ∙ ap (turned cells) (sym (sound d e) ∙ known)

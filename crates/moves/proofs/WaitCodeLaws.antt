@@ -1,15 +1,14 @@
 -- The mathematics of the walks over the calls behind a finished one, over plain variables: the bit that is tested, and a call more at each turn.
-use mathlib.Core.Path.{◌≡◌, sym, ap, ap₂, ◌∙◌}
-use mathlib.Core.Bool.{Bool, true, false, and-true, and-false}
+use mathlib.Core.Path.{◌≡◌, refl, sym, ap, ap₂, ◌∙◌}
+use mathlib.Core.Bool.{Bool, true, false, ◌&&◌, and-true, and-false}
 use mathlib.Core.List.{List}
 use Prim.Native.Nat.{ℕ, zero, suc, ◌+◌, ◌-◌, ◌*◌, ◌/◌, ◌%◌, ◌≤◌, ◌<◌}
-use native.Mathlib.Nat.{zero-add, suc-add}
 use native.Mathlib.Numerals.{add-one}
 use native.Mathlib.Omega.{arith}
-use borrow.Author.Tests.{lt-ltb, le-ltb, ne_eqb}
-use lib.Dec.{leb}
-use lib.ListN.{get_or, drop, set}
-use lib.Seq.{get_or-take, get_or-drop, set-get_or}
+use borrow.Author.Tests.{lt-ltb, le-ltb}
+use lib.ListN.{get_or, drop}
+use lib.Seq.{get_or-take, get_or-drop}
+use Rattle.std.specs.List.{list_all, range_with_len}
 use Rattle.wire.specs.Rows.{in_word, in_row}
 use Rattle.machine.specs.Run.{wait_count, with_wait}
 use Rattle.machine.specs.Waits.{named_in, each_wait, waits_for, lowered_if, lower_one, waits_lowered, lowerable_if, waits_lowerable}
@@ -21,26 +20,6 @@ unfolding in_row
 named_word plan later call l =
     ap (λ (n : ℕ). in_word n (call % 64))
     (sym (get_or-take 4 (drop (32 * later + 27) plan) (call / 64) 0 (omega arith) ∙ get_or-drop (32 * later + 27) plan (call / 64) 0))
-
--- One call: what its number is asked, and what it becomes.
-module _ {t named : Bool} (e : t ≡ named) (later : ℕ) where
-  pub asked_unnamed : (n : ℕ) → t ≡ false → true ≡ lowerable_if named later n
-  asked_unnamed n f = rw (← e, f)
-
-  module _ {n m : ℕ} (own : n ≡ m) (f : t ≡ true) where
-    pub asked_none : n ≡ 0 → false ≡ lowerable_if named later m
-    asked_none z = rw (← e, f, ← own, z)
-
-    pub asked_some : (n ≡ 0 → ⊥) → leb n later ≡ lowerable_if named later m
-    asked_some some = rw (← e, f, ← own, ne_eqb n 0 some)
-
-module _ (status : List ℕ) (later : ℕ) {t named : Bool} (e : t ≡ named) where
-  pub lower_unnamed : t ≡ false → status ≡ with_wait status later (lowered_if named (wait_count status later))
-  lower_unnamed f = rw (← e, f) (sym (set-get_or status (4 * later + 3) 0))
-
-  pub lower_named : t ≡ true → {n m : ℕ} {next : List ℕ} → n ≡ wait_count status later → m ≡ n - 1 → next ≡ set status (4 * later + 3) m
-      → next ≡ with_wait status later (lowered_if named (wait_count status later))
-  lower_named f own less stored = stored ∙ rw (← e, f, less, own)
 
 module _ (plan : List ℕ) (call : ℕ) where
   -- A later call waits for this one if its row names it; no earlier one does.
@@ -59,23 +38,30 @@ module _ (plan : List ℕ) (call : ℕ) where
         both : true ≡ false → ⊥
         both e = let z : ◌≡◌ {A = ℕ} 0 1 = cc in omega arith
 
-    module _ (later : ℕ) (above : call < later) (far : waits_lowerable plan status call later ≡ true) {ok : Bool}
-        (asked : ok ≡ lowerable_if (named_in plan call later) later (wait_count status later)) where
-      -- The test of one call more.
-      pub lowerable_more : waits_lowerable plan status call (later + 1) ≡ ok
-      unfolding waits_lowerable
-      lowerable_more = simp (add-one, for_later later above, far, and-true) (sym asked)
+    abbrev pub lowerable_at : ℕ → Bool
+    lowerable_at later = lowerable_if (named_in plan call later) later (wait_count status later)
 
-      -- One that cannot be lowered decides for all.
-      off : (d : ℕ) → ok ≡ false → waits_lowerable plan status call (d + (later + 1)) ≡ false
-      unfolding waits_lowerable
-      off zero f = rw zero-add (lowerable_more ∙ f)
-      off (suc d) f = simp (suc-add, off d f, and-false)
+    -- The test of one call more.
+    lowerable_more : (later : ℕ) → call < later → waits_lowerable plan status call (later + 1) ≡ (lowerable_at later && waits_lowerable plan status call later)
+    unfolding waits_lowerable
+    lowerable_more later above = rw (add-one later, for_later later above)
 
-      pub lowerable_off : (calls : ℕ) → later < calls → ok ≡ false → false ≡ waits_lowerable plan status call calls
-      lowerable_off calls l f =
-          let up : calls - (later + 1) + (later + 1) ≡ calls = omega arith in
-          sym (rw up at (off (calls - (later + 1)) f))
+    -- That of n calls more.
+    lowerable_from : (n from calls : ℕ) → call < from → calls ≡ from + n
+        → waits_lowerable plan status call calls ≡ (waits_lowerable plan status call from && list_all lowerable_at (range_with_len from n))
+    lowerable_from zero from calls above e = let same : calls ≡ from = omega arith in rw (same, and-true)
+    lowerable_from (suc n) from calls above e =
+        lowerable_from n (from + 1) calls (omega arith) (omega arith)
+        ∙ rw (lowerable_more from above) (turned (lowerable_at from) (waits_lowerable plan status call from) (list_all lowerable_at (range_with_len (from + 1) n)))
+      where
+        turned : (a b c : Bool) → ((a && b) && c) ≡ (b && (a && c))
+        turned true b c = refl
+        turned false b c = sym (and-false b)
+
+    pub lowerable_each : (calls : ℕ) → call < calls → {r : Bool} → r ≡ list_all lowerable_at (range_with_len (call + 1) (calls - (call + 1)))
+        → r ≡ waits_lowerable plan status call calls
+    lowerable_each calls l e =
+        e ∙ sym (lowerable_from (calls - (call + 1)) (call + 1) calls (omega arith) (omega arith) ∙ rw lowerable_start)
 
   -- ---- the lowered numbers
 

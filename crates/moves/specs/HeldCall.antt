@@ -1,15 +1,18 @@
 -- What STEP and CANCEL test of what the worker holds, in the type of their definition, and what is known of the held call.
-use Rattle.std.specs.Prelude.{◌||◌, ℕ, ◌-◌, ◌≤◌, ◌<◌, eqb, ltb}
+use Rattle.std.specs.Prelude.{Bool, ◌≡◌, ◌||◌, ℕ, ◌+◌, ◌-◌, eqb, ltb, Result, Ok, Err}
 use Rattle.std.specs.Prelude.{if◌then◌else◌}
 use Rattle.block.specs.Limits.{max_calls}
+use Rattle.machine.specs.Run.{held_at}
 use Rattle.machine.specs.Moves as definition
+use Rattle.machine.specs.declared.Head.{Head}
+use Rattle.machine.specs.declared.Answer.{Answer}
 use Rattle.machine.specs.declared.Answer.TheVariants.{Damaged, WorkerIdle}
-use Rattle.moves.specs.declared.Holding.{Holding}
-use Rattle.moves.specs.declared.Holding.TheVariants.{Answered, Holds}
+use Rattle.moves.specs.Tests.{unless_refused, worker_tested}
+use Rattle.moves.specs.declared.Hold.{Hold}
 
-abbrev pub as_held : Holding → definition.Held
-as_held (Answered a) = definition.answered a
-as_held (Holds call) = definition.holds call
+abbrev pub as_held : Result Hold Answer → definition.Held
+as_held (Ok h) = definition.holds h.call
+as_held (Err a) = definition.answered a
 
 -- What is held, from the number of calls and what the head has for the worker.
 abbrev pub held_from : ℕ → ℕ → definition.Held
@@ -20,7 +23,12 @@ held_from calls call =
     then definition.answered Damaged
     else definition.holds (call - 1)
 
--- A held call is one of the run, which has at most 256.
-abbrev pub HeldInRun : (calls : ℕ) → Holding → Type 0
-HeldInRun calls (Answered a) = Unit {0}
-HeldInRun calls (Holds call) = (call < calls) × (calls ≤ max_calls)
+-- What is held, behind the tests of the worker.
+abbrev pub held_tested : Bool → Head → (worker : ℕ) → definition.Held
+held_tested large head worker =
+    unless_refused (worker_tested large head.workers worker) definition.answered (held_from head.calls (held_at head worker))
+
+-- A hold is what this head has for its worker.
+pub record HoldOf (head : Head) (h : Hold) : Type 0 where
+  pub counted : h.calls ≡ head.calls
+  pub seated : held_at head h.worker ≡ h.call + 1

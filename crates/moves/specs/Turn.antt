@@ -1,16 +1,16 @@
 -- What the functions of a step hold and answer, beside the definitions of a step: the view from the lent buffers, an access from its two
 -- words, what is due at a place, and the turn that stands for what the place comes to.
-use Rattle.std.specs.Prelude.{true, false, ◌≡◌, List, [], ◌∷◌, ℕ, ◌+◌, ◌*◌, ◌^◌, ◌≤◌, ◌<◌, ℤ, pos, leb, length}
+use Rattle.std.specs.Prelude.{true, Option, Some, None, IfSome, ◌≡◌, List, [], ◌∷◌, ℕ, ◌+◌, ◌*◌, ◌^◌, ◌≤◌, ◌<◌, ℤ, pos, leb, length}
 use Rattle.std.specs.Int.Signed.{non_neg}
 use Rattle.std.specs.Prelude.{if◌then◌else◌}
-use Rattle.block.specs.Limits.{max_calls, max_call_keys, max_code, max_keys, max_workers}
+use Rattle.block.specs.Limits.{max_calls, max_call_keys, max_code, max_keys}
 use Rattle.block.specs.declared.Call.{Call}
 use Rattle.footprint.specs.Access.{Access}
 use Rattle.footprint.specs.Plan.{plan_words, key_words, code_start, code_length}
 use Rattle.key_uses.specs.Uses.{uses_of}
 use Rattle.key_uses.specs.declared.KeyUse.{KeyUse}
 use Rattle.key_uses.specs.declared.Uses.{Uses}
-use Rattle.machine.specs.Run.{frame_values, plan_word, saved_in, zero_registers}
+use Rattle.machine.specs.Run.{plan_word, saved_in, zero_registers}
 use Rattle.machine.specs.Step.{View, Performed, broken, onward, ending, concluded, find_entry, perform}
 use Rattle.machine.specs.Moves.{Moved, call_key_count, own_entries, stepped}
 use Rattle.machine.specs.declared.Head.{Head}
@@ -22,8 +22,7 @@ use Rattle.moves.specs.Lent.{lent}
 use Rattle.moves.specs.declared.Due.{Due}
 use Rattle.moves.specs.declared.Site.{Site}
 use Rattle.moves.specs.declared.Turn.{Turn}
-use Rattle.moves.specs.declared.Fate.{Fate}
-use Rattle.moves.specs.declared.Fate.TheVariants.{Broken, Going, Over}
+use Rattle.moves.specs.declared.Turn.TheVariants.{Going, Over}
 
 -- The view of a call by its number; `body` is its record.
 abbrev pub view_in : List ℕ → List ℕ → List ℕ → ℕ → Call → View
@@ -77,12 +76,6 @@ pub record EntriesReady (plan keys : List ℕ) (call : ℕ) : Type 0 where
   pub keyed : max_keys * key_words ≤ length keys
   pub below : call < max_calls
 
--- So do the frames, and the worker is in its range: what it has tested before it uses a frame.
-pub record Ready (plan keys : List ℕ) (frames : List ℤ) (worker call : ℕ) : Type 0 where
-  pub entries : EntriesReady plan keys call
-  pub framed : max_workers * frame_values ≤ length frames
-  pub seated : worker < max_workers
-
 -- The place of a call is in its range: entry, or 0 to the code's length.
 pub record SiteInRange (plan : List ℕ) (site : Site) : Type 0 where
   pub code : plan_word plan site.call code_length ≤ max_code + 1
@@ -108,57 +101,41 @@ pub record Doable (place : ℕ) (us : Uses) (next : Next) : Type 0 where
   pub payable : Payable next
 
 -- What is due at a place, done on the cells; where nothing is, the lent run is damaged.
-abbrev pub due_done : View → (place : ℕ) → Due → List ℤ → Performed
-due_done v place d cells =
-    if d.sound then perform v place d.count (accesses_of d.uses) d.action.regs d.action.next cells else broken
+abbrev pub due_done : View → (place : ℕ) → Option Due → List ℤ → Performed
+due_done v place None cells = broken
+due_done v place (Some d) cells = perform v place d.count (accesses_of d.uses) d.action.regs d.action.next cells
 
--- Nothing is due; the call ends with an outcome.
-abbrev pub nothing_due : Due
-nothing_due = record { sound = false; count = 0; uses = uses_of []; action = record { next = Go 0; regs = zero_registers } }
-
+-- The call ends with an outcome.
 abbrev pub end_due : (outcome count : ℕ) → Due
-end_due outcome count = record { sound = true; count = count; uses = uses_of []; action = record { next = End outcome; regs = zero_registers } }
+end_due outcome count = record { count = count; uses = uses_of []; action = record { next = End outcome; regs = zero_registers } }
 
 -- What is due can be done.
-abbrev pub DueDoable : (place : ℕ) → Due → Type 0
-DueDoable place d = Doable place d.uses d.action.next
+abbrev pub DueDoable : (place : ℕ) → Option Due → Type 0
+DueDoable place d = IfSome d (λ d. Doable place d.uses d.action.next)
 
--- A turn for each end of a place.
-abbrev pub broken_turn : Turn
-broken_turn = record { fate = Broken; count = 0; regs = zero_registers }
-
-abbrev pub going : ℕ → ℕ → List ℤ → Turn
-going place count regs = record { fate = Going place; count = count; regs = regs }
-
-abbrev pub over : ℕ → ℕ → Turn
-over outcome count = record { fate = Over outcome; count = count; regs = zero_registers }
-
--- A turn with the cells that it leaves.
+-- A turn, if the lent run is not damaged, with the cells that it leaves.
 pub record TurnWithCells : Type 0 where
-  pub turn : Turn
+  pub turn : Option Turn
   pub cells : List ℤ
 
 -- What a place comes to on these cells: "Number only; nothing changes" where it finds damage.
 abbrev pub turned : List ℤ → Performed → TurnWithCells
-turned cells broken = record { turn = broken_turn; cells = cells }
-turned cells (onward place count regs after) = record { turn = going place count regs; cells = after }
-turned cells (ending outcome count) = record { turn = over outcome count; cells = cells }
+turned cells broken = record { turn = None; cells = cells }
+turned cells (onward place count regs after) = record { turn = Some (Going place count regs); cells = after }
+turned cells (ending outcome count) = record { turn = Some (Over outcome count); cells = cells }
 
 -- A turn that leaves these cells stands for what a place comes to.
-abbrev pub StandsForPlace : Turn → List ℤ → List ℤ → Performed → Type 0
+abbrev pub StandsForPlace : Option Turn → List ℤ → List ℤ → Performed → Type 0
 StandsForPlace t after cells p = ◌≡◌ {A = TurnWithCells} (record { turn = t; cells = after }) (turned cells p)
 
 -- What a turn that leaves these cells stands for.
-abbrev pub performed_as : ℕ → List ℤ → List ℤ → Fate → Performed
-performed_as count regs cells Broken = broken
-performed_as count regs cells (Going place) = onward place count regs cells
-performed_as count regs cells (Over outcome) = ending outcome count
-
-abbrev pub performed_of : Turn → List ℤ → Performed
-performed_of t cells = performed_as t.count t.regs cells t.fate
+abbrev pub performed_of : Option Turn → List ℤ → Performed
+performed_of None cells = broken
+performed_of (Some (Going place count regs)) cells = onward place count regs cells
+performed_of (Some (Over outcome count)) cells = ending outcome count
 
 -- The run behind a turn of a call that leaves these cells: the step that it stands for, concluded.
-abbrev pub turn_settled : Head → List ℕ → List ℕ → List ℤ → List ℕ → List ℕ → List ℤ → ℕ → ℕ → Turn → Moved
+abbrev pub turn_settled : Head → List ℕ → List ℕ → List ℤ → List ℕ → List ℕ → List ℤ → ℕ → ℕ → Option Turn → Moved
 turn_settled head plan keys cells status seats frames worker call t =
     stepped (lent head plan keys cells status seats frames) worker call
     (concluded (cell_view plan keys call) (worker_saved plan frames worker call) cells (performed_of t cells))

@@ -19,18 +19,36 @@ pub(crate) fn key_count(plan: &[u64], call: usize) -> usize
     wire::word(plan, PLAN_WORDS * call + KEY_COUNT) as usize
 }
 
+// The number of an entry's cell.
+pub(crate) fn cell_of(entry: u64) -> usize
+    ensures { result ≡ entry_cell entry }
+{
+    (entry / ENTRY_FLAGS) as usize
+}
+
+// Whether the cell of an entry is written.
+pub(crate) fn is_written(entry: u64) -> bool
+    ensures { result ≡ entry_writes entry }
+{
+    WRITES_FLAG <= entry % ENTRY_FLAGS
+}
+
 // Whether one entry has a flag and, where it is written, a cell number of the table.
 fn entry_allowed(entry: u64) -> bool
     ensures { result ≡ (not (eqb (entry % 4) 0) && (not (entry_writes entry) || ltb (entry_cell entry) max_keys)) }
 {
-    let flags = entry % ENTRY_FLAGS;
-    if flags == 0 {
-        return false;
-    }
-    if flags < WRITES_FLAG {
-        return true;
-    }
-    ((entry / ENTRY_FLAGS) as usize) < MAX_KEYS
+    entry % ENTRY_FLAGS != 0 && (!is_written(entry) || cell_of(entry) < MAX_KEYS)
+}
+
+// The n entries of a call.
+pub(crate) fn entries_of(plan: &[u64], call: usize, n: usize) -> &[u64]
+    requires call_lt_max_calls { call < max_calls }
+    requires n_le_max_call_keys { n ≤ max_call_keys }
+    requires plan_in_bounds { fixed_sizes.plan ≤ length plan.now }
+    ensures { result.now ≡ entries_of plan.now call n }
+{
+    let first = PLAN_WORDS * call + FIRST_ENTRY;
+    &plan[first..first + n]
 }
 
 // Whether the n entries of a call can be used to keep and to restore.
@@ -39,28 +57,21 @@ pub(crate) fn restorable(plan: &[u64], call: usize, n: usize) -> bool
     requires plan_in_bounds { fixed_sizes.plan ≤ length plan.now }
     ensures { result ≡ restorable n (entries_of plan.now call n) }
 {
-    if MAX_CALL_KEYS < n {
-        return false;
-    }
-    let first = PLAN_WORDS * call + FIRST_ENTRY;
-    let mut k = 0;
-    while k < n {
-        if !entry_allowed(plan[first + k]) {
-            return false;
-        }
-        k += 1;
-    }
-    true
+    n <= MAX_CALL_KEYS
+        && entries_of(plan, call, n)
+            .iter()
+            .all(|entry| entry_allowed(*entry))
 }
 
 // The value to keep for an entry: its cell's where the entry is written, else 0.
 fn old_value(cells: &[i64], entry: u64) -> i64
     ensures { result ≡ (if entry_writes entry then cell_at cells.now (entry_cell entry) else pos 0) }
 {
-    if entry % ENTRY_FLAGS < WRITES_FLAG {
-        return 0;
+    if is_written(entry) {
+        wire::value(cells, cell_of(entry))
+    } else {
+        0
     }
-    wire::value(cells, (entry / ENTRY_FLAGS) as usize)
 }
 
 // The old values of a call's n entries, kept for the worker.
@@ -79,13 +90,9 @@ pub(crate) fn save(
     ensures { frames.new
         ≡ with_saved frames.old worker (saved_of (entries_of plan.now call n) cells.now) }
 {
-    let first = PLAN_WORDS * call + FIRST_ENTRY;
     let base = FRAME_VALUES * worker + REGISTERS;
-    let mut k = 0;
-    while k < n {
-        let old = old_value(cells, plan[first + k]);
-        wire::put_value(frames, base + k, old);
-        k += 1;
+    for (k, entry) in entries_of(plan, call, n).iter().enumerate() {
+        wire::put_value(frames, base + k, old_value(cells, *entry));
     }
 }
 
@@ -93,8 +100,8 @@ pub(crate) fn save(
 fn put_back(cells: &mut [i64], entry: u64, old: i64)
     ensures { cells.new ≡ (if entry_writes entry then set cells.old (entry_cell entry) old else cells.old) }
 {
-    if WRITES_FLAG <= entry % ENTRY_FLAGS {
-        wire::put_value(cells, (entry / ENTRY_FLAGS) as usize, old);
+    if is_written(entry) {
+        wire::put_value(cells, cell_of(entry), old);
     }
 }
 
@@ -115,12 +122,11 @@ pub(crate) fn restore(
     ensures { cells.new
         ≡ restored (entries_of plan.now call n) (saved_in frames.now worker n) cells.old }
 {
-    let first = PLAN_WORDS * call + FIRST_ENTRY;
     let base = FRAME_VALUES * worker + REGISTERS;
-    let mut k = 0;
-    while k < n {
-        let old = wire::value(frames, base + k);
-        put_back(cells, plan[first + k], old);
-        k += 1;
+    for (entry, old) in entries_of(plan, call, n)
+        .iter()
+        .zip(&frames[base..base + n])
+    {
+        put_back(cells, *entry, *old);
     }
 }

@@ -1,44 +1,103 @@
-// What the moves test first.
-ghost use Rattle.std.specs.Prelude.{◌≡◌};
-ghost use Rattle.moves.specs.HeldCall.{as_held, held_from, HeldInRun};
-ghost use Rattle.moves.specs.Tests.{worker_tested};
+// What the moves test first, and the reply that they end with.
+ghost use Rattle.std.specs.Prelude.{◌≡◌, ◌+◌, ◌≤◌, ◌<◌, length, IsTrue, IfOk, OnOk, OnErr};
+ghost use Rattle.block.specs.Limits.{max_workers};
+ghost use Rattle.machine.specs.Run.{fixed_sizes};
+ghost use Rattle.machine.specs.Step.{restored};
+ghost use Rattle.machine.specs.Moves.{own_entries};
+ghost use Rattle.moves.specs.HeldCall.{as_held, held_tested, HoldOf};
+ghost use Rattle.moves.specs.Lent.{answer_left, head_left};
+ghost use Rattle.moves.specs.Tests.{worker_tested, entries_tested};
+ghost use Rattle.moves.specs.Turn.{worker_saved};
 
-use crate::{Holding, Tested};
+use crate::entries::{key_count, restorable, restore};
+use crate::{Hold, Reply};
 use block::limits::{MAX_CALLS, MAX_WORKERS};
-use machine::Answer;
+use machine::{Answer, Head};
 
-// 20 for the run's sizes and the number of workers, and 21.
-pub(crate) fn worker_tested(workers: usize, large: bool, worker: usize) -> Tested
-    ensures { result ≡ worker_tested large workers worker }
-{
-    if !large {
-        return Tested::Refused(Answer::Damaged);
+impl Hold {
+    // The call, as the head has it for its worker.
+    pub(crate) fn held(self) -> u16
+        ensures { result ≡ self.call + 1 }
+    {
+        self.call as u16 + 1
     }
-    if workers == 0 {
-        return Tested::Refused(Answer::Damaged);
-    }
-    if MAX_WORKERS < workers {
-        return Tested::Refused(Answer::Damaged);
-    }
-    if workers <= worker {
-        return Tested::Refused(Answer::NoWorker);
-    }
-    Tested::Passed
 }
 
-// 26, and 20 for a held call that is none of the run; else the held call. `call` is what the head has for the worker.
-pub(crate) fn held_call(calls: usize, call: usize) -> Holding
-    ensures result_value { as_held result ≡ held_from calls call }
-    ensures held_in_run { HeldInRun calls result }
+// 20 for the run's sizes and the number of workers, and 21.
+pub(crate) fn worker_tested(workers: usize, large: bool, worker: usize) -> Result<(), Answer>
+    ensures tested { result ≡ worker_tested large workers worker }
+    ensures sized { OnOk result (IsTrue large) }
+    ensures seated { OnOk result (worker < max_workers) }
 {
-    if call == 0 {
-        return Holding::Answered(Answer::WorkerIdle);
+    if !large || workers == 0 || MAX_WORKERS < workers {
+        return Err(Answer::Damaged);
     }
-    if MAX_CALLS < calls {
-        return Holding::Answered(Answer::Damaged);
+    if workers <= worker {
+        return Err(Answer::NoWorker);
     }
-    if calls < call {
-        return Holding::Answered(Answer::Damaged);
+    Ok(())
+}
+
+// What STEP and CANCEL test of the head: behind the worker 26, and 20 for a held call that is none of the run; else the held call.
+pub(crate) fn held_call(head: &Head, large: bool, worker: usize) -> Result<Hold, Answer>
+    ensures held { as_held result ≡ held_tested large head.now worker }
+    ensures sized { OnOk result (IsTrue large) }
+    ensures own { IfOk result (λ h. h.worker ≡ worker) }
+    ensures hold_of { IfOk result (λ h. HoldOf head.now h) }
+{
+    worker_tested(head.workers, large, worker)?;
+    let held = head.held[worker] as usize;
+    if held == 0 {
+        return Err(Answer::WorkerIdle);
     }
-    Holding::Holds(call - 1)
+    if MAX_CALLS < head.calls || head.calls < held {
+        return Err(Answer::Damaged);
+    }
+    Ok(Hold {
+        worker,
+        call: held - 1,
+        calls: head.calls,
+    })
+}
+
+// The cells of the call get back the values that its worker keeps; 20 where its entries cannot be used for that.
+pub(crate) fn give_back(
+    hold: Hold,
+    plan: &[u64],
+    frames: &[i64],
+    cells: &mut [i64],
+) -> Result<(), Answer>
+    requires plan_in_bounds { fixed_sizes.plan ≤ length plan.now }
+    requires frames_in_bounds { fixed_sizes.frames ≤ length frames.now }
+    ensures tested { result ≡ entries_tested plan.now hold.call }
+    ensures given { OnOk result
+        (cells.new
+        ≡ restored (own_entries plan.now hold.call) (worker_saved plan.now frames.now hold.worker hold.call) cells.old) }
+    ensures kept { OnErr result (cells.new ≡ cells.old) }
+{
+    let Hold { worker, call, .. } = hold;
+    let n = key_count(plan, call);
+    if !restorable(plan, call, n) {
+        return Err(Answer::Damaged);
+    }
+    restore(plan, call, n, frames, worker, cells);
+    Ok(())
+}
+
+// The reply of a move behind the tests of the head: accepted, with what its worker then holds, or refused, with the head as it was.
+pub(crate) fn reply(head: Head, hold: Hold, left: Result<u16, Answer>) -> Reply
+    ensures answer { result.answer ≡ answer_left left }
+    ensures head_value { result.head ≡ head_left head hold.worker left }
+{
+    match left {
+        Ok(held) => {
+            let mut next = head;
+            next.held[hold.worker] = held;
+            Reply {
+                head: next,
+                answer: Answer::Accepted,
+            }
+        }
+        Err(answer) => Reply { head, answer },
+    }
 }

@@ -1,6 +1,9 @@
 // BEGIN, STEP and CANCEL on a run that the caller lends: the head goes in and comes back by value, the buffers are lent.
 #![tactic(auto)]
 
+ghost use Rattle.std.specs.Prelude.{◌≤◌, ◌<◌};
+ghost use Rattle.block.specs.Limits.{max_calls, max_workers};
+
 pub mod begin;
 pub mod cancel;
 mod entries;
@@ -23,25 +26,15 @@ pub struct Reply {
     pub answer: Answer,
 }
 
-// What a move behind its tests leaves of the head, the call that its worker holds, and what it answers.
+// A worker and the call that it holds, or that BEGIN gives it, in a run of so many calls: what the tests of a move find.
 #[derive(Clone, Copy)]
-pub struct Seated {
-    pub held: u16,
-    pub answer: Answer,
-}
-
-// What tests of a move find: it goes on, or is refused.
-#[derive(Clone, Copy)]
-pub enum Tested {
-    Passed,
-    Refused(Answer),
-}
-
-// What STEP and CANCEL test first: an answer at once, or the number of the call that the worker holds.
-#[derive(Clone, Copy)]
-pub enum Holding {
-    Answered(Answer),
-    Holds(usize),
+pub struct Hold {
+    pub worker: usize,
+    pub call: usize,
+    pub calls: usize,
+    ghost worker_below: { worker < max_workers },
+    ghost call_below: { call < calls },
+    ghost calls_at_most: { calls ≤ max_calls },
 }
 
 // Where a step works: the call that runs, its place, and its count.
@@ -52,27 +45,24 @@ pub struct Site {
     pub count: u64,
 }
 
-// How a place of a call ends: the lent run is damaged, the call goes on at a place, or it ends with an outcome.
+// How a place of a call ends, where the lent run is not damaged: the call goes on at a place with its registers, or is over with an outcome; and
+// the count of executed instructions.
 #[derive(Clone, Copy)]
-pub enum Fate {
-    Broken,
-    Going(usize),
-    Over(u64),
+pub enum Turn {
+    Going {
+        place: usize,
+        count: u64,
+        regs: [i64; REGISTERS],
+    },
+    Over {
+        outcome: u64,
+        count: u64,
+    },
 }
 
-// That, with the count of executed instructions and the registers; they are zero where the fate needs none.
-#[derive(Clone, Copy)]
-pub struct Turn {
-    pub fate: Fate,
-    pub count: u64,
-    pub regs: [i64; REGISTERS],
-}
-
-// What is due at a place of a call: an action with the keys that it uses, and the count with this place's own instruction. Where it is not
-// sound, the lent block or run is damaged there, and nothing is due.
+// What is due at a place of a call: an action with the keys that it uses, and the count with this place's own instruction.
 #[derive(Clone, Copy)]
 pub struct Due {
-    pub sound: bool,
     pub count: u64,
     pub uses: Uses,
     pub action: Action,

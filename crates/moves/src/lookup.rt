@@ -6,8 +6,9 @@ ghost use Rattle.footprint.specs.Plan.{key_words, plan_words, entry_cell, entry_
 ghost use Rattle.machine.specs.Run.{has_key, plan_word};
 ghost use Rattle.moves.specs.Turn.{access_of, lookup_in, EntriesReady, KeyWorded};
 
+use crate::entries::{cell_of, entries_of, is_written};
 use block::limits::{MAX_CALL_KEYS, MAX_KEYS};
-use footprint::layout::{ENTRY_FLAGS, FIRST_ENTRY, KEY_COUNT, KEY_WORDS, PLAN_WORDS, WRITES_FLAG};
+use footprint::layout::{KEY_COUNT, KEY_WORDS, PLAN_WORDS};
 use key_uses::KeyUse;
 use machine::Lookup;
 
@@ -21,13 +22,6 @@ pub(crate) fn plan_word(plan: &[u64], call: usize, k: usize) -> u64
     plan[PLAN_WORDS * call + k]
 }
 
-// Where the key of an entry's cell starts; the entry less its flags is the cell's number times ENTRY_FLAGS.
-fn key_place(e: u64) -> usize
-    ensures { result ≡ key_words * entry_cell e }
-{
-    (e - e % ENTRY_FLAGS) as usize / (ENTRY_FLAGS as usize / KEY_WORDS)
-}
-
 // Whether the cell of an entry has the key of a use.
 fn has_key(keys: &[u64], e: u64, u: KeyUse) -> bool
     requires key_words_in_bounds { max_keys * key_words ≤ length keys.now }
@@ -35,10 +29,8 @@ fn has_key(keys: &[u64], e: u64, u: KeyUse) -> bool
     requires key_worded { KeyWorded u }
     ensures { result ≡ has_key keys.now (entry_cell e) (access_of u).key }
 {
-    let at = key_place(e);
-    let high = keys[at];
-    let low = keys[at + 1];
-    (high == u.high) & (low == u.low)
+    let at = KEY_WORDS * cell_of(e);
+    (keys[at] == u.high) & (keys[at + 1] == u.low)
 }
 
 // Whether an entry has the flags that a use wants.
@@ -46,8 +38,7 @@ fn has_flags(e: u64, u: KeyUse) -> bool
     ensures { result ≡ ((not u.reads || entry_reads e) && (not u.writes || entry_writes e)) }
 {
     let read = e % 2 == 1;
-    let written = WRITES_FLAG <= e % ENTRY_FLAGS;
-    (!u.reads | read) & (!u.writes | written)
+    (!u.reads | read) & (!u.writes | is_written(e))
 }
 
 // The cell of an entry that has the wanted key, if it has the flags too.
@@ -56,9 +47,10 @@ fn kept(e: u64, u: KeyUse) -> Lookup
         ≡ (if (not u.reads || entry_reads e) && (not u.writes || entry_writes e) then Lookup.Cell (entry_cell e) else Lookup.NoCell) }
 {
     if has_flags(e, u) {
-        return Lookup::Cell((e / ENTRY_FLAGS) as usize);
+        Lookup::Cell(cell_of(e))
+    } else {
+        Lookup::NoCell
     }
-    Lookup::NoCell
 }
 
 // The cell that the entries of a call keep for the key of a use, with the flags that it wants; an entry that is looked at has a cell
@@ -72,17 +64,13 @@ pub(crate) fn lookup(plan: &[u64], keys: &[u64], call: usize, u: KeyUse) -> Look
     if MAX_CALL_KEYS < n {
         return Lookup::NoCell;
     }
-    let first = PLAN_WORDS * call + FIRST_ENTRY;
-    let mut k = 0;
-    while k < n {
-        let e = plan[first + k];
-        if MAX_KEYS <= (e / ENTRY_FLAGS) as usize {
+    for e in entries_of(plan, call, n) {
+        if MAX_KEYS <= cell_of(*e) {
             return Lookup::NoCell;
         }
-        if has_key(keys, e, u) {
-            return kept(e, u);
+        if has_key(keys, *e, u) {
+            return kept(*e, u);
         }
-        k += 1;
     }
     Lookup::NoCell
 }

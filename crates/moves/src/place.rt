@@ -9,7 +9,7 @@ ghost use Rattle.footprint.specs.Plan.{code_length, plan_words};
 ghost use Rattle.key_uses.specs.Uses.{uses_of};
 ghost use Rattle.machine.specs.Run.{plan_word};
 ghost use Rattle.machine.specs.Step.{step_body, step_decoded, step_entry, step_instr, step_place};
-ghost use Rattle.moves.specs.Turn.{cell_view, due_done, end_due, nothing_due, view_in, DueDoable, SiteInRange};
+ghost use Rattle.moves.specs.Turn.{cell_view, due_done, end_due, view_in, DueDoable, SiteInRange};
 
 use crate::lookup::plan_word;
 use crate::{Due, Site};
@@ -23,40 +23,23 @@ use key_uses::{Uses, bal_uses, entry_uses, get_uses, no_uses, pay_uses, put_uses
 use machine::layout::REGISTERS;
 use machine::{Action, Next};
 
-// Nothing is due: the lent block or run is damaged.
-fn nothing_due() -> Due
-    ensures { result ≡ nothing_due }
-{
-    let regs = [0; REGISTERS];
-    Due {
-        sound: false,
-        count: 0,
-        uses: no_uses(),
-        action: Action {
-            next: Next::Go(0),
-            regs,
-        },
-    }
-}
-
 // The call ends with an outcome.
 fn end_due(outcome: u64, count: u64) -> Due
     ensures { result ≡ end_due outcome count }
 {
-    let regs = [0; REGISTERS];
     Due {
-        sound: true,
         count,
         uses: no_uses(),
         action: Action {
             next: Next::End(outcome),
-            regs,
+            regs: [0; REGISTERS],
         },
     }
 }
 
 // "STEP(worker), at entry: unknown function, outcome 1". Neither fuel nor count is looked at there; behind it the count is 0.
-fn due_at_entry(plan: &[u64], site: Site, regs: [i64; REGISTERS], body: Call) -> Due
+#[tactic(auto, unfolding(machine::specs::Step::step_entry, machine::specs::Step::perform))]
+fn due_at_entry(plan: &[u64], site: Site, regs: [i64; REGISTERS], body: Call) -> Option<Due>
     requires plan_words_in_bounds { max_calls * plan_words ≤ length plan.now }
     requires call_lt_max_calls { site.call < max_calls }
     requires place_le_max_code { site.place ≤ max_code }
@@ -67,14 +50,13 @@ fn due_at_entry(plan: &[u64], site: Site, regs: [i64; REGISTERS], body: Call) ->
 {
     let count = 0;
     if plan_word(plan, site.call, CODE_LENGTH) == 0 {
-        return end_due(UNKNOWN_FUNCTION, count);
+        return Some(end_due(UNKNOWN_FUNCTION, count));
     }
-    Due {
-        sound: true,
+    Some(Due {
         count,
         uses: entry_uses(body),
         action: enter(body, regs),
-    }
+    })
 }
 
 // The uses of an instruction, as the set analysis has them by `instr_uses`. Of all callers a step asks most often: a function that it alone
@@ -92,7 +74,14 @@ fn step_uses(c: Call, i: Instr) -> Uses
 }
 
 // "Else one instruction runs and counts 1, also the one that fails." The instruction is the one of the code at the site's place.
-fn due_decoded(code: &[u8], size: u16, site: Site, regs: [i64; REGISTERS], body: Call) -> Due
+#[tactic(auto, unfolding(machine::specs::Step::step_decoded))]
+fn due_decoded(
+    code: &[u8],
+    size: u16,
+    site: Site,
+    regs: [i64; REGISTERS],
+    body: Call,
+) -> Option<Due>
     requires place_nonzero { (0 < site.place) × (site.place ≤ max_code) }
     requires count_le_max_count { site.count ≤ max_count }
     ensures by_index { (block plan keys : List ℕ) (cells : List ℤ)
@@ -103,21 +92,25 @@ fn due_decoded(code: &[u8], size: u16, site: Site, regs: [i64; REGISTERS], body:
 {
     let index = site.place - 1;
     let acted = act_at(code, INSTR_BYTES * index, index as u16, size, body, regs);
-    let decoded = acted.decoded;
-    let Decoded::Valid(i) = decoded else {
-        return nothing_due();
+    let Decoded::Valid(i) = acted.decoded else {
+        return None;
     };
-    let action = acted.action;
-    Due {
-        sound: true,
+    Some(Due {
         count: site.count + 1,
         uses: step_uses(body, i),
-        action,
-    }
+        action: acted.action,
+    })
 }
 
 // The code stretch lies in the lent block; the instruction is decoded there.
-fn due_at_instr(block: &[u8], plan: &[u64], site: Site, regs: [i64; REGISTERS], body: Call) -> Due
+#[tactic(auto, unfolding(machine::specs::Step::step_instr))]
+fn due_at_instr(
+    block: &[u8],
+    plan: &[u64],
+    site: Site,
+    regs: [i64; REGISTERS],
+    body: Call,
+) -> Option<Due>
     requires plan_words_in_bounds { max_calls * plan_words ≤ length plan.now }
     requires call_lt_max_calls { site.call < max_calls }
     requires place_nonzero { (0 < site.place) × (site.place < plan_word plan.now site.call code_length) }
@@ -132,10 +125,10 @@ fn due_at_instr(block: &[u8], plan: &[u64], site: Site, regs: [i64; REGISTERS], 
     let size = plan_word(plan, site.call, CODE_LENGTH) as usize - 1;
     let len = INSTR_BYTES * size;
     if block.len() < len {
-        return nothing_due();
+        return None;
     }
     if block.len() - len < start {
-        return nothing_due();
+        return None;
     }
     let code = code_at(block, start, size);
     due_decoded(code, size as u16, site, regs, body)
@@ -143,7 +136,8 @@ fn due_at_instr(block: &[u8], plan: &[u64], site: Site, regs: [i64; REGISTERS], 
 
 // Behind the entry, without fuel left. M-104: "a lent fuel of zero or a count above the fuel is 20"; an instruction that is due "doesn't run, all is restored and the
 // outcome is 7, in a step of its own that counts nothing"; "Reaching the end needs no fuel."
-fn due_unfuelled(plan: &[u64], site: Site, fuel: u16) -> Due
+#[tactic(auto, unfolding(machine::specs::Step::step_body, machine::specs::Step::perform))]
+fn due_unfuelled(plan: &[u64], site: Site, fuel: u16) -> Option<Due>
     requires plan_words_in_bounds { max_calls * plan_words ≤ length plan.now }
     requires call_lt_max_calls { site.call < max_calls }
     requires place_bound { site.place ≤ max_code + 1 }
@@ -154,20 +148,27 @@ fn due_unfuelled(plan: &[u64], site: Site, fuel: u16) -> Due
     ensures due_doable { DueDoable site.place result }
 {
     if fuel == 0 {
-        return nothing_due();
+        return None;
     }
     if (fuel as u64) < site.count {
-        return nothing_due();
+        return None;
     }
     if site.place as u64 != plan_word(plan, site.call, CODE_LENGTH) {
-        return end_due(OUT_OF_FUEL, site.count);
+        return Some(end_due(OUT_OF_FUEL, site.count));
     }
-    end_due(ENDED, site.count)
+    Some(end_due(ENDED, site.count))
 }
 
 // What is due at a place. "At place = length: outcome 0." Where fuel is left, every test of it passes: so one test stands before the others, and they are made
 // only where none is left.
-pub(crate) fn due(block: &[u8], plan: &[u64], site: Site, regs: [i64; REGISTERS], body: Call) -> Due
+#[tactic(auto, unfolding(machine::specs::Step::step_place, machine::specs::Step::step_body))]
+pub(crate) fn due(
+    block: &[u8],
+    plan: &[u64],
+    site: Site,
+    regs: [i64; REGISTERS],
+    body: Call,
+) -> Option<Due>
     requires plan_words_in_bounds { max_calls * plan_words ≤ length plan.now }
     requires call_lt_max_calls { site.call < max_calls }
     requires site_in_range { SiteInRange plan.now site }
@@ -183,7 +184,7 @@ pub(crate) fn due(block: &[u8], plan: &[u64], site: Site, regs: [i64; REGISTERS]
         return due_unfuelled(plan, site, body.fuel);
     }
     if site.place as u64 == plan_word(plan, site.call, CODE_LENGTH) {
-        return end_due(ENDED, site.count);
+        return Some(end_due(ENDED, site.count));
     }
     due_at_instr(block, plan, site, regs, body)
 }

@@ -1,25 +1,23 @@
 // STEP: one step of the call that a worker holds.
 ghost use Rattle.std.specs.Prelude.{◌≡◌, ◌||◌, not, List, ℕ, ◌+◌, ◌-◌, ◌*◌, ◌≤◌, ◌<◌, ltb, length, drop};
-ghost use Rattle.block.specs.Limits.{max_calls, max_code, max_workers};
+ghost use Rattle.block.specs.Limits.{max_calls, max_code};
 ghost use Rattle.block.specs.Record.{call_record_bytes, head_bytes, call_of};
 ghost use Rattle.footprint.specs.Plan.{code_length, plan_words};
-ghost use Rattle.machine.specs.Run.{fixed_sizes, held_at, plan_word, with_held, with_receipt};
-ghost use Rattle.machine.specs.Waits.{waits_lowered};
+ghost use Rattle.machine.specs.Run.{fixed_sizes, plan_word, with_receipt};
 ghost use Rattle.machine.specs.Step.{finish, step_place};
 ghost use Rattle.machine.specs.Moves.{step_held, step_of, stepped};
-ghost use Rattle.machine.specs.declared.Answer.TheVariants.{Accepted};
 ghost use Rattle.machine.specs.declared.Head.{Head};
-ghost use Rattle.moves.specs.Lent.{lent, moved};
-ghost use Rattle.moves.specs.Turn.{cell_view, turn_settled, turned, view_in, worker_saved, EntriesReady, Ready, SiteInRange};
+ghost use Rattle.moves.specs.HeldCall.{HoldOf};
+ghost use Rattle.moves.specs.Lent.{answer_left, head_left, lent, moved};
+ghost use Rattle.moves.specs.Turn.{cell_view, turn_settled, turned, view_in, worker_saved, EntriesReady, SiteInRange};
 
-use crate::entries::{key_count, restorable, restore};
-use crate::held::{held_call, worker_tested};
+use crate::held::{give_back, held_call, reply};
 use crate::lookup::plan_word;
-use crate::perform::{damaged, perform};
+use crate::perform::perform;
 use crate::place::due;
 use crate::seat::{count_of, place_of, put_regs, put_seat, regs_of};
 use crate::waits::{can_lower, lower};
-use crate::{Fate, Holding, Reply, Seated, Site, Tested, Turn};
+use crate::{Hold, Reply, Site, Turn};
 use block::format::{CALL_RECORD_BYTES, HEAD_BYTES};
 use block::limits::MAX_CODE;
 use block::outcomes::THROWN;
@@ -40,7 +38,7 @@ fn step_place(
     site: Site,
     regs: [i64; REGISTERS],
     body: Call,
-) -> Turn
+) -> Option<Turn>
     requires entries_ready { EntriesReady plan.now keys.now site.call }
     requires site_in_range { SiteInRange plan.now site }
     ensures { record { turn = result; cells = cells.new }
@@ -48,18 +46,8 @@ fn step_place(
         (step_place (view_in block.now plan.now keys.now site.call body) site.place site.count regs
         cells.old) }
 {
-    let d = due(block, plan, site, regs, body);
-    if !d.sound {
-        return damaged();
-    }
-    let counted = Site {
-        call: site.call,
-        place: site.place,
-        count: d.count,
-    };
-    let uses = d.uses;
-    let action = d.action;
-    perform(plan, keys, cells, counted, uses, action)
+    let due = due(block, plan, site, regs, body)?;
+    perform(plan, keys, cells, site, due)
 }
 
 // The place: entry, or 0 to the code's length.
@@ -93,7 +81,9 @@ fn record_of(block: &[u8], start: usize, call: usize) -> CallBody
 }
 
 // The call that a worker holds, in a run whose first call record starts at `start`: what its place comes to.
+#[tactic(auto, unfolding(machine::specs::Moves::step_held, machine::specs::Moves::step_record, machine::specs::Moves::stepped, machine::specs::Step::concluded))]
 fn step_held(
+    hold: Hold,
     start: usize,
     block: &[u8],
     plan: &[u64],
@@ -101,27 +91,27 @@ fn step_held(
     cells: &mut [i64],
     seats: &[u64],
     frames: &[i64],
-    worker: usize,
-    call: usize,
-) -> Turn
-    requires { Ready plan.now keys.now frames.now worker call }
+) -> Option<Turn>
+    requires entries_ready { EntriesReady plan.now keys.now hold.call }
+    requires frames_in_bounds { fixed_sizes.frames ≤ length frames.now }
     ensures { (head : Head) (status : List ℕ) → start ≡ head.first_call
-        → turn_settled head plan.now keys.now cells.new status seats.now frames.now worker
-        call result
+        → turn_settled head plan.now keys.now cells.new status seats.now frames.now hold.worker
+        hold.call result
         ≡ step_held block.now
-        (lent head plan.now keys.now cells.old status seats.now frames.now) worker
-        call }
+        (lent head plan.now keys.now cells.old status seats.now frames.now) hold.worker
+        hold.call }
 {
+    let Hold { worker, call, .. } = hold;
     let site = Site {
         call,
         place: place_of(seats, worker) as usize,
         count: count_of(seats, worker),
     };
     if !in_range(plan, site) {
-        return damaged();
+        return None;
     }
     let CallBody::InRange(body) = record_of(block, start, call) else {
-        return damaged();
+        return None;
     };
     let regs = regs_of(frames, worker);
     step_place(block, plan, keys, cells, site, regs, body)
@@ -138,130 +128,74 @@ fn put_receipt(status: &mut [u64], call: usize, outcome: u64, count: u64)
     wire::put_word(status, at + 2, count);
 }
 
-// What a finish leaves of the status: the receipt, and the lowered numbers of the calls that wait for it.
-fn close_status(
-    plan: &[u64],
-    status: &mut [u64],
-    call: usize,
-    calls: usize,
-    outcome: u64,
-    count: u64,
-)
-    requires call_lt_calls { call < calls }
-    requires calls_le_max_calls { calls ≤ max_calls }
-    requires plan_in_bounds { fixed_sizes.plan ≤ length plan.now }
-    ensures { status.new
-        ≡ waits_lowered plan.now call calls (with_receipt status.old call outcome count) }
-{
-    put_receipt(status, call, outcome, count);
-    lower(plan, status, call, calls);
-}
-
-// "A finished or cancelled call frees its worker."
-fn freed() -> Seated
-    ensures { result ≡ record { held = 0; answer = Accepted } }
-{
-    Seated {
-        held: 0,
-        answer: Answer::Accepted,
-    }
-}
-
 // The end of a call. "On 3, 4, 5 the same step restores every cell of the write set", on 6 "as 4 does", and on 7 "all is restored"; behind all tests the
-// receipt is written, and the numbers of the calls that wait for it are lowered.
+// receipt is written, and the numbers of the calls that wait for it are lowered. "A finished or cancelled call frees its worker."
+#[tactic(auto, unfolding(machine::specs::Moves::stepped, machine::specs::Step::finish))]
 fn finish(
-    held: u16,
-    calls: usize,
+    hold: Hold,
     plan: &[u64],
     cells: &mut [i64],
     status: &mut [u64],
     frames: &[i64],
-    worker: usize,
-    call: usize,
     outcome: u64,
     count: u64,
-) -> Seated
-    requires call_lt_calls { call < calls }
-    requires calls_le_max_calls { calls ≤ max_calls }
-    requires worker_lt_max_workers { worker < max_workers }
+) -> Result<u16, Answer>
     requires plan_in_bounds { fixed_sizes.plan ≤ length plan.now }
     requires frames_in_bounds { fixed_sizes.frames ≤ length frames.now }
-    ensures { (head : Head) (keys seats : List ℕ) → held ≡ held_at head worker → calls ≡ head.calls
-        → moved result.answer
-        (lent (with_held head worker result.held) plan.now keys cells.new status.new seats frames.now)
-        ≡ stepped (lent head plan.now keys cells.old status.old seats frames.now) worker call
-        (finish (cell_view plan.now keys call) (worker_saved plan.now frames.now worker call) outcome count
+    ensures { (head : Head) (keys seats : List ℕ) → hold.calls ≡ head.calls
+        → moved (answer_left result)
+        (lent (head_left head hold.worker result) plan.now keys cells.new status.new seats frames.now)
+        ≡ stepped (lent head plan.now keys cells.old status.old seats frames.now) hold.worker hold.call
+        (finish (cell_view plan.now keys hold.call) (worker_saved plan.now frames.now hold.worker hold.call) outcome count
         cells.old) }
 {
+    let Hold { call, calls, .. } = hold;
     if !can_lower(plan, status, call, calls) {
-        return Seated {
-            held,
-            answer: Answer::Damaged,
-        };
+        return Err(Answer::Damaged);
     }
-    if outcome < THROWN {
-        close_status(plan, status, call, calls, outcome, count);
-        return freed();
+    if THROWN <= outcome {
+        give_back(hold, plan, frames, cells)?;
     }
-    let n = key_count(plan, call);
-    if !restorable(plan, call, n) {
-        return Seated {
-            held,
-            answer: Answer::Damaged,
-        };
-    }
-    restore(plan, call, n, frames, worker, cells);
-    close_status(plan, status, call, calls, outcome, count);
-    freed()
+    put_receipt(status, call, outcome, count);
+    lower(plan, status, call, calls);
+    Ok(0)
 }
 
 // What a turn leaves of a run, beside the cells that its place changed.
+#[tactic(auto, unfolding(machine::specs::Moves::stepped, machine::specs::Step::concluded))]
 fn settle(
-    held: u16,
-    calls: usize,
+    hold: Hold,
     plan: &[u64],
     cells: &mut [i64],
     status: &mut [u64],
     seats: &mut [u64],
     frames: &mut [i64],
-    worker: usize,
-    call: usize,
-    turn: Turn,
-) -> Seated
-    requires call_lt_calls { call < calls }
-    requires calls_le_max_calls { calls ≤ max_calls }
-    requires worker_lt_max_workers { worker < max_workers }
+    turn: Option<Turn>,
+) -> Result<u16, Answer>
     requires plan_in_bounds { fixed_sizes.plan ≤ length plan.now }
     requires frames_in_bounds { fixed_sizes.frames ≤ length frames.old }
-    ensures { (head : Head) (keys : List ℕ) → held ≡ held_at head worker → calls ≡ head.calls
-        → moved result.answer
-        (lent (with_held head worker result.held) plan.now keys cells.new status.new seats.new
+    ensures { (head : Head) (keys : List ℕ) → HoldOf head hold
+        → moved (answer_left result)
+        (lent (head_left head hold.worker result) plan.now keys cells.new status.new seats.new
         frames.new)
         ≡ turn_settled head plan.now keys cells.old status.old seats.old frames.old
-        worker call turn }
+        hold.worker hold.call turn }
 {
-    let fate = turn.fate;
-    let regs = turn.regs;
-    match fate {
-        Fate::Broken => Seated {
-            held,
-            answer: Answer::Damaged,
-        },
-        Fate::Going(place) => {
-            put_seat(seats, worker, place as u64, turn.count);
-            put_regs(frames, worker, regs);
-            Seated {
-                held,
-                answer: Answer::Accepted,
-            }
+    match turn {
+        None => Err(Answer::Damaged),
+        Some(Turn::Going { place, count, regs }) => {
+            put_seat(seats, hold.worker, place as u64, count);
+            put_regs(frames, hold.worker, regs);
+            Ok(hold.held())
         }
-        Fate::Over(outcome) => finish(
-            held, calls, plan, cells, status, frames, worker, call, outcome, turn.count,
+        Some(Turn::Over { outcome, count }) => finish(
+            hold, plan, cells, status, frames, outcome, count,
         ),
     }
 }
 
 // STEP(worker) on a lent run and block: the answer and the head, with the cells, the status, the seats and the frames changed in place.
+#[tactic(auto, using(crate::proofs::HeldLaws::sizes_known), unfolding(machine::specs::Moves::held_by, machine::specs::Moves::step_for))]
 pub fn step(
     head: Head,
     block: &[u8],
@@ -288,15 +222,10 @@ pub fn step(
         seats.len(),
         frames.len(),
     );
-    if let Tested::Refused(answer) = worker_tested(head.workers, large, worker) {
-        return Reply { head, answer };
-    }
-    let mut next = head;
-    let held = next.held[worker];
-    match held_call(head.calls, held as usize) {
-        Holding::Answered(answer) => Reply { head, answer },
-        Holding::Holds(call) => {
+    match held_call(&head, large, worker) {
+        Ok(hold) => {
             let turn = step_held(
+                hold,
                 head.first_call,
                 block,
                 plan,
@@ -304,15 +233,10 @@ pub fn step(
                 cells,
                 seats,
                 frames,
-                worker,
-                call,
             );
-            let after = settle(
-                held, head.calls, plan, cells, status, seats, frames, worker, call, turn,
-            );
-            let answer = after.answer;
-            next.held[worker] = after.held;
-            Reply { head: next, answer }
+            let left = settle(hold, plan, cells, status, seats, frames, turn);
+            reply(head, hold, left)
         }
+        Err(answer) => Reply { head, answer },
     }
 }

@@ -1,5 +1,5 @@
 // The number of earlier conflicting calls still unfinished that each call carries: read for BEGIN, and lowered where a call finishes.
-ghost use Rattle.std.specs.Prelude.{◌≡◌, ◌-◌, ◌≤◌, ◌<◌, length};
+ghost use Rattle.std.specs.Prelude.{◌≡◌, ◌≤◌, ◌<◌, length};
 ghost use Rattle.block.specs.Limits.{max_calls};
 ghost use Rattle.machine.specs.Run.{fixed_sizes, wait_count, with_wait};
 ghost use Rattle.machine.specs.Waits.{named_in, lowered_if, lowerable_if, waits_lowerable, waits_lowered};
@@ -34,14 +34,7 @@ fn can_lower_one(plan: &[u64], status: &[u64], call: usize, later: usize) -> boo
     requires plan_in_bounds { fixed_sizes.plan ≤ length plan.now }
     ensures { result ≡ lowerable_if (named_in plan.now call later) later (wait_count status.now later) }
 {
-    if !names(plan, later, call) {
-        return true;
-    }
-    let waits = wait_of(status, later);
-    if waits == 0 {
-        return false;
-    }
-    waits <= later as u64
+    !names(plan, later, call) || (1..=later as u64).contains(&wait_of(status, later))
 }
 
 // Whether the number of each later call whose row names this one can be lowered.
@@ -51,24 +44,7 @@ pub(crate) fn can_lower(plan: &[u64], status: &[u64], call: usize, calls: usize)
     requires plan_in_bounds { fixed_sizes.plan ≤ length plan.now }
     ensures { result ≡ waits_lowerable plan.now status.now call calls }
 {
-    let mut later = call + 1;
-    while later < calls {
-        if !can_lower_one(plan, status, call, later) {
-            return false;
-        }
-        later += 1;
-    }
-    true
-}
-
-// One less, or 0.
-fn one_less(n: u64) -> u64
-    ensures { result ≡ n - 1 }
-{
-    if n == 0 {
-        return 0;
-    }
-    n - 1
+    (call + 1..calls).all(|later| can_lower_one(plan, status, call, later))
 }
 
 // The number of a call, lowered where its row names the other.
@@ -79,11 +55,14 @@ fn lower_one(plan: &[u64], status: &mut [u64], call: usize, later: usize)
     ensures { status.new
         ≡ with_wait status.old later (lowered_if (named_in plan.now call later) (wait_count status.old later)) }
 {
-    if !names(plan, later, call) {
-        return;
+    if names(plan, later, call) {
+        let waits = wait_of(status, later);
+        wire::put_word(
+            status,
+            STATUS_WORDS * later + WAIT_WORD,
+            waits.saturating_sub(1),
+        );
     }
-    let waits = wait_of(status, later);
-    wire::put_word(status, STATUS_WORDS * later + WAIT_WORD, one_less(waits));
 }
 
 // The number of each later call whose row names this one, lowered.
@@ -93,9 +72,7 @@ pub(crate) fn lower(plan: &[u64], status: &mut [u64], call: usize, calls: usize)
     requires plan_in_bounds { fixed_sizes.plan ≤ length plan.now }
     ensures { status.new ≡ waits_lowered plan.now call calls status.old }
 {
-    let mut later = call + 1;
-    while later < calls {
+    for later in call + 1..calls {
         lower_one(plan, status, call, later);
-        later += 1;
     }
 }

@@ -235,6 +235,20 @@ module _ (n m k t u o : ℕ) (file : List ℕ) (workers : ℕ) (status seats : L
         (read_zero (room_of n m k) file (read_block file)) z waits w
         ∙ sym (opening_passed (sizes_for n m k t u o) file workers passed)
 
+-- An accepted block is opened in buffers that are large enough.
+large_answer : (a b : Bool) (s : Sizes) (x : machine.Opened)
+    → (if not a then refused_run s Buffers else if b then refused_run s Workers else x).answer ≡ verdict.Accepted → a ≡ true
+unfolding refused_run
+large_answer true b s x e = refl
+large_answer false b s x e = let z : ◌≡◌ {A = ℕ} 0 1 = cc in absurd (omega arith)
+
+pub accepted_large : (s : Sizes) (file : List ℕ) (workers : ℕ) → (opening_of s file workers).answer ≡ verdict.Accepted → fixed_sizes.plan ≤ s.plan
+unfolding opening_of
+accepted_large s file workers e =
+    large_plan s
+    (large_answer (large_enough s) (eqb workers 0 || ltb max_workers workers) s
+    (open_prepared s workers (prepared_in s file) (prepared_in s file).verdict) e)
+
 -- Equal answers have equal numbers and offsets.
 pub opened_as : {r : Opened} {plan keys : List ℕ} {cells : List ℤ} {status seats : List ℕ} {frames : List ℤ} {o : machine.Opened}
     → opening_with r plan keys cells status seats frames ≡ o → OpenedAs r plan keys cells status seats frames o

@@ -51,8 +51,7 @@ pub fn refused(why: Refusal) -> Opened
 fn answered(p: Prepared, workers: usize) -> Opened
     ensures { result ≡ opened_by p workers p.verdict }
 {
-    let verdict = p.verdict;
-    match verdict {
+    match p.verdict {
         Verdict::Refused(why) => refused(why),
         Verdict::Accepted => Opened {
             verdict: Verdict::Accepted,
@@ -68,10 +67,7 @@ fn tested(large: bool, workers: usize) -> Verdict
     if !large {
         return Verdict::Refused(Refusal::Buffers);
     }
-    if workers == 0 {
-        return Verdict::Refused(Refusal::Workers);
-    }
-    if MAX_WORKERS < workers {
+    if workers == 0 || MAX_WORKERS < workers {
         return Verdict::Refused(Refusal::Workers);
     }
     Verdict::Accepted
@@ -100,14 +96,13 @@ pub fn clear_prepared(plan: &mut [u64], keys: &mut [u64], cells: &mut [i64])
 }
 
 // The row of a call's earlier conflicting calls.
-fn row_of(plan: &[u64], call: usize) -> [u64; ROW_WORDS]
+pub fn row_of(plan: &[u64], call: usize) -> [u64; ROW_WORDS]
     requires call_lt_max_calls { call < max_calls }
     requires plan_in_bounds { fixed_sizes.plan ≤ length plan.now }
     ensures { result ≡ row_in plan.now call }
 {
     let at = PLAN_WORDS * call + FIRST_ROW_WORD;
-    let end = at + ROW_WORDS;
-    wire::row_from(&plan[at..end])
+    wire::row_from(&plan[at..at + ROW_WORDS])
 }
 
 // Each call carries the number of its earlier conflicting calls; none is finished.
@@ -117,11 +112,9 @@ fn set_waits(plan: &[u64], calls: usize, status: &mut [u64])
     requires status_value { status.old ≡ repeated (length status.old) 0 }
     ensures { status.new ≡ waits_set plan.now calls status.old }
 {
-    let mut call = 0;
-    while call < calls {
+    for call in 0..calls {
         let count = wire::row_count(row_of(plan, call), call);
         wire::put_word(status, STATUS_WORDS * call + WAIT_WORD, count);
-        call += 1;
     }
 }
 

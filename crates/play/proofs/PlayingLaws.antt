@@ -9,7 +9,7 @@ use native.Mathlib.Omega.{arith}
 use borrow.Author.Tests.{leb-true, leb-false, eq-eqb, ne_eqb}
 use lib.Dec.{eqb, leb}
 use lib.ListN.{length, get_or, take, drop, length-append, drop_of_length-le}
-use lib.Seq.{drop-cons, get_or-take, take_all, take-length, length-take-le}
+use lib.Seq.{drop-cons, take_all, take-length}
 use Rattle.wire.specs.Bytes.{stored}
 use Rattle.wire.proofs.BytesLaws.{stored_append}
 use Rattle.wire.specs.Decimal.{line_feed}
@@ -56,9 +56,6 @@ module _ (block : List ℕ) (number : ℕ) (line : Line) (run : Run) (out : List
   unfolding play_byte stored
   byte_read e is = let t : eqb x line_feed ≡ false = ne_eqb x line_feed e in rw (t, play_byte, is, add-zero) refl
 
-pub at_most_fits : (chunk : List ℕ) (n : ℕ) {end : ℕ} → end ≡ min n (length chunk) → (end ≤ length chunk) × (end ≤ n)
-at_most_fits chunk n e = (omega (arith, e), omega (arith, e))
-
 pub take_most : (chunk : List ℕ) (n : ℕ) {end : ℕ} → end ≡ min n (length chunk) → take end chunk ≡ take n chunk
 take_most chunk n {end} e = go (leb n (length chunk)) refl
   where
@@ -69,23 +66,17 @@ take_most chunk n {end} e = go (leb n (length chunk)) refl
         let f : end ≡ length chunk = omega arith in
         rw (f, take_all n chunk (omega arith)) (take-length chunk)
 
--- The next of a piece's first bytes.
-pub byte_next : (chunk : List ℕ) (end at : ℕ) → end ≤ length chunk → at < end → drop at (take end chunk) ≡ get_or chunk at 0 ∷ drop (at + 1) (take end chunk)
-byte_next chunk end at fits l =
-    drop-cons (take end chunk) at 0 (rw (length-take-le end chunk fits) l) ∙ rw (get_or-take end chunk at 0 l, add-one at)
-
 -- A piece played up to a position: what is shown so far, and what is left.
 pub record Playing (block piece : List ℕ) (w : Shown) (at : ℕ) (v : Shown) : Type 0 where
   pub same : resumed block piece w ≡ resumed block (drop at piece) v
   pub short : v.end ≤ max_answer * at
 
-pub playing_start : (block piece : List ℕ) (w : Shown) → w.end ≡ 0 → Playing block piece w 0 w
-playing_start block piece w e = record { same = refl; short = omega (arith, e) }
-
 module _ {block piece : List ℕ} {w : Shown} {at : ℕ} {v : Shown} (g : Playing block piece w at v) where
-  pub playing_on : {x : ℕ} → drop at piece ≡ x ∷ drop (at + 1) piece → {u : Shown} → u ≡ byte_on block x v → Playing block piece w (at + 1) u
+  pub playing_on : at < length piece → {u : Shown} → u ≡ byte_on block (get_or piece at 0) v → Playing block piece w (at + 1) u
   unfolding play_bytes
-  playing_on {x} next {u} e =
+  playing_on l {u} e =
+      let x : ℕ = get_or piece at 0 in
+      let next : drop at piece ≡ x ∷ drop (at + 1) piece = drop-cons piece at 0 l ∙ rw (add-one at) refl in
       let s : Session = fresh_session v.number v.line v.run in
       let grown : u.end ≡ v.end + length (play_byte block s x).output = ap (λ (t : Shown). t.end) e in
       record {
@@ -104,9 +95,7 @@ module _ {block piece : List ℕ} {w : Shown} {at : ℕ} {v : Shown} (g : Playin
       let here : resumed block (drop at piece) v ≡ v = rw (none, add-zero) in
       sym (g.same ∙ here)
 
--- A piece played from its start to its end.
-pub playing_all : (block chunk : List ℕ) (n : ℕ) {end at : ℕ} → end ≡ min n (length chunk) → end ≤ at → {w v : Shown} → Playing block (take end chunk) w at v
+-- The first bytes of a piece, played from the start to the end.
+pub playing_all : (block chunk : List ℕ) (n : ℕ) {end at : ℕ} → end ≡ min n (length chunk) → length (take end chunk) ≤ at → {w v : Shown} → Playing block (take end chunk) w at v
     → v ≡ resumed block (take n chunk) w
-playing_all block chunk n {end} {at} e l {w} g =
-    let long : length (take end chunk) ≡ end = length-take-le end chunk (at_most_fits chunk n e).0 in
-    playing_end g (rw long l) ∙ ap (λ (ys : List ℕ). resumed block ys w) (take_most chunk n e)
+playing_all block chunk n e l {w} g = playing_end g l ∙ ap (λ (ys : List ℕ). resumed block ys w) (take_most chunk n e)

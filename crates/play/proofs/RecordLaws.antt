@@ -1,7 +1,7 @@
 -- The records of a sheet as lines, one after another, over plain variables.
 use mathlib.Core.Path.{◌≡◌, refl, sym, ap, ◌∙◌}
 use mathlib.Core.List.{List, [], ◌++◌}
-use Prim.Native.Nat.{ℕ, suc, ◌+◌, ◌-◌, ◌*◌, ◌≤◌, ◌<◌}
+use Prim.Native.Nat.{ℕ, suc, ◌+◌, ◌-◌, ◌≤◌, ◌<◌}
 use native.Mathlib.Nat.{add-zero}
 use native.Mathlib.Omega.{arith}
 use borrow.Author.Tests.{eq-eqb, ne_eqb}
@@ -15,7 +15,7 @@ use Rattle.block.specs.Record.{head_bytes, cell_kind, receipt_kind}
 use Rattle.text.specs.Lines.{cell_text, receipt_text}
 use Rattle.text.specs.Written.{Written}
 use Rattle.console.specs.Text.{cell_line, receipt_line, records_text, sheet_text}
-use Rattle.play.specs.Printed.{lines_left, max_record_text, TurnsWithin, Printed}
+use Rattle.play.specs.Printed.{lines_left, max_record_text, Turned, PrintedOne, PrintedNone}
 use Rattle.play.specs.declared.Reading.{Reading}
 use Rattle.play.proofs.TextLaws.{cell_short, receipt_short}
 
@@ -65,7 +65,7 @@ more_same {out} {after} {from} {end} {text} all rest e w =
 more_end : {out after : List ℕ} {from end : ℕ} {text : List ℕ} (all rest : List ℕ) → all ≡ text ++ rest → Written out after from end text → from + length all ≡ end + length rest
 more_end {text = text} all rest e w = omega (arith, ap length e, length-append text rest, w.end)
 
-module _ (sheet : List ℕ) (p : Reading) (out : List ℕ) (within : TurnsWithin (length sheet) p) (some : 0 < p.left) {size kind : ℕ}
+module _ (sheet : List ℕ) (p : Reading) (out : List ℕ) {size kind : ℕ}
     (is-size : size ≡ read_le 2 sheet p.at) (is-kind : kind ≡ read_le 2 sheet (p.at + 2)) (bytes : (i : ℕ) → get_or sheet i 0 < 256) where
   here : List ℕ
   here = drop p.at sheet
@@ -86,88 +86,76 @@ module _ (sheet : List ℕ) (p : Reading) (out : List ℕ) (within : TurnsWithin
   body_bytes : (i : ℕ) → get_or (drop (p.at + head_bytes) sheet) i 0 < 256
   body_bytes i = rw (get_or-drop (p.at + head_bytes) sheet i 0) (bytes (p.at + head_bytes + i))
 
-  within_next : (call end : ℕ) → call ≤ p.call + 1 → end ≤ p.end + max_record_text
-      → TurnsWithin (length sheet) (record { at = p.at + head_bytes + size; call = call; left = p.left - 1; end = end })
-  within_next call end c e =
+  turned_next : (call end : ℕ) → call ≤ p.call + 1 → end ≤ p.end + max_record_text → (gone : ℕ) → Turned gone p
+      → Turned (gone + 1) (record { at = p.at + head_bytes + size; call = call; end = end })
+  turned_next call end c e gone t =
       let small : size < 65536 = size_small sheet p.at is-size bytes in
-      let all : within.gone + p.left ≡ length sheet = within.all in
-      let place : p.at ≤ 65539 * within.gone = within.place in
-      let calls : p.call ≤ within.gone = within.calls in
-      let text : p.end ≤ max_record_text * within.gone = within.text in
-      record {
-        gone = within.gone + 1;
-        all = omega arith;
-        place = omega arith;
-        calls = omega arith;
-        text = omega arith;
-      }
+      record { place = omega (arith, t.place); calls = omega (arith, t.calls); text = omega (arith, t.text) }
 
   pub next_cell : kind ≡ cell_kind → {end : ℕ} {after : List ℕ} → Written out after p.end end (cell_line (drop (p.at + head_bytes) sheet))
-      → Printed sheet p out (record { at = p.at + head_bytes + size; call = p.call; left = p.left - 1; end = end }) after
+      → PrintedOne sheet p out (record { at = p.at + head_bytes + size; call = p.call; end = end }) after
   unfolding here
   next_cell k {end} {after} w =
       let body : List ℕ = drop (p.at + head_bytes) sheet in
-      let e : lines_left sheet p ≡ cell_line body ++ records_text (p.left - 1) p.call (drop (p.at + head_bytes + size) sheet) =
-      records_cell p.left p.call here some (kind_here ∙ k) ∙ rw (rest_here, body_here) in
+      let e : (turns : ℕ) → 0 < turns → lines_left sheet turns p ≡ cell_line body ++ records_text (turns - 1) p.call (drop (p.at + head_bytes + size) sheet) =
+      (λ turns some. records_cell turns p.call here some (kind_here ∙ k) ∙ rw (rest_here, body_here) refl) in
       let s : length (cell_line body) ≤ max_record_text = cell_short body body_bytes in
       record {
-        same = more_same _ _ e w;
-        end = more_end _ _ e w;
-        less = omega arith;
-        within = within_next p.call end (omega arith) (omega (arith, w.end));
+        same = λ turns some. more_same _ _ (e turns some) w;
+        end = λ turns some. more_end _ _ (e turns some) w;
+        turned = turned_next p.call end (omega arith) (omega (arith, w.end));
       }
 
   pub next_receipt : kind ≡ receipt_kind → {end : ℕ} {after : List ℕ} → Written out after p.end end (receipt_line p.call (drop (p.at + head_bytes) sheet))
-      → Printed sheet p out (record { at = p.at + head_bytes + size; call = p.call + 1; left = p.left - 1; end = end }) after
+      → PrintedOne sheet p out (record { at = p.at + head_bytes + size; call = p.call + 1; end = end }) after
   unfolding here
   next_receipt k {end} {after} w =
       let body : List ℕ = drop (p.at + head_bytes) sheet in
-      let e : lines_left sheet p ≡ receipt_line p.call body ++ records_text (p.left - 1) (p.call + 1) (drop (p.at + head_bytes + size) sheet) =
-      records_receipt p.left p.call here some (kind_here ∙ k) ∙ rw (rest_here, body_here) in
+      let e : (turns : ℕ) → 0 < turns → lines_left sheet turns p ≡ receipt_line p.call body ++ records_text (turns - 1) (p.call + 1) (drop (p.at + head_bytes + size) sheet) =
+      (λ turns some. records_receipt turns p.call here some (kind_here ∙ k) ∙ rw (rest_here, body_here) refl) in
       let s : length (receipt_line p.call body) ≤ max_record_text = receipt_short body body_bytes p.call in
       record {
-        same = more_same _ _ e w;
-        end = more_end _ _ e w;
-        less = omega arith;
-        within = within_next (p.call + 1) end (omega arith) (omega (arith, w.end));
+        same = λ turns some. more_same _ _ (e turns some) w;
+        end = λ turns some. more_end _ _ (e turns some) w;
+        turned = turned_next (p.call + 1) end (omega arith) (omega (arith, w.end));
       }
 
-  pub next_other : (kind ≡ cell_kind → ⊥) → (kind ≡ receipt_kind → ⊥)
-      → Printed sheet p out (record { at = p.at; call = p.call; left = 0; end = p.end }) out
-  unfolding here records_text
+  pub next_other : (kind ≡ cell_kind → ⊥) → (kind ≡ receipt_kind → ⊥) → PrintedNone sheet p out out
+  unfolding here
   next_other k l =
-      let e : lines_left sheet p ≡ [] = records_other p.left p.call here some (λ f. k (sym kind_here ∙ f)) (λ f. l (sym kind_here ∙ f)) in
-      let all : within.gone + p.left ≡ length sheet = within.all in
-      let place : p.at ≤ 65539 * within.gone = within.place in
-      let calls : p.call ≤ within.gone = within.calls in
-      let text : p.end ≤ max_record_text * within.gone = within.text in
+      record { same = refl; none = λ turns some. records_other turns p.call here some (λ f. k (sym kind_here ∙ f)) (λ f. l (sym kind_here ∙ f)) }
+
+-- The lines that are written after so many turns, and those that are left.
+pub record Printing (sheet start : List ℕ) (gone : ℕ) (p : Reading) (out : List ℕ) : Type 0 where
+  pub same : stored start 0 (sheet_text sheet) ≡ stored out p.end (lines_left sheet (length sheet - gone) p)
+  pub end : 0 + length (sheet_text sheet) ≡ p.end + length (lines_left sheet (length sheet - gone) p)
+  pub turned : Turned gone p
+
+module _ {sheet start : List ℕ} {gone : ℕ} {p : Reading} {out : List ℕ} (g : Printing sheet start gone p out) where
+  pub printing_on : gone < length sheet → {q : Reading} {after : List ℕ} → PrintedOne sheet p out q after → Printing sheet start (gone + 1) q after
+  printing_on l {q} {after} h =
+      let some : 0 < length sheet - gone = omega arith in
+      let e : length sheet - gone - 1 ≡ length sheet - (gone + 1) = omega arith in
       record {
-        same = ap (stored out p.end) e;
-        end = ap (λ (t : List ℕ). p.end + length t) e;
-        less = some;
-        within = record { gone = length sheet; all = add-zero (length sheet); place = omega arith; calls = omega arith; text = omega arith };
+        same = g.same ∙ h.same (length sheet - gone) some ∙ ap (λ (n : ℕ). stored after q.end (lines_left sheet n q)) e;
+        end = g.end ∙ h.end (length sheet - gone) some ∙ ap (λ (n : ℕ). q.end + length (lines_left sheet n q)) e;
+        turned = h.turned gone g.turned;
       }
 
--- The lines that are written, and those that are left.
-pub record Printing (sheet start : List ℕ) (p : Reading) (out : List ℕ) : Type 0 where
-  pub same : stored start 0 (sheet_text sheet) ≡ stored out p.end (lines_left sheet p)
-  pub end : 0 + length (sheet_text sheet) ≡ p.end + length (lines_left sheet p)
-  pub within : TurnsWithin (length sheet) p
-
-pub printing_start : (sheet out : List ℕ) → Printing sheet out (record { at = 0; call = 0; left = length sheet; end = 0 }) out
-printing_start sheet out =
-    record { same = refl; end = refl; within = record { gone = 0; all = omega arith; place = omega arith; calls = omega arith; text = omega arith } }
-
-module _ {sheet start : List ℕ} {p : Reading} {out : List ℕ} (g : Printing sheet start p out) where
-  pub printing_on : {q : Reading} {after : List ℕ} → Printed sheet p out q after → Printing sheet start q after
-  printing_on h = record { same = g.same ∙ h.same; end = g.end ∙ h.end; within = h.within }
-
-  pub printing_end : p.left ≤ 0 → Written start out 0 p.end (sheet_text sheet)
-  unfolding records_text stored
-  printing_end l =
-      let z : p.left ≡ 0 = omega arith in
-      let none : lines_left sheet p ≡ [] = rw z in
+  -- Where no line is left, all are written.
+  written_all : lines_left sheet (length sheet - gone) p ≡ [] → Written start out 0 p.end (sheet_text sheet)
+  unfolding stored
+  written_all none =
       record {
         same = sym (g.same ∙ ap (stored out p.end) none);
         end = sym (g.end ∙ ap (λ (t : List ℕ). p.end + length t) none ∙ add-zero p.end);
       }
+
+  pub printing_stop : gone < length sheet → {after : List ℕ} → PrintedNone sheet p out after → Written start after 0 p.end (sheet_text sheet)
+  printing_stop l h =
+      let some : 0 < length sheet - gone = omega arith in
+      rw h.same (written_all (h.none (length sheet - gone) some))
+
+  pub printing_end : length sheet ≤ gone → Written start out 0 p.end (sheet_text sheet)
+  unfolding records_text
+  printing_end l = let z : length sheet - gone ≡ 0 = omega arith in written_all (ap (λ (n : ℕ). lines_left sheet n p) z)

@@ -1,9 +1,9 @@
 -- The move that a whole line names, in the type of its definition.
+use Rattle.std.specs.Prelude as prelude
+use Rattle.std.specs.Prelude.{Some, None}
 use Rattle.std.proofs.Math.Option.{Option, none, some}
-use Rattle.schedule.specs.declared.Move as schedule
-use Rattle.play.specs.declared.LineMove.{LineMove}
-use Rattle.play.specs.declared.LineMove.TheVariants.{Move, NoMove}
+use Rattle.schedule.specs.declared.Move.{Move}
 
-abbrev pub as_move : LineMove → Option schedule.Move
-as_move (Move m) = some m
-as_move NoMove = none
+abbrev pub as_move : prelude.Option Move → Option Move
+as_move (Some m) = some m
+as_move None = none

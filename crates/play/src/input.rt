@@ -1,5 +1,5 @@
 // The input of REGISTER in pieces, byte by byte: each whole line is played, and its answer written.
-ghost use Rattle.std.specs.Prelude.{◌≡◌, min, take};
+ghost use Rattle.std.specs.Prelude.{◌≡◌, take};
 ghost use Rattle.machine.specs.Answer.{answer_number};
 ghost use Rattle.moves.specs.Lent.{lent};
 ghost use Rattle.text.specs.Lines.{refused_text};
@@ -10,7 +10,7 @@ ghost use Rattle.play.specs.Shown.{fresh_session, shown, shown_from};
 
 use crate::apply::apply_move;
 use crate::line::{line_move, read_byte};
-use crate::{LineMove, Played, Session, Told};
+use crate::{Played, Session, Told};
 use console::Line;
 use machine::numbers::answer_number;
 use machine::{Answer, Head};
@@ -81,29 +81,17 @@ fn play_line(
         frames.old))) }
 {
     match line_move(line) {
-        LineMove::NoMove => play_malformed(number, head, out, from),
-        LineMove::Move(m) => {
+        None => play_malformed(number, head, out, from),
+        Some(m) => {
             let reply = apply_move(head, block, plan, keys, cells, status, seats, frames, m);
-            let after = reply.head;
-            let answer = reply.answer;
-            let end = answer_line(out, from, number, answer);
+            let end = answer_line(out, from, number, reply.answer);
             Told {
                 number: next_number(number),
-                head: after,
+                head: reply.head,
                 end,
             }
         }
     }
-}
-
-// The first n bytes of a piece, or all where it has fewer.
-pub(crate) fn at_most(n: u16, length: usize) -> usize
-    ensures { result ≡ min n length }
-{
-    if length <= n as usize {
-        return length;
-    }
-    n as usize
 }
 
 // The first n bytes of a piece of the input, played: a line feed ends the line, every other byte is read. The answers' text is stored from the
@@ -132,15 +120,12 @@ pub fn play_chunk(
         frames.old))
         (take n chunk.now)) }
 {
-    let end = at_most(n, chunk.len());
+    let end = chunk.len().min(usize::from(n));
     let mut number = s.number;
     let mut line = s.line;
     let mut head = s.head;
-    let mut at = 0;
     let mut written = 0;
-    while at < end {
-        let x = chunk[at];
-        at += 1;
+    for &x in &chunk[..end] {
         if x == LINE_FEED {
             let t = play_line(
                 number,
@@ -192,8 +177,7 @@ pub fn play_end(
         (lent s.head plan.now keys.now cells.old status.old seats.old
         frames.old))) }
 {
-    let line = s.line;
-    if let Line::Empty = line {
+    if matches!(s.line, Line::Empty) {
         return Played {
             session: s,
             length: 0,

@@ -8,14 +8,6 @@ pub mod records;
 
 use console::Line;
 use machine::Head;
-use schedule::Move;
-
-// What a whole line names: a move, or, in no such form, none.
-#[derive(Clone, Copy)]
-pub enum LineMove {
-    Move(Move),
-    NoMove,
-}
 
 // Where the reading of the input stands: the number of the line from 1, what is read of it, and the head of the run.
 #[derive(Clone, Copy)]
@@ -40,11 +32,10 @@ pub struct Told {
     pub end: usize,
 }
 
-// The records of a sheet, read up to a position: the number of the next receipt, how many turns are left, and where the text ends.
+// The records of a sheet, read up to a position: the number of the next receipt, and where the text ends.
 #[derive(Clone, Copy)]
 pub struct Reading {
     pub at: usize,
     pub call: u64,
-    pub left: usize,
     pub end: usize,
 }

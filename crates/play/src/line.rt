@@ -5,13 +5,9 @@ ghost use Rattle.console.specs.Line.{is_digit, takes_digit, read_letter, read_ga
 ghost use Rattle.console.specs.declared.Line.TheVariants.{Named, Spaced, First, Between, Second, Malformed};
 ghost use Rattle.play.specs.Named.{as_move};
 
-use crate::LineMove;
 use console::{Letter, Line};
 use schedule::Move;
 use wire::decimal::{SPACE, ZERO_DIGIT};
-
-// The character behind the last digit.
-const BEHIND_NINE: u8 = ZERO_DIGIT + 10;
 
 // A number has at most five digits, and those read before a further one make less than 100,000.
 const MAX_DIGITS: usize = 5;
@@ -22,23 +18,14 @@ const MAX_NUMBER: usize = 100000;
 fn is_digit(x: u8) -> bool
     ensures { result ≡ is_digit x }
 {
-    if x < ZERO_DIGIT {
-        return false;
-    }
-    x < BEHIND_NINE
+    x.is_ascii_digit()
 }
 
 // Whether a byte is a further digit of a number that has some.
 fn takes_digit(digits: usize, n: usize, x: u8) -> bool
     ensures { result ≡ takes_digit digits n x }
 {
-    if !is_digit(x) {
-        return false;
-    }
-    if MAX_DIGITS <= digits {
-        return false;
-    }
-    n < MAX_NUMBER
+    is_digit(x) && digits < MAX_DIGITS && n < MAX_NUMBER
 }
 
 // The number that a digit is.
@@ -46,23 +33,19 @@ fn digit(x: u8) -> usize
     requires { is_digit x ≡ true }
     ensures { result ≡ x - zero_digit }
 {
-    (x - ZERO_DIGIT) as usize
+    usize::from(x - ZERO_DIGIT)
 }
 
 // The first byte of a line.
 fn read_letter(x: u8) -> Line
     ensures { result ≡ read_letter x }
 {
-    if x == b'b' {
-        return Line::Named(Letter::B);
+    match x {
+        b'b' => Line::Named(Letter::B),
+        b's' => Line::Named(Letter::S),
+        b'c' => Line::Named(Letter::C),
+        _ => Line::Malformed,
     }
-    if x == b's' {
-        return Line::Named(Letter::S);
-    }
-    if x == b'c' {
-        return Line::Named(Letter::C);
-    }
-    Line::Malformed
 }
 
 // A space behind the first number.
@@ -71,8 +54,7 @@ fn read_gap(letter: Letter, n: usize) -> Line
 {
     match letter {
         Letter::B => Line::Between { worker: n },
-        Letter::S => Line::Malformed,
-        Letter::C => Line::Malformed,
+        Letter::S | Letter::C => Line::Malformed,
     }
 }
 
@@ -172,35 +154,24 @@ pub fn read_byte(line: Line, x: u8) -> Line
 }
 
 // The move of a line with one number.
-fn move_for(letter: Letter, n: usize) -> LineMove
+fn move_for(letter: Letter, n: usize) -> Option<Move>
     ensures { as_move result ≡ move_for letter n }
 {
     match letter {
-        Letter::B => LineMove::NoMove,
-        Letter::S => LineMove::Move(Move::Step(n)),
-        Letter::C => LineMove::Move(Move::Cancel(n)),
+        Letter::B => None,
+        Letter::S => Some(Move::Step(n)),
+        Letter::C => Some(Move::Cancel(n)),
     }
 }
 
-// The move of a whole line.
-pub fn line_move(line: Line) -> LineMove
+// The move of a whole line; in no such form, none.
+pub fn line_move(line: Line) -> Option<Move>
     ensures { as_move result ≡ line_move line }
 {
     match line {
-        Line::Empty => LineMove::NoMove,
-        Line::Named(_) => LineMove::NoMove,
-        Line::Spaced(_) => LineMove::NoMove,
-        Line::First {
-            letter,
-            digits: _,
-            number,
-        } => move_for(letter, number),
-        Line::Between { worker: _ } => LineMove::NoMove,
-        Line::Second {
-            worker,
-            digits: _,
-            number,
-        } => LineMove::Move(Move::Begin(worker, number)),
-        Line::Malformed => LineMove::NoMove,
+        Line::First { letter, number, .. } => move_for(letter, number),
+        Line::Second { worker, number, .. } => Some(Move::Begin(worker, number)),
+        Line::Empty | Line::Named(_) | Line::Spaced(_) | Line::Between { .. } | Line::Malformed =>
+            None,
     }
 }

@@ -5,7 +5,6 @@ ghost use Rattle.play.specs.Printed.{TurnsWithin, Printed};
 ghost use Rattle.text.specs.Written.{Written};
 
 use crate::Reading;
-use crate::input::at_most;
 use block::format::{CELL_KIND, HEAD_BYTES, RECEIPT_KIND};
 use block::limits::{MAX_CALLS, MAX_KEYS};
 use text::{cell_line, receipt_line};
@@ -40,45 +39,30 @@ fn put_receipt(sheet: &[u8], body: usize, call: u64, out: &mut [u8], from: u32) 
     receipt_line(out, from, call, outcome, count)
 }
 
-// The next record: its line, or the end at a record of another kind.
-fn next_record(p: Reading, sheet: &[u8], out: &mut [u8]) -> Reading
-    requires left_nonzero { 0 < p.left }
+// The next record: its line; none at a record of another kind.
+fn next_record(p: Reading, sheet: &[u8], out: &mut [u8]) -> Option<Reading>
     requires sheet_len_bound { length sheet.now < 65536 }
     requires turns_within { TurnsWithin (length sheet.now) p }
     ensures { Printed sheet.now p out.old result out.new }
 {
-    let at = p.at;
-    let call = p.call;
-    let left = p.left;
-    let end = p.end;
-    let size = wire::get16(sheet, at) as usize;
-    let kind = wire::get16(sheet, at + 2) as usize;
-    let body = at + HEAD_BYTES;
-    if kind == CELL_KIND {
-        return Reading {
+    let size = wire::get16(sheet, p.at) as usize;
+    let body = p.at + HEAD_BYTES;
+    match wire::get16(sheet, p.at + 2) as usize {
+        CELL_KIND => Some(Reading {
             at: body + size,
-            call,
-            left: left - 1,
-            end: put_cell(sheet, body, out, end as u32),
-        };
-    }
-    if kind == RECEIPT_KIND {
-        return Reading {
+            call: p.call,
+            end: put_cell(sheet, body, out, p.end as u32),
+        }),
+        RECEIPT_KIND => Some(Reading {
             at: body + size,
-            call: call + 1,
-            left: left - 1,
-            end: put_receipt(sheet, body, call, out, end as u32),
-        };
-    }
-    Reading {
-        at,
-        call,
-        left: 0,
-        end,
+            call: p.call + 1,
+            end: put_receipt(sheet, body, p.call, out, p.end as u32),
+        }),
+        _ => None,
     }
 }
 
-// All records of a sheet.
+// All records of a sheet; of no sheet are there more than it has bytes.
 fn put_records(sheet: &[u8], out: &mut [u8]) -> usize
     requires { length sheet.now < 65536 }
     ensures { Written out.old out.new 0 result (sheet_text sheet.now) }
@@ -86,11 +70,13 @@ fn put_records(sheet: &[u8], out: &mut [u8]) -> usize
     let mut p = Reading {
         at: 0,
         call: 0,
-        left: sheet.len(),
         end: 0,
     };
-    while 0 < p.left {
-        p = next_record(p, sheet, out);
+    for _ in 0..sheet.len() {
+        let Some(q) = next_record(p, sheet, out) else {
+            return p.end;
+        };
+        p = q;
     }
     p.end
 }
@@ -99,6 +85,6 @@ fn put_records(sheet: &[u8], out: &mut [u8]) -> usize
 pub fn sheet_text(sheet: &[u8], n: u16, out: &mut [u8]) -> usize
     ensures { Written out.old out.new 0 result (sheet_text (take n sheet.now)) }
 {
-    let end = at_most(n, sheet.len());
+    let end = sheet.len().min(usize::from(n));
     put_records(&sheet[..end], out)
 }

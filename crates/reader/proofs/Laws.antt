@@ -1,14 +1,13 @@
--- What the proofs of this crate cite: a code looked through, and keys as two words.
+-- What the proofs of this crate cite: a code looked through.
 use mathlib.Core.Path.{◌≡◌, refl, sym, ◌∙◌, ap}
-use mathlib.Core.Bool.{Bool, true, false}
+use mathlib.Core.Bool.{true, false}
 use mathlib.Core.List.{List}
-use Prim.Native.Nat.{ℕ, suc, ◌+◌, ◌*◌, ◌-◌, ◌^◌, ◌<◌, ◌≤◌}
+use Prim.Native.Nat.{ℕ, suc, ◌+◌, ◌*◌, ◌-◌, ◌<◌, ◌≤◌}
 use native.Mathlib.Omega.{arith}
 use native.Mathlib.Nat.{sub-zero}
 use lib.ListN.{drop}
-use lib.Dec.{leb, ltb}
 use lib.Seq.{drop-drop}
-use borrow.Author.Tests.{ltb-true, ltb-false, leb-true, leb-false, le-leb, lt-leb}
+use Rattle.std.proofs.Common.{Option, Some, None, MatchOption, unwrap_or, zero, add-one}
 use Rattle.block.specs.Instruction.{decode, is_valid, first_invalid}
 
 -- A code is looked through from its first instruction on.
@@ -52,18 +51,19 @@ module _ (s : List ℕ) (size i : ℕ) (t : Through s size i) where
               ∙ t.same);
         }
 
--- Keys as two words compare as numbers.
-pub words_equal : (least under high low : ℕ) → least ≡ high → leb under low ≡ leb (least * 2 ^ 32 + under) (high * 2 ^ 32 + low)
-words_equal least under high low e = go (leb under low) refl
-  where
-    go : (t : Bool) → leb under low ≡ t → t ≡ leb (least * 2 ^ 32 + under) (high * 2 ^ 32 + low)
-    go true f = let g : under ≤ low = leb-true under low f in sym (le-leb (least * 2 ^ 32 + under) (high * 2 ^ 32 + low) (omega arith))
-    go false f = let g : low < under = leb-false under low f in sym (lt-leb (least * 2 ^ 32 + under) (high * 2 ^ 32 + low) (omega arith))
+-- The index of the first instruction that breaks a rule, where there is one.
+abbrev pub FirstInvalid : List ℕ → ℕ → Option ℕ → Type 0
+FirstInvalid s size r =
+    MatchOption r ((k : ℕ) → 0 ≤ k → k < size → is_valid (decode size (drop (4 + 8 * k) s)) ≡ true)
+    (λ i. (0 ≤ i) × (i < size) × (is_valid (decode size (drop (4 + 8 * i) s)) ≡ false)
+    × ((k : ℕ) → 0 ≤ k → k < i → is_valid (decode size (drop (4 + 8 * k) s)) ≡ true))
 
-pub words_apart : (least under high low : ℕ) → under ≤ 2 ^ 32 → low < 2 ^ 32 → (least ≡ high → ⊥)
-    → ltb least high ≡ leb (least * 2 ^ 32 + under) (high * 2 ^ 32 + low)
-words_apart least under high low u l ne = go (ltb least high) refl
-  where
-    go : (t : Bool) → ltb least high ≡ t → t ≡ leb (least * 2 ^ 32 + under) (high * 2 ^ 32 + low)
-    go true f = let g : least < high = ltb-true least high f in sym (le-leb (least * 2 ^ 32 + under) (high * 2 ^ 32 + low) (omega arith))
-    go false f = let g : high ≤ least = ltb-false least high f in sym (lt-leb (least * 2 ^ 32 + under) (high * 2 ^ 32 + low) (omega arith))
+through_to : (s : List ℕ) (size i : ℕ) → i ≤ size → ((k : ℕ) → 0 ≤ k → k < i → is_valid (decode size (drop (4 + 8 * k) s)) ≡ true) → Through s size i
+through_to s size zero h valid = through_none s size
+through_to s size (suc i) h valid =
+    let before : Through s size i = through_to s size i (omega arith) (λ k _ l. valid k (omega arith) (omega arith)) in
+    rw (add-one) at (through_more s size i before (omega arith) (valid i (omega arith) (omega arith)))
+
+pub first_is : (s : List ℕ) (size : ℕ) (r : Option ℕ) → FirstInvalid s size r → unwrap_or r size ≡ first_invalid size 0 size (drop 4 s)
+first_is s size None all = through_all s size size (through_to s size size (omega arith) all) (omega arith)
+first_is s size (Some i) h = through_here s size i (through_to s size i (omega arith) h.3) h.1 h.2

@@ -3,9 +3,10 @@ use mathlib.Core.Path.{◌≡◌, refl, sym, ◌∙◌, ap, subst}
 use mathlib.Core.List.{List, [], ◌∷◌, ◌++◌, map, append_assoc}
 use Prim.Native.Nat.{ℕ, zero, suc, ◌+◌, ◌-◌, ◌<◌, ◌≤◌}
 use native.Mathlib.Omega.{arith}
-use lib.ListN.{length, drop, set, replicate, length-append, length-map}
+use lib.ListN.{length, drop, set, replicate, length-append, length-drop, length-map}
 use lib.Seq.{set-append_seam}
 use borrow.Author.Tests.{lt-ltb, le-ltb}
+use Rattle.std.specs.Prelude.{Result, Ok, Err, IsErrAnd}
 use Rattle.arith.specs.Balance.{total}
 use Rattle.wire.specs.Bytes.{repeated, padded}
 use Rattle.block.specs.Record.{Function, Block, function_id}
@@ -13,9 +14,10 @@ use Rattle.block.specs.Reader.{Read, Reading, accepted, refused, due, ended, emp
 use Rattle.block.proofs.ReaderLaws.{Reached, Right, reached_start}
 use Rattle.block.proofs.ReaderRight.{right_record}
 use Rattle.reader.specs.Layout.{table, layout_of}
-use Rattle.reader.specs.Standing.{floor_of, NumbersOfBlock, MovedOn, TurnFollows, layout_left, progress_start}
+use Rattle.reader.specs.Standing.{floor_of, NumbersOfBlock, MovedOn, TurnFollows, left_of}
+use Rattle.reader.specs.declared.Layout.{Layout}
+use Rattle.block.specs.declared.Refusal.{Refusal}
 use Rattle.block.specs.declared.Refusal.TheVariants.{InputTooLong}
-use Rattle.block.specs.declared.Verdict.{Verdict}
 use Rattle.block.specs.declared.Verdict.TheVariants.{Accepted}
 use Rattle.reader.specs.declared.Progress.{Progress}
 use Rattle.reader.specs.declared.Turn.TheVariants.{More, Function as AddFunction, End}
@@ -128,10 +130,10 @@ module _ (file ids starts sizes : List ℕ) (p : Progress) (g : ReadingOn file i
   abbrev turn : Reading
   turn = read_record (length file) p.kind p.at (drop p.at file) g.b
 
-  pub reading_more : (q : Progress) → TurnFollows p g.b (More q) turn → Advanced file ids starts sizes p q
+  pub reading_more : (q : Progress) → TurnFollows p g.b (Ok (More q)) turn → Advanced file ids starts sizes p q
   reading_more q t = go turn refl t
     where
-      go : (r : Reading) → turn ≡ r → TurnFollows p g.b (More q) r → Advanced file ids starts sizes p q
+      go : (r : Reading) → turn ≡ r → TurnFollows p g.b (Ok (More q)) r → Advanced file ids starts sizes p q
       go (due k n rest b') e t =
           record {
             going =
@@ -146,12 +148,12 @@ module _ (file ids starts sizes : List ℕ) (p : Progress) (g : ReadingOn file i
           }
       go (ended r) e t = absurd t
 
-  module _ (q : Progress) (id start size : ℕ) (t : TurnFollows p g.b (AddFunction q id start size) turn) where
+  module _ (q : Progress) (id start size : ℕ) (t : TurnFollows p g.b (Ok (AddFunction q id start size)) turn) where
     -- There is room in the tables.
     pub going_room : p.functions < 64
     going_room = go turn refl t
       where
-        go : (r : Reading) → turn ≡ r → TurnFollows p g.b (AddFunction q id start size) r → p.functions < 64
+        go : (r : Reading) → turn ≡ r → TurnFollows p g.b (Ok (AddFunction q id start size)) r → p.functions < 64
         go (due k n rest b') e t =
             let limit : length b'.functions ≤ 64 = (advance file p g.b g.stands q k n rest b' e t.0).reached.laws.function_limit in
             let count : p.functions ≡ length g.b.functions = g.stands.holds.functions in
@@ -163,7 +165,7 @@ module _ (file ids starts sizes : List ℕ) (p : Progress) (g : ReadingOn file i
     pub going_function : Advanced file (set ids p.functions id) (set starts p.functions start) (set sizes p.functions size) p q
     going_function = go turn refl t
       where
-        go : (r : Reading) → turn ≡ r → TurnFollows p g.b (AddFunction q id start size) r
+        go : (r : Reading) → turn ≡ r → TurnFollows p g.b (Ok (AddFunction q id start size)) r
             → Advanced file (set ids p.functions id) (set starts p.functions start) (set sizes p.functions size) p q
         go (due k n rest b') e t =
             let count : p.functions ≡ length g.b.functions = g.stands.holds.functions in
@@ -181,17 +183,30 @@ module _ (file ids starts sizes : List ℕ) (p : Progress) (g : ReadingOn file i
         go (ended r) e t = absurd t
 
   -- The answer.
-  pub reading_end : (v : Verdict) → TurnFollows p g.b (End v) turn → layout_left v p ids starts sizes ≡ layout_of (read_block file)
-  unfolding layout_of
-  reading_end v t = go turn refl t
-    where
-      answer : (r : Read) → turn ≡ ended r → r ≡ read_block file
-      answer r e =
-          sym (read_ended (g.stands.turns - 1) (length file) r)
-          ∙ ap (read_from (g.stands.turns - 1) (length file)) (sym e)
-          ∙ turned file p g.b g.stands
+  answer : (r : Read) → turn ≡ ended r → r ≡ read_block file
+  answer r e =
+      sym (read_ended (g.stands.turns - 1) (length file) r)
+      ∙ ap (read_from (g.stands.turns - 1) (length file)) (sym e)
+      ∙ turned file p g.b g.stands
 
-      all : layout_left Accepted p ids starts sizes ≡ layout_of (accepted g.b)
+  pub reading_refused : (why : Refusal) → TurnFollows p g.b (Err why) turn → layout_of (refused why) ≡ layout_of (read_block file)
+  reading_refused why t = go turn refl t
+    where
+      go : (r : Reading) → turn ≡ r → TurnFollows p g.b (Err why) r → layout_of (refused why) ≡ layout_of (read_block file)
+      go (due k n rest b') e t = absurd t
+      go (ended (refused told)) e t = ap (λ (w : Refusal). layout_of (refused w)) t ∙ ap layout_of (answer (refused told) e)
+      go (ended (accepted b')) e t = absurd t
+
+  pub reading_end : TurnFollows p g.b (Ok End) turn
+      → ◌≡◌ {A = Layout}
+      (record { verdict = Accepted; functions = p.functions; cells = p.cells; calls = p.calls; opening = p.opening; first_call = p.first_call; ids = ids; starts = starts; sizes = sizes })
+      (layout_of (read_block file))
+  unfolding layout_of
+  reading_end t = all ∙ go turn refl t
+    where
+      all : ◌≡◌ {A = Layout}
+          (record { verdict = Accepted; functions = p.functions; cells = p.cells; calls = p.calls; opening = p.opening; first_call = p.first_call; ids = ids; starts = starts; sizes = sizes })
+          (layout_of (accepted g.b))
       all =
           let h : NumbersOfBlock p g.b = g.stands.holds in
           λ i.
@@ -207,13 +222,24 @@ module _ (file ids starts sizes : List ℕ) (p : Progress) (g : ReadingOn file i
             sizes = g.size_table i;
           }
 
-      go : (r : Reading) → turn ≡ r → TurnFollows p g.b (End v) r → layout_left v p ids starts sizes ≡ layout_of (read_block file)
+      go : (r : Reading) → turn ≡ r → TurnFollows p g.b (Ok End) r → layout_of (accepted g.b) ≡ layout_of (read_block file)
       go (due k n rest b') e t = absurd t
-      go (ended (refused why)) e t = ap (λ (w : Verdict). layout_left w p ids starts sizes) t ∙ ap layout_of (answer (refused why) e)
-      go (ended (accepted b')) e t =
-          ap (λ (w : Verdict). layout_left w p ids starts sizes) t.0 ∙ all ∙ ap (λ (x : Block). layout_of (accepted x)) (sym t.1) ∙ ap layout_of (answer (accepted b') e)
+      go (ended (refused why)) e t = absurd t
+      go (ended (accepted b')) e t = ap (λ (x : Block). layout_of (accepted x)) (sym t) ∙ ap layout_of (answer (accepted b') e)
+
+-- A refusal that is handed on.
+pub handed_on : (r : Result Layout Refusal) (why : Refusal) → IsErrAnd r (λ e. e ≡ why) → left_of r ≡ layout_of (refused why)
+handed_on (Ok l) why h = absurd h
+handed_on (Err e) why h = ap (λ (w : Refusal). layout_of (refused w)) h
+
+-- The rest of the file is what is left behind the reader.
+pub rest_size : (file : List ℕ) (at : ℕ) → at ≤ length file → at + length (drop at file) ≡ length file
+rest_size file at h = omega (arith, length-drop at file)
 
 -- The start: nothing is read, and the tables are zero.
+abbrev progress_start : Progress
+progress_start = record { kind = 0; at = 0; functions = 0; cells = 0; calls = 0; opening = 0; first_call = 0; least = 0; high = 0; low = 0; sum = 0 }
+
 start_holds : NumbersOfBlock progress_start empty_block
 unfolding floor_of total balances
 start_holds =
@@ -229,8 +255,13 @@ start_holds =
       steady = record { low = omega arith; sum = omega arith };
     }
 
-pub reading_start : (file : List ℕ) → length file ≤ 65536 → ReadingOn file (repeated 64 0) (repeated 64 0) (repeated 64 0) progress_start
-reading_start file small =
+pub reading_start : (file : List ℕ) (p : Progress) → length file ≤ 65536
+    → (p.kind ≡ 0) × ((p.at ≡ 0) × ((p.functions ≡ 0) × ((p.cells ≡ 0) × ((p.calls ≡ 0) × ((p.opening ≡ 0) × ((p.first_call ≡ 0) × ((p.least ≡ 0) × ((p.high ≡ 0) × ((p.low ≡ 0) × ((p.sum ≡ 0)))))))))))
+    → ReadingOn file (repeated 64 0) (repeated 64 0) (repeated 64 0) p
+reading_start file p small h =
+    let e : p ≡ progress_start =
+    λ i. record { kind = h.0 i; at = h.1.0 i; functions = h.1.1.0 i; cells = h.1.1.1.0 i; calls = h.1.1.1.1.0 i; opening = h.1.1.1.1.1.0 i; first_call = h.1.1.1.1.1.1.0 i; least = h.1.1.1.1.1.1.1.0 i; high = h.1.1.1.1.1.1.1.1.0 i; low = h.1.1.1.1.1.1.1.1.1.0 i; sum = h.1.1.1.1.1.1.1.1.1.1 i } in
+    rw e (
     record {
       b = empty_block;
       stands =
@@ -246,3 +277,4 @@ reading_start file small =
       start_table = refl;
       size_table = refl;
     }
+    )

@@ -11,7 +11,7 @@ use lib.IntN.{ℤ, pos, ◌+ℤ◌, +ℤ_assoc, +ℤ_idl, +ℤ_idr}
 use lib.ListN.{length, drop, length-append}
 use lib.Signed.{lt_z}
 use borrow.Author.Tests.{lt-ltb, le-ltb, le-leb, lt-leb, eq-eqb, ne_eqb, ltb-true, ltb-false, eqb-true}
-use Rattle.std.specs.Prelude.{if◌then◌else◌}
+use Rattle.std.specs.Prelude.{Ok, Err, if◌then◌else◌}
 use Rattle.arith.specs.Balance.{total}
 use Rattle.arith.specs.Exact.{signed}
 use Rattle.arith.proofs.IntegerLaws.{signed_low, signed_high}
@@ -19,15 +19,64 @@ use Rattle.wire.specs.Bytes.{number, read_le}
 use Rattle.block.specs.Key.{address_of, key_allowed, field_in, is_balance}
 use Rattle.block.proofs.KeyLaws.{field_of}
 use Rattle.block.specs.Instruction.{first_invalid}
-use Rattle.block.specs.Record.{Function, Cell, Block, function_id, cell_of, cell_allowed, call_of}
+use Rattle.block.specs.Record.{Function, Cell, Block, function_id, head_bytes, function_kind, cell_kind, call_kind, cell_of, cell_allowed, call_of}
 use Rattle.block.specs.Reader.{rises, balances, read_function, read_cell, withCall, read_call}
-use Rattle.reader.specs.Standing.{floor_of, value_allowed, NumbersOfBlock, TurnFollows, after_function, after_cell, after_call}
+use Rattle.reader.specs.Standing.{floor_of, value_allowed, NumbersOfBlock, TurnFollows}
 use Rattle.block.specs.declared.Call.{Call}
 use Rattle.block.specs.declared.CallBody.TheVariants.{InRange, OutOfRange}
 use Rattle.block.specs.declared.Refusal.TheVariants.{BeyondLimit, Field, Code, NotRising, Balances}
-use Rattle.block.specs.declared.Verdict.TheVariants.{Refused}
 use Rattle.reader.specs.declared.Progress.{Progress}
-use Rattle.reader.specs.declared.Turn.TheVariants.{More, Function as AddFunction, End}
+use Rattle.reader.specs.declared.Turn.TheVariants.{More, Function as AddFunction}
+
+-- ---- the numbers behind one more function, opening cell or call
+
+abbrev pub after_function : Progress → (len id : ℕ) → Progress
+after_function p len id =
+    record {
+      kind = function_kind;
+      at = p.at + head_bytes + len;
+      functions = p.functions + 1;
+      cells = p.cells;
+      calls = p.calls;
+      opening = p.at + head_bytes + len;
+      first_call = p.at + head_bytes + len;
+      least = id + 1;
+      high = p.high;
+      low = p.low;
+      sum = p.sum;
+    }
+
+abbrev pub after_cell : Progress → (len high low sum : ℕ) → Progress
+after_cell p len high low sum =
+    record {
+      kind = cell_kind;
+      at = p.at + head_bytes + len;
+      functions = p.functions;
+      cells = p.cells + 1;
+      calls = p.calls;
+      opening = p.opening;
+      first_call = p.at + head_bytes + len;
+      least = p.least;
+      high = high;
+      low = low + 1;
+      sum = sum;
+    }
+
+abbrev pub after_call : Progress → (len : ℕ) → Progress
+after_call p len =
+    record {
+      kind = call_kind;
+      at = p.at + head_bytes + len;
+      functions = p.functions;
+      cells = p.cells;
+      calls = p.calls + 1;
+      opening = p.opening;
+      first_call = p.first_call;
+      least = p.least;
+      high = p.high;
+      low = p.low;
+      sum = p.sum;
+    }
 
 -- ---- rising numbers
 
@@ -56,7 +105,7 @@ snoc_length l x n e = omega (arith, length-append l (x ∷ []), e)
 -- ---- a function
 
 module _ (p : Progress) (b : Block) (h : NumbersOfBlock p b) (len : ℕ) (body : List ℕ) where
-  pub function_limit_lem : 64 ≤ p.functions → TurnFollows p b (End (Refused (BeyondLimit p.at))) (read_function p.at len body b)
+  pub function_limit_lem : 64 ≤ p.functions → TurnFollows p b (Err (BeyondLimit p.at)) (read_function p.at len body b)
   unfolding read_function
   function_limit_lem full = simp (le-leb 64 (length b.functions) (rw h.functions at full)) refl
 
@@ -64,7 +113,7 @@ module _ (p : Progress) (b : Block) (h : NumbersOfBlock p b) (len : ℕ) (body :
     free : leb 64 (length b.functions) ≡ false
     free = lt-leb 64 (length b.functions) (rw h.functions at room)
 
-    pub function_field : contract < 32768 → TurnFollows p b (End (Refused (Field p.at))) (read_function p.at len body b)
+    pub function_field : contract < 32768 → TurnFollows p b (Err (Field p.at)) (read_function p.at len body b)
     unfolding read_function
     function_field low = simp (free, lt-ltb (number 2 body) 32768 (rw ec at low)) refl
 
@@ -72,7 +121,7 @@ module _ (p : Progress) (b : Block) (h : NumbersOfBlock p b) (len : ℕ) (body :
       is_contract : ltb (number 2 body) 32768 ≡ false
       is_contract = le-ltb (number 2 body) 32768 (rw ec at high)
 
-      pub function_code_refused : i < (len - 4) / 8 → TurnFollows p b (End (Refused (Code (p.at + 4 + 4 + 8 * i)))) (read_function p.at len body b)
+      pub function_code_refused : i < (len - 4) / 8 → TurnFollows p b (Err (Code (p.at + 4 + 4 + 8 * i))) (read_function p.at len body b)
       unfolding read_function
       function_code_refused bad = simp (free, is_contract, ← ei, lt-ltb i ((len - 4) / 8) bad) refl
 
@@ -80,7 +129,7 @@ module _ (p : Progress) (b : Block) (h : NumbersOfBlock p b) (len : ℕ) (body :
         rising : rises (map function_id b.functions) (number 2 body * 65536 + read_le 2 body 2) ≡ leb p.least id
         rising = rises_floor (map function_id b.functions) (number 2 body * 65536 + read_le 2 body 2) ∙ simp (← h.ids, ed, ec)
 
-        pub function_rising : id < p.least → TurnFollows p b (End (Refused (NotRising p.at))) (read_function p.at len body b)
+        pub function_rising : id < p.least → TurnFollows p b (Err (NotRising p.at)) (read_function p.at len body b)
         unfolding read_function
         function_rising below = simp (free, is_contract, ← ei, le-ltb i ((len - 4) / 8) good, rising, lt-leb p.least id below) refl
 
@@ -91,7 +140,7 @@ module _ (p : Progress) (b : Block) (h : NumbersOfBlock p b) (len : ℕ) (body :
         unfolding f
         id_is = simp (ed, ec)
 
-        pub function_more : p.least ≤ id → TurnFollows p b (AddFunction (after_function p len id) id (p.at + 4 + 4) ((len - 4) / 8)) (read_function p.at len body b)
+        pub function_more : p.least ≤ id → TurnFollows p b (Ok (AddFunction (after_function p len id) id (p.at + 4 + 4) ((len - 4) / 8))) (read_function p.at len body b)
         unfolding read_function f
         function_more above =
             simp (free, is_contract, ← ei, le-ltb i ((len - 4) / 8) good, rising, le-leb p.least id above) (
@@ -160,7 +209,7 @@ balance_bits field bits e z = above_zero bits (simp (eq-eqb field 0 z) at e)
 -- ---- an opening cell
 
 module _ (p : Progress) (b : Block) (h : NumbersOfBlock p b) (len : ℕ) (body : List ℕ) where
-  pub cell_limit_lem : 1024 ≤ p.cells → TurnFollows p b (End (Refused (BeyondLimit p.at))) (read_cell p.at len body b)
+  pub cell_limit_lem : 1024 ≤ p.cells → TurnFollows p b (Err (BeyondLimit p.at)) (read_cell p.at len body b)
   unfolding read_cell
   cell_limit_lem full = simp (le-leb 1024 (length b.cells) (rw h.cells at full)) refl
 
@@ -169,7 +218,7 @@ module _ (p : Progress) (b : Block) (h : NumbersOfBlock p b) (len : ℕ) (body :
     has_room : leb 1024 (length b.cells) ≡ false
     has_room = lt-leb 1024 (length b.cells) (rw h.cells at room)
 
-    pub cell_key_refused : key_allowed (address_of address) field x y ≡ false → TurnFollows p b (End (Refused (Field p.at))) (read_cell p.at len body b)
+    pub cell_key_refused : key_allowed (address_of address) field x y ≡ false → TurnFollows p b (Err (Field p.at)) (read_cell p.at len body b)
     unfolding read_cell cell_allowed
     cell_key_refused bad = simp (has_room, rw (e₁, e₂, e₃, e₄) at bad) refl
 
@@ -177,7 +226,7 @@ module _ (p : Progress) (b : Block) (h : NumbersOfBlock p b) (len : ℕ) (body :
       key_good : key_allowed (address_of (number 2 body)) (read_le 2 body 2) (read_le 4 body 4) (read_le 4 body 8) ≡ true
       key_good = rw (e₁, e₂, e₃, e₄) at good
 
-      pub cell_value : value_allowed field bits ≡ false → TurnFollows p b (End (Refused (Field p.at))) (read_cell p.at len body b)
+      pub cell_value : value_allowed field bits ≡ false → TurnFollows p b (Err (Field p.at)) (read_cell p.at len body b)
       unfolding read_cell cell_allowed
       cell_value bad = simp (has_room, key_good, rw (e₂, e₅) at bad) refl
 
@@ -192,7 +241,7 @@ module _ (p : Progress) (b : Block) (h : NumbersOfBlock p b) (len : ℕ) (body :
         cell_rises : rises (map (λ c. c.key) b.cells) (cell_of body).key ≡ leb (p.high * 2 ^ 32 + p.low) (high * 2 ^ 32 + y)
         cell_rises = rises_floor (map (λ c. c.key) b.cells) (cell_of body).key ∙ rw (h.keys, the_key)
 
-        pub cell_rising : leb (p.high * 2 ^ 32 + p.low) (high * 2 ^ 32 + y) ≡ false → TurnFollows p b (End (Refused (NotRising p.at))) (read_cell p.at len body b)
+        pub cell_rising : leb (p.high * 2 ^ 32 + p.low) (high * 2 ^ 32 + y) ≡ false → TurnFollows p b (Err (NotRising p.at)) (read_cell p.at len body b)
         unfolding read_cell
         cell_rising below = simp (has_room, is_allowed, cell_rises, below) refl
 
@@ -209,11 +258,11 @@ module _ (p : Progress) (b : Block) (h : NumbersOfBlock p b) (len : ℕ) (body :
               go true e = rw (← e₅, signed_low 64 bits (balance_bits field bits right (eqb-true field 0 e))) refl
               go false e = sym (+ℤ_idr (pos p.sum))
 
-          pub cell_sum : 2 ^ 63 - 1 < sum → TurnFollows p b (End (Refused (Balances p.at))) (read_cell p.at len body b)
+          pub cell_sum : 2 ^ 63 - 1 < sum → TurnFollows p b (Err (Balances p.at)) (read_cell p.at len body b)
           unfolding read_cell
           cell_sum over = simp (has_room, is_allowed, cell_rises, above, ← new_sum, lt-leb sum (2 ^ 63 - 1) over) refl
 
-          pub cell_more : sum ≤ 2 ^ 63 - 1 → TurnFollows p b (More (after_cell p len high y sum)) (read_cell p.at len body b)
+          pub cell_more : sum ≤ 2 ^ 63 - 1 → TurnFollows p b (Ok (More (after_cell p len high y sum))) (read_cell p.at len body b)
           unfolding read_cell
           cell_more under =
               simp (has_room, is_allowed, cell_rises, above, ← new_sum, le-leb sum (2 ^ 63 - 1) under) (
@@ -240,7 +289,7 @@ module _ (p : Progress) (b : Block) (h : NumbersOfBlock p b) (len : ℕ) (body :
 -- ---- a call
 
 module _ (p : Progress) (b : Block) (h : NumbersOfBlock p b) (len : ℕ) (body : List ℕ) where
-  pub call_limit_lem : 256 ≤ p.calls → TurnFollows p b (End (Refused (BeyondLimit p.at))) (read_call p.at len body b)
+  pub call_limit_lem : 256 ≤ p.calls → TurnFollows p b (Err (BeyondLimit p.at)) (read_call p.at len body b)
   unfolding read_call
   call_limit_lem full = simp (le-leb 256 (length b.calls) (rw h.calls at full)) refl
 
@@ -248,15 +297,15 @@ module _ (p : Progress) (b : Block) (h : NumbersOfBlock p b) (len : ℕ) (body :
     call_room : leb 256 (length b.calls) ≡ false
     call_room = lt-leb 256 (length b.calls) (rw h.calls at room)
 
-    pub call_field : call_of body ≡ OutOfRange → TurnFollows p b (End (Refused (Field p.at))) (read_call p.at len body b)
+    pub call_field : call_of body ≡ OutOfRange → TurnFollows p b (Err (Field p.at)) (read_call p.at len body b)
     unfolding read_call withCall
     call_field bad = simp (call_room, bad) refl
 
-    pub call_unfuelled : (c : Call) → call_of body ≡ InRange c → c.fuel ≡ 0 → TurnFollows p b (End (Refused (Field p.at))) (read_call p.at len body b)
+    pub call_unfuelled : (c : Call) → call_of body ≡ InRange c → c.fuel ≡ 0 → TurnFollows p b (Err (Field p.at)) (read_call p.at len body b)
     unfolding read_call withCall
     call_unfuelled c good none' = simp (call_room, good, eq-eqb c.fuel 0 none') refl
 
-    pub call_more : (c : Call) → call_of body ≡ InRange c → ¬ (c.fuel ≡ 0) → TurnFollows p b (More (after_call p len)) (read_call p.at len body b)
+    pub call_more : (c : Call) → call_of body ≡ InRange c → ¬ (c.fuel ≡ 0) → TurnFollows p b (Ok (More (after_call p len))) (read_call p.at len body b)
     unfolding read_call withCall
     call_more c good some =
         simp (call_room, good, ne_eqb c.fuel 0 some) (

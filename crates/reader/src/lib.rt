@@ -9,7 +9,7 @@ mod record;
 ghost use Rattle.std.specs.Prelude.{◌≡◌, ◌+◌, ◌*◌, ◌^◌, ◌-◌, ◌<◌};
 ghost use Rattle.block.specs.Reader.{read_block, refused};
 ghost use Rattle.reader.specs.Layout.{layout_of};
-ghost use Rattle.reader.specs.Standing.{progress_start, layout_left};
+ghost use Rattle.reader.specs.Standing.{left_of};
 
 use crate::record::read_record;
 use block::limits::{MAX_BYTES, MAX_FUNCTIONS};
@@ -32,7 +32,7 @@ pub struct Layout {
 
 // How far the reader has come: behind a record of a kind, at a position, with the counts and offsets of the block so far; `least` is
 // the least function id that may come next, `high` * 2^32 + `low` the least key, and `sum` the sum of the balances.
-#[derive(Clone, Copy)]
+#[derive(Clone, Copy, Default)]
 pub struct Progress {
     pub kind: usize,
     pub at: usize,
@@ -47,7 +47,7 @@ pub struct Progress {
     pub sum: u64,
 }
 
-// What a record leads to: the next record, behind a function with what the tables keep of it or behind another record, or the answer.
+// What a record leads to: the next record, behind a function with what the tables keep of it or behind another record, or the end.
 #[derive(Clone, Copy)]
 pub enum Turn {
     More(Progress),
@@ -57,7 +57,7 @@ pub enum Turn {
         start: usize,
         size: usize,
     },
-    End(Verdict),
+    End,
 }
 
 // What is left of a refused file.
@@ -77,83 +77,51 @@ fn refused(why: Refusal) -> Layout
     }
 }
 
-// What the reader leaves: all zero if the file is refused.
-fn leave(
-    verdict: Verdict,
-    p: Progress,
-    ids: [u64; MAX_FUNCTIONS],
-    starts: [usize; MAX_FUNCTIONS],
-    sizes: [usize; MAX_FUNCTIONS],
-) -> Layout
-    ensures { result ≡ layout_left verdict p ids starts sizes }
-{
-    match verdict {
-        Verdict::Refused(why) => refused(why),
-        Verdict::Accepted => Layout {
-            verdict: Verdict::Accepted,
-            functions: p.functions,
-            cells: p.cells,
-            calls: p.calls,
-            opening: p.opening,
-            first_call: p.first_call,
-            ids,
-            starts,
-            sizes,
-        },
-    }
-}
-
-// Before the first record.
-fn start() -> Progress
-    ensures { result ≡ progress_start }
-{
-    Progress {
-        kind: 0,
-        at: 0,
-        functions: 0,
-        cells: 0,
-        calls: 0,
-        opening: 0,
-        first_call: 0,
-        least: 0,
-        high: 0,
-        low: 0,
-        sum: 0,
-    }
-}
-
 // The reader, record by record to the answer.
-pub fn read_block(file: &[u8]) -> Layout
-    ensures { result ≡ layout_of (read_block file.now) }
+fn read_records(file: &[u8]) -> Result<Layout, Refusal>
+    ensures { left_of result ≡ layout_of (read_block file.now) }
 {
     if MAX_BYTES < file.len() {
-        return refused(Refusal::InputTooLong);
+        return Err(Refusal::InputTooLong);
     }
-    let mut ids = [0u64; MAX_FUNCTIONS];
-    let mut starts = [0usize; MAX_FUNCTIONS];
-    let mut sizes = [0usize; MAX_FUNCTIONS];
-    let mut p = start();
+    let mut ids = [0; MAX_FUNCTIONS];
+    let mut starts = [0; MAX_FUNCTIONS];
+    let mut sizes = [0; MAX_FUNCTIONS];
+    let mut p = Progress::default();
     loop {
-        let at = p.at;
-        match read_record(&file[at..], file.len(), p) {
-            Turn::More(q) => {
-                p = q;
-            }
+        match read_record(&file[p.at..], p)? {
+            Turn::More(next) => p = next,
             Turn::Function {
                 next,
                 id,
                 start,
                 size,
             } => {
-                let n = p.functions;
-                ids[n] = id;
-                starts[n] = start;
-                sizes[n] = size;
+                ids[p.functions] = id;
+                starts[p.functions] = start;
+                sizes[p.functions] = size;
                 p = next;
             }
-            Turn::End(verdict) => {
-                return leave(verdict, p, ids, starts, sizes);
+            Turn::End => {
+                return Ok(Layout {
+                    verdict: Verdict::Accepted,
+                    functions: p.functions,
+                    cells: p.cells,
+                    calls: p.calls,
+                    opening: p.opening,
+                    first_call: p.first_call,
+                    ids,
+                    starts,
+                    sizes,
+                });
             }
         }
     }
+}
+
+// What the reader leaves: all zero if the file is refused.
+pub fn read_block(file: &[u8]) -> Layout
+    ensures { result ≡ layout_of (read_block file.now) }
+{
+    read_records(file).unwrap_or_else(refused)
 }

@@ -2,17 +2,16 @@
 use mathlib.Core.Path.{◌≡◌, refl, sym, ap, ◌∙◌}
 use mathlib.Core.Bool.{Bool, true, false}
 use mathlib.Core.List.{List, [], ◌∷◌}
-use Prim.Native.Nat.{ℕ, zero, suc, ◌+◌, ◌-◌, ◌≤◌, ◌<◌, min}
+use Prim.Native.Nat.{ℕ, zero, suc, ◌+◌, ◌≤◌, ◌<◌}
 use native.Mathlib.Numerals.{add-one}
 use native.Mathlib.Omega.{arith}
 use Rattle.wire.specs.Bytes.{below}
-use Rattle.block.specs.Limits.{max_calls}
 use Rattle.machine.proofs.RefusedLaws.{step_unmoved}
 use Rattle.machine.proofs.SerialRunLaws.{run_calls_append}
 use Rattle.machine.specs.Answer.{answer_number}
 use Rattle.machine.specs.Run.{Run}
-use Rattle.machine.specs.Moves.{Moved, begin_of, step_of}
-use Rattle.machine.specs.Serial.{is_serial_idle, max_steps, step_to_end, run_call, run_calls, serial_run}
+use Rattle.machine.specs.Moves.{Moved, step_of}
+use Rattle.machine.specs.Serial.{is_serial_idle, step_to_end, run_call, run_calls}
 
 -- ---- the calls
 
@@ -26,14 +25,6 @@ module _ (block : List ℕ) (r : Run) where
   unfolding run_calls below
   calls_next c before made =
       made ∙ rw (before, add-one c) (sym (run_calls_append block r (below c) (c ∷ [])))
-
-  -- The calls below the number of all are the serial run.
-  pub calls_all : {c : ℕ} {q : Run} → q ≡ run_calls block r (below c) → c ≡ min r.head.calls max_calls → q ≡ serial_run block r
-  calls_all before e = before ∙ rw e
-
--- The steps behind a call's begin.
-pub begun_call_run : (block : List ℕ) (r : Run) (c : ℕ) {m : Moved} {s : Run} → m ≡ begin_of r 0 c → s ≡ step_to_end max_steps block m.run → s ≡ run_call block r c
-begun_call_run block r c begun made = made ∙ rw begun
 
 -- ---- the steps
 
@@ -50,12 +41,12 @@ module _ (block : List ℕ) (r : Run) where
   steps_idle (suc left) h e = rw (← e, step_to_end)
 
   pub steps_next :
-      (left : ℕ) → 0 < left → false ≡ is_serial_idle r → {m : Moved} → m ≡ step_of block r 0 →
-      step_to_end left block r ≡ step_to_end (left - 1) block m.run
+      (left : ℕ) → 0 < left → false ≡ is_serial_idle r → {m : Moved} → m ≡ step_of block r 0 → (rest : ℕ) → rest + 1 ≡ left →
+      step_to_end left block r ≡ step_to_end rest block m.run
   unfolding step_to_end
-  steps_next zero h e made = absurd (omega arith)
-  steps_next (suc left) h e made =
-      let z : suc left - 1 ≡ left = omega arith in
+  steps_next zero h e made rest n = absurd (omega arith)
+  steps_next (suc left) h e made rest n =
+      let z : rest ≡ left = omega arith in
       rw (← e, step_to_end, z, made)
 
 -- ---- a refused step

@@ -1,9 +1,7 @@
 // The serial run on a run that the caller lends: calls 0, 1, .. each begun on worker 0 and stepped to its end.
 #![tactic(auto)]
 
-ghost use Rattle.std.specs.Prelude.{◌≡◌, min, eqb};
-ghost use Rattle.block.specs.Limits.{max_calls};
-ghost use Rattle.machine.specs.Run.{held_at};
+ghost use Rattle.std.specs.Prelude.{◌≡◌};
 ghost use Rattle.machine.specs.Serial.{max_steps, step_to_end, run_call, serial_run};
 ghost use Rattle.moves.specs.Lent.{lent};
 
@@ -18,13 +16,6 @@ const MAX_STEPS: usize = MAX_FUEL + 2;
 
 // The worker of the serial run.
 const WORKER: usize = 0;
-
-// Whether that worker holds no call.
-fn is_idle(head: Head) -> bool
-    ensures { result ≡ eqb (held_at head 0) 0 }
-{
-    head.held[WORKER] == 0
-}
 
 // Steps until the worker is free. A refused step changes nothing, so none behind it would: in a damaged run the first one ends them.
 fn step_to_end(
@@ -41,20 +32,17 @@ fn step_to_end(
         ≡ step_to_end max_steps block.now
         (lent head plan.now keys.now cells.old status.old seats.old frames.old) }
 {
-    let mut left = MAX_STEPS;
-    while 0 < left {
-        if is_idle(head) {
+    for _ in 0..MAX_STEPS {
+        if head.held[WORKER] == 0 {
             return head;
         }
         let reply = step(
             head, block, plan, keys, cells, status, seats, frames, WORKER,
         );
-        let answer = reply.answer;
         head = reply.head;
-        if answer_number(answer) != 0 {
+        if answer_number(reply.answer) != 0 {
             return head;
         }
-        left -= 1;
     }
     head
 }
@@ -80,15 +68,7 @@ fn run_call(
     step_to_end(reply.head, block, plan, keys, cells, status, seats, frames)
 }
 
-// The number of the calls that are run, also where a damaged head has more than a block can.
-fn call_count(head: Head) -> usize
-    ensures { result ≡ min head.calls max_calls }
-{
-    let calls = head.calls;
-    if calls < MAX_CALLS { calls } else { MAX_CALLS }
-}
-
-// "Serial run: calls 0, 1, .. each begun and stepped to its end."
+// "Serial run: calls 0, 1, .. each begun and stepped to its end.", as many as a block can have where a damaged head has more.
 pub fn serial_run(
     mut head: Head,
     block: &[u8],
@@ -103,11 +83,8 @@ pub fn serial_run(
         ≡ serial_run block.now
         (lent head plan.now keys.now cells.old status.old seats.old frames.old) }
 {
-    let calls = call_count(head);
-    let mut call = 0;
-    while call < calls {
+    for call in 0..head.calls.min(MAX_CALLS) {
         head = run_call(head, block, plan, keys, cells, status, seats, frames, call);
-        call += 1;
     }
     head
 }

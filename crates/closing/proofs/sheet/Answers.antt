@@ -31,16 +31,16 @@ returns-then-count-gt-MAX_KEYS c =
 
 pub write_sheet-requires : goal.write_sheet-requires
 write_sheet-requires c =
-    record { count_le_max_keys = omega (arith, c.if-count-gt-MAX_KEYS.false); calls_le_max_calls = omega (arith, c.if-calls-gt-MAX_CALLS.false); records_value = (found_records c.args.keys.now c.args.cells.now _ (sym c.cells_found.ensures ∙ c.in-Records.is)).1 }
+    record { count_le_max_keys = omega (arith, c.if-count-gt-MAX_KEYS.false); calls_le_max_calls = omega (arith, c.if-calls-gt-MAX_CALLS.false); records_value = (found_records c.args.keys.now c.args.cells.now _ (sym c.cells_found.ensures ∙ c.in-Some.is)).1 }
 
-pub returns-in-BelowZero : goal.returns-in-BelowZero
+pub returns-in_default : goal.returns-in_default
 unfolding sheet_of
-returns-in-BelowZero c =
-    let below = found_below c.args.keys.now c.args.cells.now _ (sym c.cells_found.ensures ∙ c.in-BelowZero.is) in
+returns-in_default c =
+    let below = found_below c.args.keys.now c.args.cells.now _ (sym c.cells_found.ensures ∙ c.in_default.is) in
     closed_as (simp (below, le-ltb _ _ c.if-count-gt-MAX_KEYS.false, sym c.all_finished.ensures ∙ c.if-not-all_finished.false, sym c.states_allowed.ensures ∙ c.if-not-states_allowed.false, le-ltb _ _ c.if-calls-gt-MAX_CALLS.false, sym c.large_enough-large.ensures ∙ c.if-not-large.false))
 
-pub returns-in-Records : goal.returns-in-Records
+pub returns : goal.returns
 unfolding sheet_of sheet_records
-returns-in-Records c =
-    let allowed = (found_records c.args.keys.now c.args.cells.now _ (sym c.cells_found.ensures ∙ c.in-Records.is)).0 in
+returns c =
+    let allowed = (found_records c.args.keys.now c.args.cells.now _ (sym c.cells_found.ensures ∙ c.in-Some.is)).0 in
     closed_as (simp (allowed, le-ltb _ _ c.if-count-gt-MAX_KEYS.false, sym c.all_finished.ensures ∙ c.if-not-all_finished.false, sym c.states_allowed.ensures ∙ c.if-not-states_allowed.false, le-ltb _ _ c.if-calls-gt-MAX_CALLS.false, sym c.large_enough-large.ensures ∙ c.if-not-large.false) c.write_sheet.ensures)

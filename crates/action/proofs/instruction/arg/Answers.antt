@@ -1,12 +1,11 @@
 -- `action::instruction::arg` meets its contract: the four arguments have 32 bits, so a register holds them.
-use mathlib.Core.Path.{ap}
+use mathlib.Core.Path.{ap, ◌∙◌}
+use lib.IntN.{pos}
 use native.Mathlib.Omega.{arith}
-use lib.IntN.{ℤ, pos}
+use Rattle.arith.proofs.Laws.{read_back}
 use Rattle.block.specs.declared.Call.{Call}
 use Rattle.footprint.proofs.SetAccessLaws.{argument_below}
 use Rattle.footprint.specs.SafeSets.{InRanges}
-use Rattle.machine.specs.Action.{assign}
-use Rattle.action.proofs.Laws.{of_value}
 use Rattle.action.proofs.instruction.arg.Goals as goal
 
 pub overflow_cast-argument : goal.overflow_cast-argument
@@ -17,6 +16,4 @@ overflow_cast-argument c =
     record { sfits = rw c.argument.ensures (omega (arith, argument_below call c.args.k ranges)) }
 
 pub returns : goal.returns
-returns c =
-    of_value (λ (z : ℤ). assign c.args.place c.args.regs c.args.x z) c.assign.ensures (overflow_cast-argument c.before)
-    (ap pos c.argument.ensures)
+returns c = c.assign.ensures ∙ simp (read_back {z = pos c.argument.result} (overflow_cast-argument c.before) ∙ ap pos c.argument.ensures)

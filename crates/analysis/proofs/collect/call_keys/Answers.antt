@@ -6,7 +6,8 @@ use lib.ListN.{length}
 use Rattle.block.specs.Limits.{max_bytes}
 use Rattle.block.specs.Record.{call_record_bytes}
 use Rattle.block.specs.BlockOfFile.{block_of}
-use Rattle.analysis.proofs.CallLaws.{collecting_start, going_place, set_worded, going_over, going_full, collecting_more, collecting_end, going_refused}
+use Rattle.analysis.specs.Gathered.{Gathered}
+use Rattle.analysis.proofs.CallLaws.{collecting_start, going_place, set_words, going_over, going_full, collecting_more, collecting_end, going_refused}
 use Rattle.analysis.proofs.collect.call_keys.Goals.{In-loop-call}
 use Rattle.analysis.proofs.collect.call_keys.Goals as goal
 
@@ -27,55 +28,40 @@ overflow_mul-at c = omega (arith, inside (goal.at.overflow_mul-at c).In-loop-cal
 pub overflow_add-at : goal.overflow_add-at
 overflow_add-at c = omega (arith, inside (goal.at.overflow_add-at c).In-loop-call)
 
-pub call_sets-s-requires : goal.call_sets-s-requires
-call_sets-s-requires c =
-    record { layout_of_block = c.requires.layout_of_block; call_in_bounds = (inside (goal.at.call_sets-s-requires c).In-loop-call).1 }
+pub call_sets-requires-clause-call_in_bounds : goal.call_sets-requires-clause-call_in_bounds
+call_sets-requires-clause-call_in_bounds c = (inside (goal.at.call_sets-requires-clause-call_in_bounds c).In-loop-call).1
 
-pub shape_of-keys-then-s : goal.shape_of-keys-then-s
-shape_of-keys-then-s c =
-    c.refuse_keys.auto.keys ∙ c.loop-call.invariant.kept
-
-pub returns-then-s : goal.returns-then-s
-returns-then-s c =
+pub returns-in_default : goal.returns-in_default
+unfolding Gathered
+returns-in_default c =
     let g = c.loop-call in
-    let h = (inside (goal.at.returns-then-s c).In-loop-call).1 in
+    let h = (inside (goal.at.returns-in_default c).In-loop-call).1 in
     going_refused c.args.file.now c.args.l c.requires.layout_of_block c.args.keys.now g.keys g.n g.call g.invariant _ _ g.keys _ g.invariant.kept
-    (going_over c.args.file.now c.args.l c.requires.layout_of_block c.args.keys.now g.keys g.n g.call g.invariant h _ c.call_sets-s.ensures _ refl c.if-s.true)
+    (going_over c.args.file.now c.args.l c.requires.layout_of_block c.args.keys.now g.keys g.n g.call g.invariant h _ refl c.in_default.ensures)
     c.refuse_keys.ensures
 
-pub insert_sets-n-requires : goal.insert_sets-n-requires
-insert_sets-n-requires c =
+pub insert_sets-requires-clause-worded : goal.insert_sets-requires-clause-worded
+unfolding Gathered
+insert_sets-requires-clause-worded c =
     let g = c.loop-call in
-    let h = (inside (goal.at.insert_sets-n-requires c).In-loop-call).1 in
-    record { tabled = g.invariant.tabled; sets_worded = set_worded c.args.file.now c.args.l c.requires.layout_of_block c.args.keys.now g.keys g.n g.call g.invariant h _ c.call_sets-s.ensures }
+    let h = (inside (goal.at.insert_sets-requires-clause-worded c).In-loop-call).1 in
+    set_words c.args.file.now c.args.l c.requires.layout_of_block c.args.keys.now g.keys g.n g.call g.invariant h _ c.in-Some.ensures
 
-pub shape_of-keys-then-n-gt-MAX_KEYS : goal.shape_of-keys-then-n-gt-MAX_KEYS
-shape_of-keys-then-n-gt-MAX_KEYS c =
-    c.refuse_keys-then-n-gt-MAX_KEYS.auto.keys ∙ c.insert_sets-n.auto.keys ∙ c.loop-call.invariant.kept
-
-pub returns-then-n-gt-MAX_KEYS : goal.returns-then-n-gt-MAX_KEYS
-returns-then-n-gt-MAX_KEYS c =
+pub returns-in_default-insert_sets : goal.returns-in_default-insert_sets
+unfolding Gathered
+returns-in_default-insert_sets c =
     let g = c.loop-call in
-    let h = (inside (goal.at.returns-then-n-gt-MAX_KEYS c).In-loop-call).1 in
-    going_refused c.args.file.now c.args.l c.requires.layout_of_block c.args.keys.now g.keys g.n g.call g.invariant _ _ c.insert_sets-n.new.keys _ (c.insert_sets-n.auto.keys ∙ g.invariant.kept)
-    (going_full c.args.file.now c.args.l c.requires.layout_of_block c.args.keys.now g.keys g.n g.call g.invariant h _ c.call_sets-s.ensures c.if-s.false _ _ c.insert_sets-n.ensures _ refl c.if-n-gt-MAX_KEYS.true)
-    c.refuse_keys-then-n-gt-MAX_KEYS.ensures
-
-pub overflow_add-call : goal.overflow_add-call
-overflow_add-call c =
-    omega (arith, inside (goal.at.overflow_add-call c).In-loop-call)
-
-pub loop-call-smaller : goal.loop-call-smaller
-loop-call-smaller c = omega arith
+    let h = (inside (goal.at.returns-in_default-insert_sets c).In-loop-call).1 in
+    going_refused c.args.file.now c.args.l c.requires.layout_of_block c.args.keys.now g.keys g.n g.call g.invariant _ _ c.insert_sets.new.keys _ (c.insert_sets.auto.keys ∙ g.invariant.kept)
+    (going_full c.args.file.now c.args.l c.requires.layout_of_block c.args.keys.now g.keys g.n g.call g.invariant h _ c.in-Some.ensures _ _ c.insert_sets.ensures _ refl c.in_default-insert_sets.is)
+    c.refuse_keys-in_default-insert_sets.ensures
 
 pub loop-call-preserved : goal.loop-call-preserved
+unfolding Gathered
 loop-call-preserved c =
     let g = c.loop-call in
     let h = (inside (goal.at.loop-call-preserved c).In-loop-call).1 in
-    collecting_more c.args.file.now c.args.l c.requires.layout_of_block c.args.keys.now g.keys g.n g.call g.invariant h _ c.call_sets-s.ensures c.if-s.false _ _ c.insert_sets-n.ensures c.if-n-gt-MAX_KEYS.false
-
-pub shape_of-keys : goal.shape_of-keys
-shape_of-keys c = c.loop-call.invariant.kept
+    collecting_more c.args.file.now c.args.l c.requires.layout_of_block c.args.keys.now g.keys g.n g.call g.invariant h _ c.in-Some.ensures _ _ c.insert_sets.ensures c.in-Some-insert_sets.is
 
 pub returns : goal.returns
 returns c =

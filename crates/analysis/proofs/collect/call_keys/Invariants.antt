@@ -1,9 +1,5 @@
-use Prim.Native.Nat.{◌-◌}
 use Rattle.analysis.proofs.CallLaws.{Collecting}
 use Rattle.analysis.proofs.collect.call_keys.Given as goal
 
 abbrev pub invariant-loop-call : goal.invariant-loop-call
 invariant-loop-call l = Collecting l.file l.initial.keys l.keys l.n l.call
-
-abbrev pub decreases-loop-call : goal.decreases-loop-call
-decreases-loop-call l = l.l.calls - l.call

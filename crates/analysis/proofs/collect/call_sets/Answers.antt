@@ -1,8 +1,8 @@
 -- `analysis::collect::call_sets` meets its contract: the record of call j holds a call, and its set is that of the code of its function.
-use mathlib.Core.Path.{ap, ◌∙◌}
+use mathlib.Core.Path.{subst, ap, ◌∙◌}
 use Rattle.analysis.specs.declared.Code.{Code}
 use Rattle.analysis.specs.Coded.{code_sets}
-use Rattle.analysis.specs.Gathered.{gathered}
+use Rattle.analysis.specs.Gathered.{Gathered}
 use Rattle.analysis.proofs.LayoutLaws.{laid_narrow, call_within, call_there, call_set}
 use Rattle.analysis.proofs.CollectLaws.{read_at, code_short}
 use Rattle.analysis.proofs.collect.call_sets.Goals as goal
@@ -22,9 +22,10 @@ sets_of-requires c =
 pub returns-in-InRange : goal.returns-in-InRange
 returns-in-InRange c =
     let read = read_at c.args.file.now c.call_place.ensures c.call_at.ensures in
+    subst (Gathered c.sets_of.result)
+    (ap (λ (code : Code). code_sets c.args.file.now code c.in-InRange.c) c.code_of.ensures
+    ∙ call_set c.args.file.now c.args.l c.requires.layout_of_block c.args.call c.requires.call_in_bounds _ read c.in-InRange.is)
     c.sets_of.ensures
-    ∙ ap (λ (code : Code). gathered (code_sets c.args.file.now code c.in-InRange.c)) c.code_of.ensures
-    ∙ ap gathered (call_set c.args.file.now c.args.l c.requires.layout_of_block c.args.call c.requires.call_in_bounds _ read c.in-InRange.is)
 
 pub returns-in-OutOfRange : goal.returns-in-OutOfRange
 returns-in-OutOfRange c =

@@ -19,9 +19,6 @@ pub loop-i-init : goal.loop-i-init
 loop-i-init c =
     keys_opened_none c.args.file.now c.args.keys.now c.requires.keys_value
 
-pub overflow_add-at : goal.overflow_add-at
-overflow_add-at c = omega arith
-
 pub overflow_mul-at : goal.overflow_mul-at
 overflow_mul-at c = omega (arith, inside (goal.at.overflow_mul-at c).In-loop-i)
 
@@ -52,19 +49,10 @@ offset_bounds-keys-i-in-loop-i c = omega (arith, inside (goal.at.offset_bounds-k
 pub bounds-keys-i-in-loop-i : goal.bounds-keys-i-in-loop-i
 bounds-keys-i-in-loop-i c = simp length-set (omega (arith, inside (goal.at.bounds-keys-i-in-loop-i c).In-loop-i))
 
-pub overflow_add-i : goal.overflow_add-i
-overflow_add-i c = omega (arith, inside (goal.at.overflow_add-i c).In-loop-i)
-
-pub loop-i-smaller : goal.loop-i-smaller
-loop-i-smaller c = omega arith
-
 pub loop-i-preserved : goal.loop-i-preserved
 loop-i-preserved c =
     let g = c.loop-i in
     keys_opened_more c.args.file.now c.args.l c.requires.layout_of_block c.args.keys.now c.requires.max_keys_in_bounds g.keys g.i g.invariant c.loop-i-test.true refl c.cell_high.ensures c.cell_low.ensures
-
-pub shape_of-keys : goal.shape_of-keys
-shape_of-keys c = c.loop-i.invariant.kept
 
 pub returns : goal.returns
 returns c =

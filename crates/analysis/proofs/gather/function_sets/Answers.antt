@@ -1,77 +1,55 @@
 -- `analysis::gather::function_sets` meets its contract: after n instructions the set is that of the entry and of the first n.
 use native.Mathlib.Omega.{arith}
-use Prim.Native.Nat.{ℕ}
-use mathlib.Core.Path.{◌≡◌, refl, sym, ◌∙◌}
-use lib.ListN.{length, length-replicate}
-use Rattle.wire.specs.Bytes.{repeated}
+use Prim.Native.Nat.{ℕ, ◌+◌, ◌<◌}
+use mathlib.Core.List.{List, []}
+use mathlib.Core.Path.{◌≡◌, subst}
+use lib.ListN.{length}
 use Rattle.block.specs.Limits.{max_call_keys}
-use Rattle.analysis.specs.Gathered.{gathered}
-use Rattle.analysis.proofs.GatherLaws.{first_accesses, some_gathered, walk_start, walk_more, walk_end}
+use Rattle.footprint.proofs.SetAccessLaws.{entry_few, decoded_few}
+use Rattle.footprint.specs.Access.{Access, entry_accesses}
+use Rattle.footprint.specs.Sets.{merge_all, code_accesses}
+use Rattle.analysis.specs.Gathered.{Gathered, Holds}
+use Rattle.analysis.proofs.GatherLaws.{first_accesses, next_accesses, walk_more, walk_over}
 use Rattle.analysis.proofs.gather.function_sets.Goals as goal
 
-zeros : length {A = ℕ} (repeated max_call_keys 0) ≡ max_call_keys
-unfolding repeated
-zeros = length-replicate {A = ℕ} max_call_keys 0
-
-pub slice_bounds-with_uses-end : goal.slice_bounds-with_uses-end
-unfolding repeated
-slice_bounds-with_uses-end c = sym zeros
-
-pub slice_bounds-with_uses-end-2 : goal.slice_bounds-with_uses-end-2
-unfolding repeated
-slice_bounds-with_uses-end-2 c = sym zeros
-
-pub slice_bounds-with_uses-end-3 : goal.slice_bounds-with_uses-end-3
-unfolding repeated
-slice_bounds-with_uses-end-3 c = sym zeros
-
-pub with_uses-t-requires : goal.with_uses-t-requires
-unfolding repeated
-with_uses-t-requires c = (omega arith, zeros, zeros, zeros)
+pub returns-in_err-with_uses : goal.returns-in_err-with_uses
+unfolding Gathered merge_all code_accesses
+returns-in_err-with_uses c =
+    let a = c.args in
+    rw c.from_residual.ensures
+    (walk_over a.c a.size a.code.now 0 (omega arith)
+    (c.in_err-with_uses.ensures [] (entry_accesses a.c) (entry_few a.c) c.no_keys-s.ensures c.entry_uses.ensures))
 
 pub loop-index-init : goal.loop-index-init
-unfolding gathered repeated
+unfolding Gathered merge_all code_accesses
 loop-index-init c =
     let a = c.args in
-    let made = c.with_uses-t in
-    let entry = walk_start a.c a.size a.code.now refl c.entry_uses.ensures made.ensures in
-    (omega arith, made.auto.highs ∙ zeros, made.auto.lows ∙ zeros, made.auto.flags ∙ zeros, entry)
+    c.in_ok-with_uses.ensures [] (entry_accesses a.c) (entry_few a.c) c.no_keys-s.ensures c.entry_uses.ensures
 
-pub uses_at-us-requires : goal.uses_at-us-requires
-uses_at-us-requires c = omega arith
-
-pub slice_bounds-with_uses-end-in-loop-index : goal.slice_bounds-with_uses-end-in-loop-index
-slice_bounds-with_uses-end-in-loop-index c = sym c.loop-index.invariant.1
-
-pub slice_bounds-with_uses-end-in-loop-index-2 : goal.slice_bounds-with_uses-end-in-loop-index-2
-slice_bounds-with_uses-end-in-loop-index-2 c = sym c.loop-index.invariant.2
-
-pub slice_bounds-with_uses-end-in-loop-index-3 : goal.slice_bounds-with_uses-end-in-loop-index-3
-slice_bounds-with_uses-end-in-loop-index-3 c = sym c.loop-index.invariant.3
-
-pub with_uses-t-requires-in-loop-index : goal.with_uses-t-requires-in-loop-index
-with_uses-t-requires-in-loop-index c =
+pub returns-in_err-with_uses-2 : goal.returns-in_err-with_uses-2
+unfolding Gathered
+returns-in_err-with_uses-2 c =
     let a = c.args in
     let l = c.loop-index in
-    (some_gathered (first_accesses a.c a.size a.code.now l.index) l.invariant.4, l.invariant.1, l.invariant.2, l.invariant.3)
-
-pub overflow_add-index : goal.overflow_add-index
-overflow_add-index c =
-    omega (arith, c.loop-index-test.true, c.requires)
-
-pub loop-index-smaller : goal.loop-index-smaller
-loop-index-smaller c = omega arith
+    rw c.from_residual-in_err-with_uses-2.ensures
+    (walk_over a.c a.size a.code.now (l.index + 1) (omega arith)
+    (subst (λ (es : List Access). max_call_keys < length es) (walk_more a.c a.size a.code.now l.index)
+    (c.in_err-with_uses-2.ensures (first_accesses a.c a.size a.code.now l.index) (next_accesses a.c a.size a.code.now l.index)
+    (decoded_few _ _) l.invariant c.uses_at.ensures)))
 
 pub loop-index-preserved : goal.loop-index-preserved
+unfolding Gathered
 loop-index-preserved c =
     let a = c.args in
     let l = c.loop-index in
-    let made = c.with_uses-t-in-loop-index in
-    let more = walk_more a.c a.size a.code.now l.index l.invariant.4 c.uses_at-us.ensures made.ensures in
-    (omega arith, made.auto.highs ∙ l.invariant.1, made.auto.lows ∙ l.invariant.2, made.auto.flags ∙ l.invariant.3, more)
+    subst (Holds _) (walk_more a.c a.size a.code.now l.index)
+    (c.in_ok-with_uses-2.ensures (first_accesses a.c a.size a.code.now l.index) (next_accesses a.c a.size a.code.now l.index)
+    (decoded_few _ _) l.invariant c.uses_at.ensures)
 
 pub returns : goal.returns
+unfolding Gathered
 returns c =
     let a = c.args in
     let l = c.loop-index in
-    walk_end a.c a.size a.code.now l.index l.invariant.4 l.invariant.0 c.loop-index-test.false
+    let end : l.index ≡ a.size = omega arith in
+    subst (λ (n : ℕ). Holds l.s (first_accesses a.c a.size a.code.now n)) end l.invariant

@@ -1,31 +1,23 @@
--- `analysis::gather::with_use` meets its contract: its four returns are the four cases of the definition.
-use Rattle.analysis.specs.Gathered.{in_parts}
-use Rattle.analysis.proofs.GatherLaws.{use_over, use_known, use_past, use_new, all_clear}
+-- `analysis::gather::with_use` meets its contract: a use joins that of its key, or its key is a new one.
+use native.Mathlib.Omega.{arith}
+use mathlib.Core.Path.{sym, ◌∙◌}
+use Rattle.analysis.specs.Gathered.{Gathered}
+use Rattle.analysis.proofs.GatheredLaws.{use_joins, use_joined, new_count, new_keys}
 use Rattle.analysis.proofs.gather.with_use.Goals as goal
 
-pub returns-then-t : goal.returns-then-t
-returns-then-t c =
-    let a = c.args in
-    use_over (in_parts a.t a.highs.now a.lows.now a.flags.now) a.u c.if-t.true
+pub returns-in-Some : goal.returns-in-Some
+unfolding Gathered
+returns-in-Some c es a h e =
+    let found = sym c.in-Some.is ∙ c.place.ensures in
+    record { count = use_joined c.args.s.now es a h e c.in-Some.at found; keys = use_joins c.args.s.now es a h e c.in-Some.at found }
 
-pub returns-then-at-t : goal.returns-then-at-t
-returns-then-at-t c =
-    let a = c.args in
-    use_known (in_parts a.t a.highs.now a.lows.now a.flags.now) a.u
-    c.if-t.false c.place-at.ensures c.use_flags-joining.ensures c.if-at-t.true
-
-pub returns-then-at-ge-MAX_CALL_KEYS : goal.returns-then-at-ge-MAX_CALL_KEYS
-returns-then-at-ge-MAX_CALL_KEYS c =
-    let a = c.args in
-    use_past (in_parts a.t a.highs.now a.lows.now a.flags.now) a.u
-    c.if-t.false c.place-at.ensures
-    (all_clear a.highs.now a.lows.now a.flags.now
-    c.clear_words.ensures c.clear_words-then-at-ge-MAX_CALL_KEYS.ensures c.clear_words-then-at-ge-MAX_CALL_KEYS-2.ensures
-    c.requires.1 c.requires.2 c.requires.3)
-    c.if-at-t.false c.if-at-ge-MAX_CALL_KEYS.true
+pub returns-then-s-eq-MAX_CALL_KEYS : goal.returns-then-s-eq-MAX_CALL_KEYS
+unfolding Gathered
+returns-then-s-eq-MAX_CALL_KEYS c es a h e =
+    omega (arith, new_count c.args.s.now es a h e (sym c.in_default.is ∙ c.place.ensures), c.if-s-eq-MAX_CALL_KEYS.true)
 
 pub returns : goal.returns
-returns c =
-    let a = c.args in
-    use_new (in_parts a.t a.highs.now a.lows.now a.flags.now) a.u
-    c.if-t.false c.place-at.ensures c.use_flags-joining.ensures c.if-at-t.false c.if-at-ge-MAX_CALL_KEYS.false
+unfolding Gathered
+returns c es a h e =
+    let none = sym c.in_default.is ∙ c.place.ensures in
+    record { count = new_count c.args.s.now es a h e none; keys = new_keys c.args.s.now es a h e none (omega arith) }

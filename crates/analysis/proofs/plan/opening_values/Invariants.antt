@@ -1,5 +1,4 @@
 use mathlib.Core.Path.{◌≡◌}
-use Prim.Native.Nat.{◌-◌, ◌≤◌}
 use lib.ListN.{length}
 use Rattle.footprint.specs.KeyWords.{keys_in}
 use Rattle.block.specs.BlockOfFile.{block_of}
@@ -7,8 +6,4 @@ use Rattle.analysis.proofs.PreparedLaws.{opened_to}
 use Rattle.analysis.proofs.plan.opening_values.Given as goal
 
 abbrev pub invariant-loop-i : goal.invariant-loop-i
-invariant-loop-i l =
-    (l.i ≤ l.l.cells) × (length l.values ≡ length l.initial.values) × (l.values ≡ opened_to (block_of l.file).cells (keys_in l.n l.keys) (length l.initial.values) l.i)
-
-abbrev pub decreases-loop-i : goal.decreases-loop-i
-decreases-loop-i l = l.l.cells - l.i
+invariant-loop-i l = l.values ≡ opened_to (block_of l.file).cells (keys_in l.n l.keys) (length l.initial.values) l.i

@@ -4,4 +4,4 @@ use Rattle.analysis.proofs.PlaceLaws.{place_cell}
 use Rattle.analysis.proofs.table.cell_number.Goals as goal
 
 pub returns : goal.returns
-returns c = c.key_place.ensures ∙ place_cell _ _ c.requires.sorted.rising
+returns c = c.key_place.ensures.place ∙ place_cell _ _ c.requires.sorted.rising

@@ -1,5 +1,4 @@
 -- `closing::records::put_cell` meets its contract: the record is stored for a value other than zero, and nothing for zero.
-use native.Mathlib.Omega.{arith}
 use mathlib.Core.Path.{sym, ◌∙◌}
 use Rattle.closing.proofs.Finding.{bits_told, cell_zero, cell_one, cell_size, cell_told}
 use Rattle.closing.proofs.Storing.{nothing_stored, one_stored}
@@ -9,21 +8,6 @@ pub returns-then-bits-eq0 : goal.returns-then-bits-eq0
 returns-then-bits-eq0 c =
     let bits = bits_told {v = c.value.result} (record { sfits = c.value.type_inv }) c.unsigned64-bits.ensures c.value.ensures in
     record { output_after = (nothing_stored c.args.output.now c.args.at (cell_zero _ _ (sym bits ∙ c.if-bits-eq0.true))).0; value = (nothing_stored c.args.output.now c.args.at (cell_zero _ _ (sym bits ∙ c.if-bits-eq0.true))).1 }
-
-pub overflow_mul-n : goal.overflow_mul-n
-overflow_mul-n c = omega arith
-
-pub overflow_mul-n-2 : goal.overflow_mul-n-2
-overflow_mul-n-2 c = omega arith
-
-pub overflow_add-n : goal.overflow_add-n
-overflow_add-n c = omega arith
-
-pub overflow_add-result : goal.overflow_add-result
-overflow_add-result c = omega arith
-
-pub overflow_add-result-2 : goal.overflow_add-result-2
-overflow_add-result-2 c = omega arith
 
 pub returns : goal.returns
 returns c =

@@ -5,12 +5,6 @@ use Rattle.wire.specs.Bytes.{stored}
 use Rattle.closing.proofs.Storing.{head_number}
 use Rattle.closing.proofs.records.put_head.Goals as goal
 
-pub overflow_mul-kind : goal.overflow_mul-kind
-overflow_mul-kind c = omega arith
-
-pub overflow_add-size : goal.overflow_add-size
-overflow_add-size c = omega arith
-
 pub returns : goal.returns
 returns c =
     c.put32.ensures ∙ ap (stored c.args.output.now c.args.at) (head_number c.args.size c.args.kind (omega arith) (omega arith))

@@ -1,4 +1,3 @@
-use Prim.Native.Nat.{◌-◌, ◌≤◌}
 use mathlib.Core.List.{◌++◌}
 use lib.ListN.{length}
 use Rattle.sheet.specs.Sheet.{cell_records, receipt_records, records_for}
@@ -6,17 +5,9 @@ use Rattle.closing.specs.Carried.{Carried, CarriedOn}
 use Rattle.closing.proofs.records.put_sheet.Given as goal
 
 abbrev pub invariant-loop-n : goal.invariant-loop-n
-invariant-loop-n l =
-    (l.n ≤ l.count) × Carried (records_for l.keys l.cells l.status l.count l.calls) l.initial.output (length (cell_records l.keys l.cells l.n 0)) l.at l.output
-
-abbrev pub decreases-loop-n : goal.decreases-loop-n
-decreases-loop-n l = l.count - l.n
+invariant-loop-n l = Carried (records_for l.keys l.cells l.status l.count l.calls) l.initial.output (length (cell_records l.keys l.cells l.n 0)) l.at l.output
 
 abbrev pub invariant-loop-call : goal.invariant-loop-call
 invariant-loop-call l =
-    (l.call ≤ l.calls)
-    × CarriedOn (records_for l.keys l.cells l.status l.count l.calls) (length (cell_records l.keys l.cells l.count 0)) l.initial.at l.initial.output
+    CarriedOn (records_for l.keys l.cells l.status l.count l.calls) (length (cell_records l.keys l.cells l.count 0)) l.initial.at l.initial.output
     (length (cell_records l.keys l.cells l.count 0 ++ receipt_records l.status l.call 0)) l.at l.output
-
-abbrev pub decreases-loop-call : goal.decreases-loop-call
-decreases-loop-call l = l.calls - l.call

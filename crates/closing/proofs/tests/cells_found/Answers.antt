@@ -1,47 +1,35 @@
 -- `closing::tests::cells_found` meets its contract: cell by cell, no balance so far is below zero, and the records are counted.
 use native.Mathlib.Omega.{arith}
-use mathlib.Core.Path.{sym, ap₂, ◌∙◌}
+use mathlib.Core.Path.{sym, ap, ap₂, ◌∙◌}
 use mathlib.Core.Bool.{◌||◌, not}
 use Prim.Native.Nat.{ℕ, ◌/◌, ◌%◌, ◌^◌}
 use lib.Dec.{eqb}
 use lib.IntN.{ℤ}
 use lib.Signed.{non_neg}
+use mir.Syntax.{w64}
+use Rattle.arith.specs.Exact.{unsigned}
+use Rattle.arith.proofs.IntegerLaws.{unsigned_of_z}
 use Rattle.arith.proofs.Laws.{read_back}
-use Rattle.closing.proofs.Finding.{looked_few, looked_none, looked_zero, looked_one, looked_below, looked_all, bits_told}
+use Rattle.closing.proofs.Finding.{looked_few, looked_none, looked_zero, looked_one, looked_below}
 use Rattle.closing.proofs.tests.cells_found.Goals as goal
-use Rattle.closing.proofs.tests.cells_found.Goals.{then-unsigned64-ne0, else-unsigned64-ne0}
+use Rattle.closing.proofs.tests.cells_found.Goals.{then-value-ne0, else-value-ne0}
 
 pub loop-n-init : goal.loop-n-init
 loop-n-init c = looked_none c.args.keys.now c.args.cells.now c.args.count
 
-pub overflow_mul-n : goal.overflow_mul-n
-overflow_mul-n c = omega (arith, c.loop-n-test.true)
-
 pub returns-then-not-balance_allowed : goal.returns-then-not-balance_allowed
 returns-then-not-balance_allowed c =
-    let turn = c.loop-n in
-    looked_below c.args.keys.now c.args.cells.now c.args.count _ _ turn.invariant c.loop-n-test.true
+    looked_below c.args.keys.now c.args.cells.now c.args.count _ _ c.loop-n.invariant c.loop-n-test.true
     (sym (c.balance_allowed.ensures ∙ ap₂ (λ (h : ℕ) (z : ℤ). not (eqb (h / 2 ^ 32 % 2 ^ 16) 0) || non_neg z) c.word-high.ensures (read_back {z = c.value-value.result} (record { sfits = c.value-value.type_inv }) ∙ c.value-value.ensures)) ∙ c.if-not-balance_allowed.true)
 
 pub overflow_add-records : goal.overflow_add-records
-overflow_add-records c =
-    omega (arith, looked_few c.args.keys.now c.args.cells.now c.args.count _ _ c.loop-n.invariant, c.loop-n-test.true)
-
-pub overflow_add-n : goal.overflow_add-n
-overflow_add-n c = omega (arith, c.loop-n-test.true)
-
-pub loop-n-smaller : goal.loop-n-smaller
-loop-n-smaller c = omega (arith, c.loop-n-test.true)
+overflow_add-records c = omega (arith, looked_few c.args.keys.now c.args.cells.now c.args.count _ _ c.loop-n.invariant)
 
 pub loop-n-preserved : goal.loop-n-preserved
 loop-n-preserved c =
-    let inv = c.loop-n.invariant in
-    let bits = bits_told {v = c.value-value.result} (record { sfits = c.value-value.type_inv }) c.unsigned64.ensures c.value-value.ensures in
+    let bits = sym (unsigned_of_z w64 c.value-value.result) ∙ ap (unsigned 64) c.value-value.ensures in
     let allowed = sym (c.balance_allowed.ensures ∙ ap₂ (λ (h : ℕ) (z : ℤ). not (eqb (h / 2 ^ 32 % 2 ^ 16) 0) || non_neg z) c.word-high.ensures (read_back {z = c.value-value.result} (record { sfits = c.value-value.type_inv }) ∙ c.value-value.ensures)) ∙ c.if-not-balance_allowed.false in
-    elim c.if-unsigned64-ne0.branch [
-      | then-unsigned64-ne0 w ↦ looked_one c.args.keys.now c.args.cells.now c.args.count _ _ inv c.loop-n-test.true allowed bits w.if-unsigned64-ne0.true w.records-is
-      | else-unsigned64-ne0 w ↦ looked_zero c.args.keys.now c.args.cells.now c.args.count _ _ inv c.loop-n-test.true allowed bits w.if-unsigned64-ne0.false w.records-is
+    elim c.if-value-ne0.branch [
+      | then-value-ne0 w ↦ looked_one c.args.keys.now c.args.cells.now c.args.count _ _ c.loop-n.invariant c.loop-n-test.true allowed bits w.if-value-ne0.true w.records-is
+      | else-value-ne0 w ↦ looked_zero c.args.keys.now c.args.cells.now c.args.count _ _ c.loop-n.invariant c.loop-n-test.true allowed bits w.if-value-ne0.false w.records-is
     ]
-
-pub returns : goal.returns
-returns c = looked_all c.args.keys.now c.args.cells.now c.args.count _ _ c.loop-n.invariant c.loop-n-test.false

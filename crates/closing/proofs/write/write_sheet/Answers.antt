@@ -6,17 +6,8 @@ use Rattle.sheet.proofs.SheetRecords.{cells_few}
 use Rattle.closing.proofs.SheetSizes.{sheet_length_lem, sheet_too_long, receipts_broken, sheet_whole}
 use Rattle.closing.proofs.write.write_sheet.Goals as goal
 
-pub overflow_add-length : goal.overflow_add-length
-overflow_add-length c = omega arith
-
 pub overflow_mul-length : goal.overflow_mul-length
 overflow_mul-length c = omega (arith, cells_few c.args.keys.now c.args.cells.now c.args.count 0)
-
-pub overflow_add-length-2 : goal.overflow_add-length-2
-overflow_add-length-2 c = omega arith
-
-pub overflow_mul-length-2 : goal.overflow_mul-length-2
-overflow_mul-length-2 c = omega arith
 
 pub overflow_add-length-3 : goal.overflow_add-length-3
 overflow_add-length-3 c = omega (arith, cells_few c.args.keys.now c.args.cells.now c.args.count 0)

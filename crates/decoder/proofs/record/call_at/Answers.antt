@@ -1,22 +1,14 @@
--- `block::record::call_at` meets its contract: a cut body is none, and a whole one is read from its own bytes.
-use mathlib.Core.Path.{sym, ap, ◌∙◌}
-use lib.Seq.{length-take-le}
+-- `decoder::record::call_at` meets its contract: a cut body is none, and a whole one is read from its own bytes.
+use mathlib.Core.Path.{ap, ◌∙◌}
 use native.Mathlib.Omega.{arith}
-use Rattle.block.specs.Record.{call_bytes, call_of}
+use Rattle.block.specs.Record.{call_of}
 use Rattle.decoder.proofs.Laws.{call_cut, call_taken}
 use Rattle.decoder.proofs.record.call_at.Goals as goal
 
-pub returns-then-rest-lt-CALL_BYTES : goal.returns-then-rest-lt-CALL_BYTES
-returns-then-rest-lt-CALL_BYTES c = call_cut c.from-rest.result.now c.if-rest-lt-CALL_BYTES.true ∙ ap call_of c.from-rest.ensures
-
-pub slice_bounds-call_in-end : goal.slice_bounds-call_in-end
-slice_bounds-call_in-end c = sym (length-take-le call_bytes c.from-rest.result.now c.if-rest-lt-CALL_BYTES.false)
-
-pub call_in-requires : goal.call_in-requires
-call_in-requires c =
-    let long = length-take-le call_bytes c.from-rest.result.now c.if-rest-lt-CALL_BYTES.false in
-    omega (arith, long)
+pub returns-in_default : goal.returns-in_default
+returns-in_default c = call_cut c.from.result.now (grind arith) ∙ ap call_of c.from.ensures
 
 pub returns : goal.returns
 returns c =
-    c.call_in.ensures ∙ call_taken c.from-rest.result.now c.if-rest-lt-CALL_BYTES.false ∙ ap call_of c.from-rest.ensures
+    let body = c.in-Some.ensures.lookup.0 in
+    c.call_in.ensures ∙ ap call_of body.2 ∙ call_taken c.from.result.now body.1 ∙ ap call_of c.from.ensures

@@ -1,58 +1,24 @@
 -- `moves::entries::restore` meets its contract: the cells so far, with the entries that are left restored, stay the cells with all restored.
 use borrow.Author.Rules.{rules}
-use native.Mathlib.Omega.{arith}
-use Prim.Native.Nat.{◌+◌, ◌*◌}
-use mathlib.Core.Path.{refl, sym, ◌∙◌}
+use mathlib.Core.Path.{sym, ap, ◌∙◌}
+use lib.IntN.{ℤ}
+use lib.ListN.{set}
 use mir.Syntax.{w64}
 use mir.Facts.{to_z-of_z}
-use Rattle.machine.specs.Run.{frame_values, registers}
+use Rattle.std.specs.Prelude.{if◌then◌else◌}
+use Rattle.footprint.specs.Plan.{entry_cell, entry_writes}
+use Rattle.std.proofs.lemmas.Slice.Zip.{Zip-more, either_empty_from_Zip}
 use Rattle.moves.proofs.EntryLaws.{restore_turn, restore_end}
 use Rattle.moves.proofs.entries.restore.Goals as goal
 
-pub overflow_mul-first : goal.overflow_mul-first
-overflow_mul-first c = omega arith
-
-pub overflow_add-first : goal.overflow_add-first
-overflow_add-first c = omega arith
-
-pub overflow_mul-base : goal.overflow_mul-base
-overflow_mul-base c = omega arith
-
-pub loop-k-init : goal.loop-k-init
-loop-k-init c = (omega arith, refl, refl)
-
-pub overflow_add-base-in-loop-k : goal.overflow_add-base-in-loop-k
-overflow_add-base-in-loop-k c = omega arith
-
-pub overflow_add-first-in-loop-k : goal.overflow_add-first-in-loop-k
-overflow_add-first-in-loop-k c = omega arith
-
-pub offset_bounds-plan-first : goal.offset_bounds-plan-first
-offset_bounds-plan-first c = omega arith
-
-pub bounds-plan-first : goal.bounds-plan-first
-bounds-plan-first c = omega arith
-
-pub overflow_add-k : goal.overflow_add-k
-overflow_add-k c = omega arith
-
-pub loop-k-smaller : goal.loop-k-smaller
-loop-k-smaller c = omega arith
-
-pub loop-k-preserved : goal.loop-k-preserved
-loop-k-preserved c =
-    let l = c.loop-k in (
-      omega arith,
-      c.put_back.auto.cells ∙ l.invariant.1,
-      l.invariant.2
-          ∙ restore_turn c.args.plan.now (32 * c.args.call + 3) c.args.n (omega arith) c.args.frames.now (frame_values * c.args.worker + registers) (omega arith) l.k
-          c.loop-k-test.true _ _ _ (to_z-of_z {w = w64} {z = c.value-old.result} (search rules) ∙ c.value-old.ensures) c.put_back.ensures,
-    )
-
-pub shape_of-cells : goal.shape_of-cells
-shape_of-cells c = c.loop-k.invariant.1
+pub loop-entry-preserved : goal.loop-entry-preserved
+loop-entry-preserved c =
+    let turn = Zip-more c.loop-entry.entry-iterator c.next.new.self c.next.result _ c.in-Some.is c.next.ensures.steps in
+    let e = c.in-Some.entry.now in
+    c.loop-entry.invariant ∙ restore_turn c.loop-entry.cells turn.0 turn.1 (c.put_back.ensures
+    ∙ ap (λ (old : ℤ). if entry_writes e then set c.loop-entry.cells (entry_cell e) old else c.loop-entry.cells) (to_z-of_z {w = w64} {z = c.in-Some.old.now} (search rules)))
 
 pub returns : goal.returns
 returns c =
-    let l = c.loop-k in
-    sym (l.invariant.2 ∙ restore_end c.args.plan.now (32 * c.args.call + 3) c.args.n (omega arith) c.args.frames.now (frame_values * c.args.worker + registers) (omega arith) l.k c.loop-k-test.false _)
+    let end = either_empty_from_Zip c.loop-entry.entry-iterator c.next.new.self c.next.result c.in-None.is c.next.ensures.steps in
+    sym (c.loop-entry.invariant ∙ restore_end _ _ _ end)

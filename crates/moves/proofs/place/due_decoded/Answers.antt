@@ -1,13 +1,7 @@
--- `moves::place::due_decoded` meets its contract: what does not decode is damage, and else the instruction's action is due.
+-- `moves::place::due_decoded` meets its contract: the action of an instruction that decodes is due.
 use native.Mathlib.Omega.{arith}
-use mathlib.Core.Path.{sym, ap, ◌∙◌}
-use Rattle.action.specs.declared.Acted.{Acted}
-use Rattle.moves.proofs.StepCodeLaws.{decoded_invalid, decoded_valid, nothing_doable, worded_first, worded_second, acted_payable}
+use Rattle.moves.proofs.StepCodeLaws.{decoded_valid, worded_first, worded_second, acted_payable}
 use Rattle.moves.proofs.place.due_decoded.Goals as goal
-
-pub returns-in_default : goal.returns-in_default
-returns-in_default c =
-    let a = c.args in record { by_index = (λ block plan keys cells. decoded_invalid block plan keys a.site.call a.body a.site.place a.regs cells a.site.count _ (sym (ap (λ (x : Acted). x.decoded) c.act_at-acted.ensures) ∙ c.in_default.is) c.nothing_due.ensures); due_doable = nothing_doable c.nothing_due.ensures (omega (arith, c.requires)) }
 
 pub returns : goal.returns
 returns c =

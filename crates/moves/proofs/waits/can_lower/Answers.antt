@@ -1,38 +1,15 @@
--- `moves::waits::can_lower` meets its contract: each turn asks the number of one later call more.
-use native.Mathlib.Omega.{arith}
-use mathlib.Core.Path.{◌≡◌, sym, ap, ◌∙◌}
-use Rattle.machine.specs.Waits.{waits_lowerable}
-use Rattle.moves.proofs.WaitCodeLaws.{lowerable_start, lowerable_more, lowerable_off}
+-- `moves::waits::can_lower` meets its contract: the test of each later call is the definition's.
+use borrow.Author.Rules.{rules}
+use borrow.Author.Tests.{tests}
+use Prim.Native.Nat.{◌+◌, ◌-◌}
+use mathlib.Core.Path.{refl}
+use Rattle.std.proofs.lemmas.Iterator.{YieldsList-from_range}
+use Rattle.std.proofs.lemmas.Iterator.Search.{all_from_yields_List}
+use Rattle.moves.proofs.WaitCodeLaws.{lowerable_at, lowerable_each}
 use Rattle.moves.proofs.waits.can_lower.Goals as goal
-
-pub overflow_add-later : goal.overflow_add-later
-overflow_add-later c = omega arith
-
-pub loop-later-init : goal.loop-later-init
-loop-later-init c = (omega arith, omega arith, lowerable_start _ _ _)
-
-pub can_lower_one-requires : goal.can_lower_one-requires
-can_lower_one-requires c = record { later_lt_max_calls = omega arith; call_lt_max_calls = omega arith; plan_in_bounds = c.requires.plan_in_bounds }
-
-pub returns-then-not-can_lower_one : goal.returns-then-not-can_lower_one
-returns-then-not-can_lower_one c =
-    let l = c.loop-later in
-    lowerable_off _ _ _ l.later l.invariant.0 l.invariant.2 c.can_lower_one.ensures _ c.loop-later-test.true (c.if-not-can_lower_one.true)
-
-pub overflow_add-later-in-loop-later : goal.overflow_add-later-in-loop-later
-overflow_add-later-in-loop-later c = omega arith
-
-pub loop-later-smaller : goal.loop-later-smaller
-loop-later-smaller c = omega arith
-
-pub loop-later-preserved : goal.loop-later-preserved
-loop-later-preserved c =
-    let l = c.loop-later in
-    (omega arith, omega arith, lowerable_more _ _ _ l.later l.invariant.0 l.invariant.2 c.can_lower_one.ensures ∙ c.if-not-can_lower_one.false)
 
 pub returns : goal.returns
 returns c =
-    let l = c.loop-later in
     let a = c.args in
-    let end : l.later ≡ a.calls = omega arith in
-    sym (sym (ap (waits_lowerable a.plan.now a.status.now a.call) end) ∙ l.invariant.2)
+    lowerable_each a.plan.now a.call a.status.now a.calls c.requires.call_lt_calls
+    (all_from_yields_List (lowerable_at a.plan.now a.call a.status.now) _ _ _ c.all.ensures.ran (YieldsList-from_range (a.call + 1) a.calls (a.calls - (a.call + 1)) refl refl) (λ x b q k. search (rules, tests)))

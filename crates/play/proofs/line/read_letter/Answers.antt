@@ -1,20 +1,20 @@
 -- `play::line::read_letter` meets its contract: the letters are tried in the order of the definition.
-use borrow.Author.Tests.{eq-eqb, ne_eqb}
+use Rattle.std.proofs.Common.{rules, tests}
 use Rattle.console.specs.Line.{read_letter}
 use Rattle.play.proofs.line.read_letter.Goals as goal
 
-pub returns-then-x-eq98 : goal.returns-then-x-eq98
+pub returns-in-98 : goal.returns-in-98
 unfolding read_letter
-returns-then-x-eq98 c = simp (eq-eqb _ _ c.if-x-eq98.true)
+returns-in-98 c = search (tests, rules)
 
-pub returns-then-x-eq115 : goal.returns-then-x-eq115
+pub returns-in-115 : goal.returns-in-115
 unfolding read_letter
-returns-then-x-eq115 c = simp (ne_eqb _ _ c.if-x-eq98.false, eq-eqb _ _ c.if-x-eq115.true)
+returns-in-115 c = search (tests, rules)
 
-pub returns-then-x-eq99 : goal.returns-then-x-eq99
+pub returns-in-99 : goal.returns-in-99
 unfolding read_letter
-returns-then-x-eq99 c = simp (ne_eqb _ _ c.if-x-eq98.false, ne_eqb _ _ c.if-x-eq115.false, eq-eqb _ _ c.if-x-eq99.true)
+returns-in-99 c = search (tests, rules)
 
-pub returns : goal.returns
+pub returns-in_default : goal.returns-in_default
 unfolding read_letter
-returns c = simp (ne_eqb _ _ c.if-x-eq98.false, ne_eqb _ _ c.if-x-eq115.false, ne_eqb _ _ c.if-x-eq99.false)
+returns-in_default c = search (tests, rules)

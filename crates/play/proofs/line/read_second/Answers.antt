@@ -1,15 +1,12 @@
 -- `play::line::read_second` meets its contract: the second number begins with a digit.
-use mathlib.Core.Path.{sym, ◌∙◌}
+use Rattle.std.proofs.Common.{rules, tests}
 use Rattle.console.specs.Line.{read_byte}
 use Rattle.play.proofs.line.read_second.Goals as goal
 
-pub digit-requires : goal.digit-requires
-digit-requires c = sym c.is_digit.ensures ∙ c.if-is_digit.true
-
 pub returns-then-is_digit : goal.returns-then-is_digit
 unfolding read_byte
-returns-then-is_digit c = simp (sym c.is_digit.ensures ∙ c.if-is_digit.true, c.digit.ensures)
+returns-then-is_digit c = search (tests, rules)
 
 pub returns-else-is_digit : goal.returns-else-is_digit
 unfolding read_byte
-returns-else-is_digit c = simp (sym c.is_digit.ensures ∙ c.if-is_digit.false)
+returns-else-is_digit c = search (tests, rules)

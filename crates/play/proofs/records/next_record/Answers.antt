@@ -1,29 +1,24 @@
 -- `play::records::next_record` meets its contract: each kind of record is one of the definition.
-use Rattle.play.proofs.RecordLaws.{size_small, next_cell, next_receipt, next_other}
 use native.Mathlib.Omega.{arith}
+use Rattle.std.proofs.Common.{rules}
+use Rattle.play.proofs.RecordLaws.{size_small, next_cell, next_receipt, next_other}
 use Rattle.play.proofs.records.next_record.Goals as goal
 
 pub overflow_add-result : goal.overflow_add-result
 overflow_add-result c =
-    let a = c.args in
-    omega (arith, c.requires.sheet_len_bound, c.requires.turns_within.all, c.requires.turns_within.place, c.requires.turns_within.text, c.requires.turns_within.calls, (size_small a.sheet.now a.p.at c.get16-size.ensures (λ i. (c.shared_slice_known-1.given i).fits)))
+    let t = c.requires.turns_within in
+    omega (arith, c.requires.sheet_len_bound, t.fewer, t.turned.place, size_small c.args.sheet.now c.args.p.at c.get16-size.ensures (λ i. (c.type_inv.sheet i).fits))
 
-pub returns-then-kind-eq-CELL_KIND : goal.returns-then-kind-eq-CELL_KIND
-returns-then-kind-eq-CELL_KIND c =
-    let a = c.args in
-    next_cell a.sheet.now a.p _ c.requires.turns_within c.requires.left_nonzero c.get16-size.ensures c.get16-kind.ensures (λ i. (c.shared_slice_known-1.given i).fits) c.if-kind-eq-CELL_KIND.true c.put_cell.ensures
+pub returns-in-2 : goal.returns-in-2
+returns-in-2 c = next_cell c.args.sheet.now c.args.p _ c.get16-size.ensures c.get16.ensures (λ i. (c.type_inv.sheet i).fits) c.in-2.is c.put_cell.ensures
 
-pub overflow_add-result-then-kind-eq-RECEIPT_KIND : goal.overflow_add-result-then-kind-eq-RECEIPT_KIND
-overflow_add-result-then-kind-eq-RECEIPT_KIND c =
-    let a = c.args in
-    omega (arith, c.requires.sheet_len_bound, c.requires.turns_within.all, c.requires.turns_within.place, c.requires.turns_within.text, c.requires.turns_within.calls, (size_small a.sheet.now a.p.at c.get16-size.ensures (λ i. (c.shared_slice_known-1.given i).fits)))
+pub overflow_add-result-in-5 : goal.overflow_add-result-in-5
+overflow_add-result-in-5 c =
+    let t = c.requires.turns_within in
+    omega (arith, c.requires.sheet_len_bound, t.fewer, t.turned.place, size_small c.args.sheet.now c.args.p.at c.get16-size.ensures (λ i. (c.type_inv.sheet i).fits))
 
-pub returns-then-kind-eq-RECEIPT_KIND : goal.returns-then-kind-eq-RECEIPT_KIND
-returns-then-kind-eq-RECEIPT_KIND c =
-    let a = c.args in
-    next_receipt a.sheet.now a.p _ c.requires.turns_within c.requires.left_nonzero c.get16-size.ensures c.get16-kind.ensures (λ i. (c.shared_slice_known-1.given i).fits) c.if-kind-eq-RECEIPT_KIND.true c.put_receipt.ensures
+pub returns-in-5 : goal.returns-in-5
+returns-in-5 c = next_receipt c.args.sheet.now c.args.p _ c.get16-size.ensures c.get16.ensures (λ i. (c.type_inv.sheet i).fits) c.in-5.is c.put_receipt.ensures
 
-pub returns : goal.returns
-returns c =
-    let a = c.args in
-    next_other a.sheet.now a.p _ c.requires.turns_within c.requires.left_nonzero c.get16-size.ensures c.get16-kind.ensures (λ i. (c.shared_slice_known-1.given i).fits) c.if-kind-eq-CELL_KIND.false c.if-kind-eq-RECEIPT_KIND.false
+pub returns-in_default : goal.returns-in_default
+returns-in_default c = next_other c.args.sheet.now c.args.p _ c.get16-size.ensures c.get16.ensures (λ i. (c.type_inv.sheet i).fits) (search rules) (search rules)

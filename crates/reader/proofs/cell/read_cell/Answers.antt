@@ -32,4 +32,4 @@ returns-then-sum-gt-LARGEST_SUM c =
 
 pub returns : goal.returns
 returns c =
-    rw c.after_cell.ensures (λ b h. cell_more c.args.p b h c.args.len c.args.body.now c.if-p-ge-MAX_CELLS.false c.short.ensures c.short-field.ensures c.long-a.ensures c.long-b.ensures c.get64-bits.ensures (sym (c.key_allowed.ensures ∙ ap (λ (x : Address). key_allowed x c.short-field.result c.long-a.result c.long-b.result) c.address_of-address.ensures) ∙ c.if-not-key_allowed.false) (sym c.value_allowed.ensures ∙ c.if-not-value_allowed.false) (high_named c.short.result c.short-field.result c.long-a.result c.address_of-address.ensures c.high_of-high.ensures) (sym c.rises.ensures ∙ c.if-not-rises.false) c.short-field.type_inv c.long-a.type_inv c.long-b.type_inv c.sum_with-sum.ensures c.if-sum-gt-LARGEST_SUM.false)
+    λ b h. cell_more c.args.p b h c.args.len c.args.body.now c.if-p-ge-MAX_CELLS.false c.short.ensures c.short-field.ensures c.long-a.ensures c.long-b.ensures c.get64-bits.ensures (sym (c.key_allowed.ensures ∙ ap (λ (x : Address). key_allowed x c.short-field.result c.long-a.result c.long-b.result) c.address_of-address.ensures) ∙ c.if-not-key_allowed.false) (sym c.value_allowed.ensures ∙ c.if-not-value_allowed.false) (high_named c.short.result c.short-field.result c.long-a.result c.address_of-address.ensures c.high_of-high.ensures) (sym c.rises.ensures ∙ c.if-not-rises.false) c.short-field.type_inv c.long-a.type_inv c.long-b.type_inv c.sum_with-sum.ensures c.if-sum-gt-LARGEST_SUM.false

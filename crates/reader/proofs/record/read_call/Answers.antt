@@ -16,4 +16,4 @@ returns-then-c-eq0 c =
 
 pub returns : goal.returns
 returns c =
-    rw c.after_call.ensures (λ b h. call_more c.args.p b h c.args.len c.args.body.now c.if-p-ge-MAX_CALLS.false _ (sym c.call_at.ensures ∙ c.in-InRange.is) c.if-c-eq0.false)
+    λ b h. call_more c.args.p b h c.args.len c.args.body.now c.if-p-ge-MAX_CALLS.false _ (sym c.call_at.ensures ∙ c.in-InRange.is) c.if-c-eq0.false
