@@ -1,8 +1,6 @@
 -- What eight bytes of code do at a place of a call.
-use Rattle.std.specs.Prelude.{List, ℕ, ℤ}
+use Rattle.std.specs.Prelude.{List, ℕ, ℤ, None, Option, Some}
 use Rattle.block.specs.declared.Call.{Call}
-use Rattle.block.specs.declared.Decoded.{Decoded}
-use Rattle.block.specs.declared.Decoded.TheVariants.{Valid, Invalid}
 use Rattle.block.specs.declared.Instr.{Instr}
 use Rattle.block.specs.declared.Instr.TheVariants.{Stop, Throw, Set, Arg, Sender, Value, Add, Sub, Mul, Div, Get, Put, Bal, Pay, Jeq, Jlt}
 use Rattle.machine.specs.Action.{doing, instr_action}
@@ -11,12 +9,12 @@ use Rattle.machine.specs.declared.Next.TheVariants.{Go}
 use Rattle.action.specs.declared.Acted.{Acted}
 
 -- The action of what the bytes hold; where that is no instruction, the call stays at its place.
-unfoldable pub action_of : Call → ℕ → List ℤ → Decoded → Action
-action_of c place regs (Valid i) = instr_action c place regs i
-action_of c place regs Invalid = doing regs (Go place)
+unfoldable pub action_of : Call → ℕ → List ℤ → Option Instr → Action
+action_of c place regs (Some i) = instr_action c place regs i
+action_of c place regs None = doing regs (Go place)
 
 -- What the bytes hold, with its action.
-abbrev pub acted_of : Call → ℕ → List ℤ → Decoded → Acted
+abbrev pub acted_of : Call → ℕ → List ℤ → Option Instr → Acted
 acted_of c place regs d = record { decoded = d; action = action_of c place regs d }
 
 -- The instruction that a jump goes to; 0 for an instruction that is no jump.

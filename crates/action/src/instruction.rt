@@ -10,9 +10,9 @@ ghost use Rattle.machine.specs.Action.{assign, checked_action, doing, jump, pay_
 ghost use Rattle.block.specs.Outcomes.{ended, thrown};
 
 // Stays: document 01 names each instruction's own function, with the registers by value (a); they differ in one call each.
-use arith::Checked;
+use arith::NoResult;
 use block::outcomes::{ENDED, NOT_PAID, OUT_OF_RANGE, THROWN, ZERO_DIVISOR};
-use block::{Call, Payee, Source};
+use block::{Call, Source};
 use decoder::record::{argument, payee_of};
 use key_uses::source_value;
 use machine::layout::REGISTERS;
@@ -58,13 +58,13 @@ fn end(regs: [i64; REGISTERS], outcome: u64) -> Action
 
 // x takes an exact result; "a result outside 64 signed bits .. with 4"; M-103: a zero divisor with 6.
 #[tactic(auto, unfolding(machine::specs::Action::checked_action))]
-fn assign_checked(place: u32, regs: [i64; REGISTERS], x: usize, r: Checked) -> Action
+fn assign_checked(place: u32, regs: [i64; REGISTERS], x: usize, r: Result<i64, NoResult>) -> Action
     ensures { result ≡ checked_action place regs x r }
 {
     match r {
-        Checked::Value(v) => assign(place, regs, x, v),
-        Checked::Overflow => end(regs, OUT_OF_RANGE),
-        Checked::ZeroDivisor => end(regs, ZERO_DIVISOR),
+        Ok(v) => assign(place, regs, x, v),
+        Err(NoResult::Overflow) => end(regs, OUT_OF_RANGE),
+        Err(NoResult::ZeroDivisor) => end(regs, ZERO_DIVISOR),
     }
 }
 
@@ -171,11 +171,11 @@ pub(crate) fn bal(regs: [i64; REGISTERS], x: usize, balance: i64) -> [i64; REGIS
 
 // "PAY with 5 if the amount is negative, the target no account, or the contract's balance lower"; M-101: to account 0 too.
 #[tactic(auto, unfolding(machine::specs::Action::pay_action))]
-fn pay_to(regs: [i64; REGISTERS], amount: i64, target: Payee) -> Action
+fn pay_to(regs: [i64; REGISTERS], amount: i64, target: Option<Account>) -> Action
     ensures { result ≡ pay_action regs amount target }
 {
     match target {
-        Payee::To(_) if 0 <= amount => Action {
+        Some(_) if 0 <= amount => Action {
             next: Next::Transfer {
                 amount,
                 short: NOT_PAID,

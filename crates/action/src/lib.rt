@@ -9,11 +9,9 @@ ghost use Rattle.machine.specs.Action.{entry_action, instr_action};
 ghost use Rattle.action.specs.Acted.{acted_of, jump_of};
 
 use block::outcomes::BALANCE_TOO_LOW;
-use block::{Call, Decoded, Instr};
+use block::{Call, Instr};
 use decoder::instruction::decode;
-use instruction::{
-    add, arg, bal, div, get, jeq, jlt, load, mul, pay, put, sender, set, stop, sub, throw, value,
-};
+use instruction::{add, arg, bal, div, get, jeq, jlt, load, mul, pay, put, sender, set, stop, sub, throw, value};
 use machine::layout::REGISTERS;
 use machine::{Action, Next};
 
@@ -22,7 +20,7 @@ const FIRST_PLACE: usize = 1;
 // What eight bytes of code hold, and what the call does there.
 #[derive(Clone, Copy)]
 pub struct Acted {
-    pub decoded: Decoded,
+    pub decoded: Option<Instr>,
     pub action: Action,
 }
 
@@ -65,8 +63,8 @@ pub fn act_at(
 {
     let decoded = decode(code, at, size as usize);
     let action = match decoded {
-        Decoded::Valid(i) => act(c, index as u32 + 1, regs, i),
-        Decoded::Invalid => Action {
+        Some(i) => act(c, index as u32 + 1, regs, i),
+        None => Action {
             next: Next::Go(index as usize + 1),
             regs,
         },

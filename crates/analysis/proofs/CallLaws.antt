@@ -9,7 +9,7 @@ use borrow.Author.Tests.{le-ltb, lt-ltb}
 use lib.Dec.{ltb}
 use lib.ListN.{length, get_or, take, drop, length-map, drop_of_length-le}
 use lib.Seq.{take-suc, drop-cons}
-use Rattle.std.specs.Prelude.{Option}
+use Rattle.std.specs.Prelude.{Option, Ok}
 use Rattle.std.specs.declared.option.Option.TheVariants.{None, Some}
 use Rattle.wire.specs.Bytes.{padded}
 use Rattle.block.specs.Limits.{max_bytes, max_call_keys, max_keys}
@@ -17,7 +17,6 @@ use Rattle.block.specs.Record.{Block, call_record_bytes}
 use Rattle.block.specs.declared.Call.{Call}
 use Rattle.block.specs.declared.Refusal.{Refusal}
 use Rattle.block.specs.declared.Refusal.TheVariants.{CallKeys, AllKeys}
-use Rattle.block.specs.declared.Verdict.TheVariants as verdict
 use Rattle.footprint.specs.Access.{Access}
 use Rattle.footprint.specs.Plan.{table_words}
 use Rattle.footprint.specs.Sets.{sets_of}
@@ -202,7 +201,7 @@ module _ (file : List ℕ) (l : Layout) (laid : LayoutOfBlock file l) where
 
     -- Behind the last call the analysis is done.
     pub collecting_end : l.calls ≤ j
-        → leaving (record { verdict = verdict.Accepted; cells = n }) keys ≡ collected_of (length old) (analysis_of file (block_of file))
+        → leaving (record { verdict = (Ok tt); cells = n }) keys ≡ collected_of (length old) (analysis_of file (block_of file))
     unfolding analyse collected_of
     collecting_end h =
         let calls : l.calls ≡ length block.calls = laid_calls file l laid in
@@ -210,7 +209,7 @@ module _ (file : List ℕ) (l : Layout) (laid : LayoutOfBlock file l) where
         g.same
         ∙ ap (λ (cs : List Call). analyse file block.functions cs (block.first_call + call_record_bytes * j) (take j (all_sets file block)) (keys_in n keys))
         (drop_of_length-le block.calls {i = j} (omega arith)) in
-        ap₂ (λ (m : ℕ) (t : List ℕ). leaving (record { verdict = verdict.Accepted; cells = m }) t)
+        ap₂ (λ (m : ℕ) (t : List ℕ). leaving (record { verdict = (Ok tt); cells = m }) t)
         (sym (keys_length n keys)) (g.tabled.same ∙ ap (λ (m : ℕ). padded m 0 (table_words (keys_in n keys))) g.kept)
         ∙ ap (collected_of (length old)) (sym done)
 

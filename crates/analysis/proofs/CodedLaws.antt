@@ -2,14 +2,13 @@
 use mathlib.Core.Path.{◌≡◌, refl, sym, ap, ap₂, ◌∙◌}
 use mathlib.Core.Bool.{Bool, true, false, not, cond}
 use mathlib.Core.List.{List, [], ◌∷◌, map}
-use mathlib.Core.Option.{Option, none, some}
 use Prim.Native.Nat.{ℕ, suc, ◌+◌, ◌-◌}
 use native.Mathlib.Omega.{arith}
 use borrow.Author.Tests.{lt-ltb, eq-eqb, ne_eqb}
 use lib.Dec.{eqb, ltb, leb-suc-suc}
 use lib.ListN.{length, get_or, take, length-map}
 use lib.Seq.{take-append_seam}
-use Rattle.std.specs.Prelude.{if◌then◌else◌}
+use Rattle.std.specs.Prelude.{if◌then◌else◌, Option}
 use Rattle.wire.proofs.BytesLaws.{padded_at}
 use Rattle.std.specs.List.{position_or_len}
 use Rattle.std.specs.declared.option.Option.TheVariants.{None, Some}
@@ -42,7 +41,7 @@ code_by_place [] c = refl
 code_by_place (f ∷ fs) c = go (eqb (function_id f) (call_id c)) (code_by_place fs c)
   where
     go : (b : Bool) → words_of (code_of fs (place fs c)) ≡ code_words (function_of fs c)
-        → words_of (code_of (f ∷ fs) (cond (not b) (1 + place fs c) 0)) ≡ code_words (if b then some f else function_of fs c)
+        → words_of (code_of (f ∷ fs) (cond (not b) (1 + place fs c) 0)) ≡ code_words (if b then Some f else function_of fs c)
     go true ih = rw (lt-ltb 0 (suc (length fs)) (omega arith))
     go false ih = let one : 1 + place fs c ≡ suc (place fs c) = omega arith in rw (one, leb-suc-suc (suc (place fs c)) (length fs)) ih
 
@@ -84,10 +83,10 @@ module _ (b : Block) (c : Call) where
 pub code_sets_lem : (file : List ℕ) (code : Code) (c : Call) (f : Option Function) → words_of code ≡ code_words f
     → code_sets file code c ≡ function_sets file c f
 unfolding code_sets function_sets code_words
-code_sets_lem file code c none e =
+code_sets_lem file code c None e =
     if_true [] (merge_all (merge_all [] (entry_accesses c)) (code_accesses c (code.length - 1) (code.length - 1) (code_at file code.start (code.length - 1))))
     (eq-eqb code.length 0 (ap (λ (l : List ℕ). get_or l 1 0) e))
-code_sets_lem file code c (some f) e =
+code_sets_lem file code c (Some f) e =
     let start : code.start ≡ f.start = ap (λ (l : List ℕ). get_or l 0 0) e in
     let long : code.length ≡ f.size + 1 = ap (λ (l : List ℕ). get_or l 1 0) e in
     let size : code.length - 1 ≡ f.size = omega arith in

@@ -10,7 +10,6 @@ use Rattle.std.specs.declared.option.Option.TheVariants.{None, Some}
 use Rattle.block.specs.Limits.{max_code}
 use Rattle.block.specs.Record.{call_of, code_at}
 use Rattle.block.specs.declared.Call.{Call}
-use Rattle.block.specs.declared.CallBody.{CallBody}
 use Rattle.footprint.specs.Access.{Access, entry_accesses}
 use Rattle.footprint.specs.Sets.{merge_all, code_accesses}
 use Rattle.reader.specs.declared.Layout.{Layout}
@@ -38,7 +37,7 @@ code_short l id {code} narrow e = rw e (go (id_place (take l.functions l.ids) id
     go None = omega arith
 
 -- What stands at a call's place.
-pub read_at : (file : List ℕ) {r : CallBody} {at place : ℕ} → at ≡ place → r ≡ call_of (drop at file) → r ≡ call_of (drop place file)
+pub read_at : (file : List ℕ) {r : Option Call} {at place : ℕ} → at ≡ place → r ≡ call_of (drop at file) → r ≡ call_of (drop place file)
 read_at file e f = f ∙ ap (λ (n : ℕ). call_of (drop n file)) e
 
 -- ---- the set of a code

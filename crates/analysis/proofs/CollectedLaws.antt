@@ -1,4 +1,5 @@
 -- What the analysis answered tells of the table in the buffer.
+use Rattle.std.specs.Prelude.{Err, Ok}
 use mathlib.Core.Path.{◌≡◌, refl, sym, ap, ap₂, ◌∙◌}
 use mathlib.Core.List.{List}
 use Prim.Native.Nat.{ℕ, ◌*◌, ◌≤◌}
@@ -7,7 +8,6 @@ use lib.ListN.{length}
 use Rattle.wire.specs.Bytes.{padded}
 use Rattle.block.specs.Limits.{max_keys}
 use Rattle.block.specs.Reader.{accepted, read_block}
-use Rattle.block.specs.declared.Verdict.TheVariants as verdict
 use Rattle.block.specs.declared.Refusal.{Refusal}
 use Rattle.footprint.specs.Plan.{table_words}
 use Rattle.footprint.specs.Table.{Analysis, analysed, refused}
@@ -23,7 +23,7 @@ use Rattle.footprint.proofs.AnalysedLaws.{Complete, analysed_complete}
 
 -- ---- the analysis as it was answered
 
-not_both : {why : Refusal} → verdict.Accepted ≡ verdict.Refused why → ⊥
+not_both : {why : Refusal} → (Ok tt) ≡ Err why → ⊥
 not_both e = let z : ◌≡◌ {A = ℕ} 0 1 = cc in omega arith
 
 -- The table in the buffer of an accepted block.
@@ -33,7 +33,7 @@ pub record Holding (file : List ℕ) (r : Collected) (keys : List ℕ) : Type 0 
 
 module _ (file : List ℕ) (room : ℕ) (r : Collected) (keys : List ℕ)
     (e : leaving r keys ≡ collected_of room (analysis_of file (block_of file))) where
-  pub collected_table : read_block file ≡ accepted (block_of file) → 2 * max_keys ≤ room → r.verdict ≡ verdict.Accepted → Holding file r keys
+  pub collected_table : read_block file ≡ accepted (block_of file) → 2 * max_keys ≤ room → r.verdict ≡ (Ok tt) → Holding file r keys
   unfolding collected_of
   collected_table read space v = go (analysis_of file (block_of file)) refl e
     where
@@ -53,10 +53,10 @@ module _ (file : List ℕ) (room : ℕ) (r : Collected) (keys : List ℕ)
             tabled = rw (cells, words) (tabled table room whole.rising whole.few space);
           }
 
-  pub collected_refused : (why : Refusal) → r.verdict ≡ verdict.Refused why → analysis_of file (block_of file) ≡ refused why
+  pub collected_refused : (why : Refusal) → r.verdict ≡ Err why → analysis_of file (block_of file) ≡ refused why
   unfolding collected_of
   collected_refused why v = go (analysis_of file (block_of file)) refl e
     where
       go : (a : Analysis) → analysis_of file (block_of file) ≡ a → leaving r keys ≡ collected_of room a → analysis_of file (block_of file) ≡ refused why
-      go (refused other) f g = let same : verdict.Refused why ≡ verdict.Refused other = sym v ∙ ap (λ (x : CollectedLeft). x.answer.verdict) g in f ∙ ap refused (sym (cc))
+      go (refused other) f g = let same : Err why ≡ Err other = sym v ∙ ap (λ (x : CollectedLeft). x.answer.verdict) g in f ∙ ap refused (sym (cc))
       go (analysed sets table) f g = absurd (not_both (sym (ap (λ (x : CollectedLeft). x.answer.verdict) g) ∙ v))

@@ -2,7 +2,6 @@
 use mathlib.Core.Path.{◌≡◌, refl, sym, ap, ◌∙◌, subst⁻¹}
 use mathlib.Core.Bool.{Bool, true, false}
 use mathlib.Core.List.{List, [], map}
-use mathlib.Core.Option.{none}
 use Prim.Native.Nat.{ℕ, ◌+◌, ◌*◌, ◌≤◌, ◌<◌}
 use native.Mathlib.Decide.{dec_lt}
 use native.Mathlib.Omega.{arith}
@@ -10,7 +9,7 @@ use borrow.Author.Tests.{ltb-false}
 use lib.Dec.{ltb}
 use lib.IntN.{pos}
 use lib.ListN.{length, get_or, drop, length-map, get_or-eq_default}
-use Rattle.std.specs.Prelude.{if◌then◌else◌}
+use Rattle.std.specs.Prelude.{if◌then◌else◌, None, Option, Some}
 use Rattle.wire.proofs.BytesLaws.{padded_at}
 use Rattle.block.specs.Limits.{max_bytes, max_code}
 use Rattle.block.specs.Record.{Function, Cell, Block, call_record_bytes, call_id, call_of, cell_of}
@@ -18,8 +17,6 @@ use Rattle.block.specs.Reader.{accepted, refused, due, empty_block, read_from, r
 use Rattle.block.proofs.ReaderLaws.{BlockLaws, EndsFile}
 use Rattle.block.proofs.ReaderRight.{accepted_laws}
 use Rattle.block.specs.declared.Call.{Call}
-use Rattle.block.specs.declared.CallBody.{CallBody}
-use Rattle.block.specs.declared.CallBody.TheVariants.{InRange, OutOfRange}
 use Rattle.block.specs.declared.Refusal.TheVariants.{InputTooLong}
 use Rattle.footprint.specs.Plan.{code_words}
 use Rattle.footprint.specs.Sets.{sets_of}
@@ -120,19 +117,19 @@ module _ (file : List ℕ) (l : Layout) (laid : LayoutOfBlock file l) where
         let first : l.first_call ≡ block.first_call = laid_first in
         omega arith
 
-    body_at : (d : Call) → call_of (drop (l.first_call + call_record_bytes * j + 4) file) ≡ InRange (get_or block.calls j d)
+    body_at : (d : Call) → call_of (drop (l.first_call + call_record_bytes * j + 4) file) ≡ Some (get_or block.calls j d)
     body_at d = ap (λ (n : ℕ). call_of (drop (n + call_record_bytes * j + 4) file)) laid_first ∙ laid_whole.laws.calls j d h
 
     -- What the record of call j holds is a call.
-    pub call_there : {r : CallBody} → r ≡ call_of (drop (l.first_call + call_record_bytes * j + 4) file) → r ≡ OutOfRange → ⊥
+    pub call_there : {r : Option Call} → r ≡ call_of (drop (l.first_call + call_record_bytes * j + 4) file) → r ≡ None → ⊥
     call_there {r} e f =
-        let same : r ≡ InRange (get_or block.calls j default_call) = e ∙ body_at default_call in
+        let same : r ≡ Some (get_or block.calls j default_call) = e ∙ body_at default_call in
         let z : ◌≡◌ {A = ℕ} 0 1 = cc in omega arith
 
-    module _ (c : Call) {r : CallBody} (e : r ≡ call_of (drop (l.first_call + call_record_bytes * j + 4) file)) (f : r ≡ InRange c) where
+    module _ (c : Call) {r : Option Call} (e : r ≡ call_of (drop (l.first_call + call_record_bytes * j + 4) file)) (f : r ≡ Some c) where
       call_is : get_or block.calls j c ≡ c
       call_is =
-          let same : InRange c ≡ InRange (get_or block.calls j c) = sym f ∙ e ∙ body_at c in
+          let same : Some c ≡ Some (get_or block.calls j c) = sym f ∙ e ∙ body_at c in
           cc
 
       -- The code that the tables tell of it is that of the function that call j names.
@@ -141,7 +138,7 @@ module _ (file : List ℕ) (l : Layout) (laid : LayoutOfBlock file l) where
           ap (λ (m : Layout). words_of (code_in m (call_id c))) laid.layout
           ∙ code_found block c
           ∙ ap code_words
-          (sym (map_at (function_of block.functions) block.calls j c none h ∙ ap (function_of block.functions) call_is))
+          (sym (map_at (function_of block.functions) block.calls j c None h ∙ ap (function_of block.functions) call_is))
 
       -- So is the set of that code.
       pub call_set : code_sets file (code_in l (call_id c)) c ≡ sets_at file j

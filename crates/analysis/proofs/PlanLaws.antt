@@ -1,7 +1,7 @@
 -- Laws of the plan in its buffer: the words of a call behind those of the calls before it, with the masks kept along.
+use Rattle.std.specs.Prelude.{None, Option, Some}
 use mathlib.Core.Path.{◌≡◌, refl, sym, ap, ap₂, ◌∙◌}
 use mathlib.Core.List.{List, [], ◌∷◌, ◌++◌, map, append_assoc, append-nil}
-use mathlib.Core.Option.{Option, none, some}
 use Prim.Native.Nat.{ℕ, zero, suc, ◌+◌, ◌-◌, ◌*◌, ◌≤◌, ◌<◌}
 use native.Mathlib.Nat.{not-suc-le-zero, le_of_suc-le-suc, sub-zero}
 use native.Mathlib.Numerals.{add-one}
@@ -58,8 +58,8 @@ module _ {A : Type 0} where
 
 pub code_length_lem : (f : Option Function) → length (code_words f) ≡ 2
 unfolding code_words
-code_length_lem none = refl
-code_length_lem (some f) = refl
+code_length_lem None = refl
+code_length_lem (Some f) = refl
 
 pub column_length : (f : Access → ℕ) (es : List Access) → length es ≤ max_call_keys → length (column f es) ≡ max_call_keys
 unfolding repeated
@@ -90,7 +90,7 @@ Short sets = (i : ℕ) → length (get_or sets i []) ≤ max_call_keys
 module _ (functions : List Function) (table : List ℕ) where
   abbrev words_at : List (List Access) → List Call → List (List Access) → ℕ → List ℕ
   words_at earlier cs ss j =
-      call_words (get_or (map (function_of functions) cs) j none) table (get_or ss j []) (row_for (earlier ++ take j ss) (get_or ss j []))
+      call_words (get_or (map (function_of functions) cs) j None) table (get_or ss j []) (row_for (earlier ++ take j ss) (get_or ss j []))
 
   -- One call more.
   pub plans_next : (earlier : List (List Access)) (cs : List Call) (ss : List (List Access)) (j : ℕ) → j < length cs → length ss ≡ length cs
@@ -113,7 +113,7 @@ module _ (functions : List Function) (table : List ℕ) where
       let front : length (plans functions table [] (take j cs) (take j ss)) ≡ 32 * j = plans_so_far_length cs ss j (omega arith) e short in
       let four : length (row_for (take j ss) (get_or ss j [])) ≡ 4 = (row_of_is_row (conflict_bits (take j ss) (get_or ss j []))).four in
       let this : length (words_at [] cs ss j) ≡ 32 =
-      call_words_length (get_or (map (function_of functions) cs) j none) table (get_or ss j []) (row_for (take j ss) (get_or ss j [])) (short j) four in
+      call_words_length (get_or (map (function_of functions) cs) j None) table (get_or ss j []) (row_for (take j ss) (get_or ss j [])) (short j) four in
       rw (plans_next [] cs ss j h e, length-append (plans functions table [] (take j cs) (take j ss)) (words_at [] cs ss j)) (omega arith)
 
 -- ---- the plan so far

@@ -1,5 +1,6 @@
 -- What `prepare` and its parts answer, over plain values: the buffers that stay zero, the layout of a file that is read, and the block behind
 -- its analysis.
+use Rattle.std.specs.Prelude.{Err, Ok}
 use mathlib.Core.Path.{◌≡◌, refl, sym, ap, ap₂, ◌∙◌}
 use mathlib.Core.Bool.{Bool, true, false, ◌&&◌}
 use mathlib.Core.List.{List, [], map}
@@ -15,7 +16,6 @@ use Rattle.block.specs.Reader as reading
 use Rattle.block.specs.Reader.{Read, read_block}
 use Rattle.block.specs.declared.Refusal.{Refusal}
 use Rattle.block.specs.declared.Refusal.TheVariants.{Buffers}
-use Rattle.block.specs.declared.Verdict.TheVariants as verdict
 use Rattle.footprint.specs.Plan as footprint
 use Rattle.footprint.specs.Plan.{Room, plan_words, table_words, plans, opening_value, room_enough, unprepared, prepare_analysed, prepare_read, prepared_of}
 use Rattle.footprint.specs.Table.{Analysis, analysed, refused}
@@ -93,31 +93,31 @@ prepared_read file n m k plan keys values enough x a b c w t made =
 
 -- ---- the reader's answer
 
-read_refused : (r : Read) (l : Layout) (why : Refusal) → l ≡ layout_of r → l.verdict ≡ verdict.Refused why → r ≡ reading.refused why
+read_refused : (r : Read) (l : Layout) (why : Refusal) → l ≡ layout_of r → l.verdict ≡ Err why → r ≡ reading.refused why
 unfolding layout_of
 read_refused (reading.refused other) l why e v =
-    let same : verdict.Refused other ≡ verdict.Refused why = sym (ap (λ (m : Layout). m.verdict) e) ∙ v in
+    let same : Err other ≡ Err why = sym (ap (λ (m : Layout). m.verdict) e) ∙ v in
     ap reading.refused (cc)
 read_refused (reading.accepted b) l why e v =
-    let same : verdict.Accepted ≡ verdict.Refused why = sym (ap (λ (m : Layout). m.verdict) e) ∙ v in
+    let same : (Ok tt) ≡ Err why = sym (ap (λ (m : Layout). m.verdict) e) ∙ v in
     let z : ◌≡◌ {A = ℕ} 0 1 = cc in absurd (omega arith)
 
-read_accepted : (r : Read) (l : Layout) → l ≡ layout_of r → l.verdict ≡ verdict.Accepted → r ≡ reading.accepted (block_in r)
+read_accepted : (r : Read) (l : Layout) → l ≡ layout_of r → l.verdict ≡ (Ok tt) → r ≡ reading.accepted (block_in r)
 unfolding layout_of block_in
 read_accepted (reading.refused why) l e v =
-    let same : verdict.Refused why ≡ verdict.Accepted = sym (ap (λ (m : Layout). m.verdict) e) ∙ v in
+    let same : Err why ≡ (Ok tt) = sym (ap (λ (m : Layout). m.verdict) e) ∙ v in
     let z : ◌≡◌ {A = ℕ} 0 1 = cc in absurd (omega arith)
 read_accepted (reading.accepted b) l e v = refl
 
 -- The layout of an accepted file.
-pub read_laid : (file : List ℕ) (l : Layout) → l ≡ layout_of (read_block file) → l.verdict ≡ verdict.Accepted → LayoutOfBlock file l
+pub read_laid : (file : List ℕ) (l : Layout) → l ≡ layout_of (read_block file) → l.verdict ≡ (Ok tt) → LayoutOfBlock file l
 read_laid file l e v =
     let read : read_block file ≡ reading.accepted (block_of file) = read_accepted (read_block file) l e v in
     record { read = read; layout = e ∙ ap layout_of read }
 
 -- 1 to 10.
 pub read_left : (file : List ℕ) (l : Layout) (why : Refusal) (plan keys : List ℕ) (values : List ℤ) (p : Prepared)
-    → Blank plan keys values → l ≡ layout_of (read_block file) → l.verdict ≡ verdict.Refused why → p ≡ prepared_none why
+    → Blank plan keys values → l ≡ layout_of (read_block file) → l.verdict ≡ Err why → p ≡ prepared_none why
     → preparing p plan keys values ≡ prepare_read (room_of (length plan) (length keys) (length values)) file (read_block file)
 unfolding prepare_read
 read_left file l why plan keys values p b e v made =
@@ -149,13 +149,13 @@ module _ (file : List ℕ) (l : Layout) (laid : LayoutOfBlock file l) (plan keys
   left_by a f = e ∙ ap₂ collected_of kept f
 
   -- The table that the plan and the values are made by.
-  pub laid_holding : r.verdict ≡ verdict.Accepted → Holding file r after
+  pub laid_holding : r.verdict ≡ (Ok tt) → Holding file r after
   laid_holding v =
       let space : 2 * max_keys ≤ length mid = omega (arith, b.keys_room) in
       collected_table file (length mid) r after e laid.read space v
 
   -- 11 and 12.
-  pub laid_refused : (why : Refusal) (p : Prepared) → r.verdict ≡ verdict.Refused why → p ≡ prepared_none why
+  pub laid_refused : (why : Refusal) (p : Prepared) → r.verdict ≡ Err why → p ≡ prepared_none why
       → preparing p plan after values ≡ prepare_read (room_of (length plan) (length keys) (length values)) file (read_block file)
   unfolding collected_of prepare_analysed
   laid_refused why p v made =
@@ -164,10 +164,10 @@ module _ (file : List ℕ) (l : Layout) (laid : LayoutOfBlock file l) (plan keys
       refused_left p why (length plan) (length keys) (length values) plan after values made b.plan_zero zero b.values_zero
       ∙ sym (analysed_to (refused why) f)
 
-  pub laid_accepted : (plan' : List ℕ) (values' : List ℤ) → r.verdict ≡ verdict.Accepted
+  pub laid_accepted : (plan' : List ℕ) (values' : List ℤ) → r.verdict ≡ (Ok tt)
       → plan' ≡ padded (length plan) 0 (plans (block_of file).functions (keys_in r.cells after) [] (block_of file).calls (all_sets file (block_of file)))
       → values' ≡ padded (length values) (pos 0) (map (opening_value (block_of file).cells) (keys_in r.cells after))
-      → preparing (record { verdict = verdict.Accepted; calls = l.calls; cells = r.cells; first_call = l.first_call }) plan' after values'
+      → preparing (record { verdict = (Ok tt); calls = l.calls; cells = r.cells; first_call = l.first_call }) plan' after values'
       ≡ prepare_read (room_of (length plan) (length keys) (length values)) file (read_block file)
   unfolding collected_of prepare_analysed
   laid_accepted plan' values' v g h =
@@ -181,6 +181,6 @@ module _ (file : List ℕ) (l : Layout) (laid : LayoutOfBlock file l) (plan keys
       ∙ sym (analysed_to (analysed (all_sets file (block_of file)) table) f)
     where
       whole : (c c' n n' f f' : ℕ) (x x' y y' : List ℕ) (z z' : List ℤ) → c ≡ c' → n ≡ n' → f ≡ f' → x ≡ x' → y ≡ y' → z ≡ z'
-          → preparing (record { verdict = verdict.Accepted; calls = c; cells = n; first_call = f }) x y z
-          ≡ preparing (record { verdict = verdict.Accepted; calls = c'; cells = n'; first_call = f' }) x' y' z'
+          → preparing (record { verdict = (Ok tt); calls = c; cells = n; first_call = f }) x y z
+          ≡ preparing (record { verdict = (Ok tt); calls = c'; cells = n'; first_call = f' }) x' y' z'
       whole c c' n n' f f' x x' y y' z z' p q s t u w = rw (p, q, s, t, u, w)

@@ -1,6 +1,5 @@
 -- The words of a call in the plan, by the parts that the code stores.
-use Rattle.std.specs.Prelude.{List, [], ◌∷◌, ◌++◌, map, ℕ, ◌+◌, ◌*◌, length}
-use Rattle.std.proofs.Math.Option.{Option}
+use Rattle.std.specs.Prelude.{List, [], ◌∷◌, ◌++◌, map, ℕ, ◌+◌, ◌*◌, length, Option}
 use Rattle.wire.specs.Bytes.{padded}
 use Rattle.wire.specs.Rows.{bit}
 use Rattle.block.specs.Limits.{max_call_keys}

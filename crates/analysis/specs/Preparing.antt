@@ -1,9 +1,8 @@
 -- What `prepare` answers, put together with the buffers that it leaves.
-use Rattle.std.specs.Prelude.{◌≡◌, List, ℕ, ◌*◌, ◌≤◌, ℤ, pos, length}
+use Rattle.std.specs.Prelude.{◌≡◌, List, ℕ, ◌*◌, ◌≤◌, ℤ, pos, length, Err}
 use Rattle.wire.specs.Bytes.{repeated}
 use Rattle.block.specs.Limits.{max_calls, max_keys}
 use Rattle.block.specs.declared.Refusal.{Refusal}
-use Rattle.block.specs.declared.Verdict.TheVariants as verdict
 use Rattle.footprint.specs.Plan as plan
 use Rattle.footprint.specs.Plan.{Room, plan_words}
 use Rattle.analysis.specs.declared.Prepared.{Prepared}
@@ -26,7 +25,7 @@ preparing r plan keys values =
 
 -- The answer of a refusal.
 abbrev pub prepared_none : Refusal → Prepared
-prepared_none why = record { verdict = verdict.Refused why; calls = 0; cells = 0; first_call = 0 }
+prepared_none why = record { verdict = Err why; calls = 0; cells = 0; first_call = 0 }
 
 -- Three buffers that are zero and hold what the limits allow.
 pub record Blank (plan keys : List ℕ) (values : List ℤ) : Type 0 where

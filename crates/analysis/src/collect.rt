@@ -20,7 +20,7 @@ use crate::{Code, Collected, Sets};
 use block::address::address_of;
 use block::format::{CALL_RECORD_BYTES, CELL_BYTES, HEAD_BYTES};
 use block::limits::MAX_KEYS;
-use block::{Call, CallBody, Refusal, Verdict};
+use block::{Call, Refusal};
 use decoder::part::{from, long, short};
 use decoder::record::{call_at, code_at, high_of, id_of};
 use reader::Layout;
@@ -68,8 +68,8 @@ pub(crate) fn call_code(file: &[u8], l: Layout, call: usize) -> Code
     ensures { words_of result ≡ code_words (function_at file.now call) }
 {
     match call_at(file, call_place(l, call)) {
-        CallBody::InRange(c) => code_of(l, c),
-        CallBody::OutOfRange => NO_CODE,
+        Some(c) => code_of(l, c),
+        None => NO_CODE,
     }
 }
 
@@ -92,8 +92,8 @@ pub(crate) fn call_sets(file: &[u8], l: Layout, call: usize) -> Option<Sets>
     ensures { Gathered result (sets_at file.now call) }
 {
     match call_at(file, call_place(l, call)) {
-        CallBody::InRange(c) => sets_of(file, code_of(l, c), c),
-        CallBody::OutOfRange => Some(no_keys()),
+        Some(c) => sets_of(file, code_of(l, c), c),
+        None => Some(no_keys()),
     }
 }
 
@@ -147,9 +147,9 @@ fn insert_sets(keys: &mut [u64], n: usize, s: &Sets) -> Option<usize>
 fn refuse_keys(keys: &mut [u64], why: Refusal) -> Collected
     ensures { leaving result keys.new ≡ collected_of (length keys.old) (refused why) }
 {
-    wire::clear_words(keys);
+    wire::clear(keys, 0);
     Collected {
-        verdict: Verdict::Refused(why),
+        verdict: Err(why),
         cells: 0,
     }
 }
@@ -175,7 +175,7 @@ pub(crate) fn call_keys(file: &[u8], l: Layout, keys: &mut [u64]) -> Collected
         n = count;
     }
     Collected {
-        verdict: Verdict::Accepted,
+        verdict: Ok(()),
         cells: n,
     }
 }

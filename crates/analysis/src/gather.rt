@@ -11,7 +11,7 @@ ghost use Rattle.key_uses.specs.Uses.{use_of, uses_of};
 use crate::Sets;
 use block::format::INSTR_BYTES;
 use block::limits::MAX_CALL_KEYS;
-use block::{Call, Decoded};
+use block::Call;
 use decoder::instruction::decode;
 use key_uses::{KeyUse, Uses, entry_uses, instr_uses, no_uses};
 
@@ -83,8 +83,8 @@ fn uses_at(code: &[u8], index: usize, size: usize, c: Call) -> Uses
     ensures { result ≡ uses_of (decoded_accesses c (decode size (drop (instr_bytes * index) code.now))) }
 {
     match decode(code, INSTR_BYTES * index, size) {
-        Decoded::Valid(i) => instr_uses(c, i),
-        Decoded::Invalid => no_uses(),
+        Some(i) => instr_uses(c, i),
+        None => no_uses(),
     }
 }
 

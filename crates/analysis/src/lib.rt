@@ -15,7 +15,7 @@ ghost use Rattle.reader.specs.LayoutOfBlock.{LayoutOfBlock};
 ghost use Rattle.analysis.specs.Preparing.{room_of, preparing, prepared_none, Blank};
 
 use block::limits::{MAX_CALL_KEYS, MAX_CALLS, MAX_KEYS};
-use block::{Refusal, Verdict};
+use block::Refusal;
 use collect::{call_keys, opening_keys};
 use footprint::layout::{KEY_WORDS, PLAN_WORDS};
 use key_uses::KeyUse;
@@ -41,7 +41,7 @@ pub struct Code {
 // What the analysis answers of a block: its verdict, and the number of keys in the table, 0 if it is refused.
 #[derive(Clone, Copy)]
 pub struct Collected {
-    pub verdict: Verdict,
+    pub verdict: Result<(), Refusal>,
     pub cells: usize,
 }
 
@@ -49,7 +49,7 @@ pub struct Collected {
 // it is refused.
 #[derive(Clone, Copy)]
 pub struct Prepared {
-    pub verdict: Verdict,
+    pub verdict: Result<(), Refusal>,
     pub calls: usize,
     pub cells: usize,
     pub first_call: usize,
@@ -60,7 +60,7 @@ fn refused(why: Refusal) -> Prepared
     ensures { result ≡ prepared_none why }
 {
     Prepared {
-        verdict: Verdict::Refused(why),
+        verdict: Err(why),
         calls: 0,
         cells: 0,
         first_call: 0,
@@ -99,12 +99,12 @@ fn prepare_laid(
     let verdict = collected.verdict;
     let cells = collected.cells;
     match verdict {
-        Verdict::Refused(why) => refused(why),
-        Verdict::Accepted => {
+        Err(why) => refused(why),
+        Ok(()) => {
             opening_values(file, l, keys, cells, values);
             plan_calls(file, l, keys, cells, plan);
             Prepared {
-                verdict: Verdict::Accepted,
+                verdict: Ok(()),
                 calls: l.calls,
                 cells,
                 first_call: l.first_call,
@@ -123,8 +123,8 @@ fn prepare_read(file: &[u8], plan: &mut [u64], keys: &mut [u64], values: &mut [i
     let l = reader::read_block(file);
     let verdict = l.verdict;
     match verdict {
-        Verdict::Refused(why) => refused(why),
-        Verdict::Accepted => prepare_laid(file, l, plan, keys, values),
+        Err(why) => refused(why),
+        Ok(()) => prepare_laid(file, l, plan, keys, values),
     }
 }
 
@@ -135,9 +135,9 @@ pub fn prepare(file: &[u8], plan: &mut [u64], keys: &mut [u64], values: &mut [i6
         ≡ prepared_of (room_of (length plan.old) (length keys.old) (length values.old))
         file.now }
 {
-    wire::clear_words(plan);
-    wire::clear_words(keys);
-    wire::clear_values(values);
+    wire::clear(plan, 0);
+    wire::clear(keys, 0);
+    wire::clear(values, 0);
     if !room_enough(plan.len(), keys.len(), values.len()) {
         return refused(Refusal::Buffers);
     }

@@ -146,7 +146,7 @@ fn open_cell(body: &[u8], keys: &[u64], n: usize, values: &mut [i64])
     let high = high_of(address_of(short(body, 0)), short(body, 2), long(body, 4));
     let low = long(body, 8) as u64;
     let number = cell_number(keys, n, high, low);
-    wire::put_value(values, number, wire::get_i64(body, VALUE_AT));
+    wire::put(values, number, wire::get_i64(body, VALUE_AT));
 }
 
 // The opening values of all cells, by their numbers; a cell that the opening lacks stays 0.

@@ -1,4 +1,5 @@
 -- The length of a sheet by its numbers of records, and what it decides.
+use Rattle.std.specs.Prelude.{Ok}
 use mathlib.Core.Path.{◌≡◌, sym, ap, ap₂, ◌∙◌}
 use mathlib.Core.Bool.{Bool, true, false}
 use mathlib.Core.List.{List, flatten}
@@ -10,7 +11,6 @@ use lib.ListN.{length}
 use Rattle.wire.specs.Bytes.{stored}
 use Rattle.machine.specs.declared.Answer.TheVariants.{Damaged, SheetTooLong}
 use Rattle.sheet.specs.Sheet.{cell_records, offset_behind, unwritten, written_if, records_for}
-use Rattle.sheet.specs.declared.Closing.TheVariants.{Written}
 use Rattle.sheet.proofs.RecordLists.{joined_length}
 use Rattle.sheet.proofs.SheetRecords.{sheet_lengths}
 
@@ -32,8 +32,8 @@ module _ (output : List ℕ) (rs : List (List ℕ)) (receipts : Bool) {size : �
   receipts_broken h b e = simp (le-ltb (length output) (length (flatten rs)) (omega arith), b)
 
   pub sheet_whole : size ≤ length output → receipts ≡ true → size ≡ length (flatten rs) → {exit : List ℕ} {end : ℕ} → exit ≡ stored output 0 (flatten rs)
-      → end ≡ offset_behind rs → record { answer = Written end; output = exit } ≡ written_if receipts output rs
+      → end ≡ offset_behind rs → record { answer = Ok end; output = exit } ≡ written_if receipts output rs
   unfolding written_if
   sheet_whole h b e q f =
       simp (le-ltb (length output) (length (flatten rs)) (omega arith), b)
-      (ap₂ (λ (n : ℕ) (s : List ℕ). record { answer = Written n; output = s }) f q)
+      (ap₂ (λ (n : ℕ) (s : List ℕ). record { answer = Ok n; output = s }) f q)

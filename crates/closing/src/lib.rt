@@ -11,7 +11,6 @@ ghost use Rattle.closing.specs.Answered.{ClosedAs};
 use block::limits::{MAX_CALLS, MAX_KEYS};
 use machine::layout::large_enough;
 use machine::{Answer, Head};
-use sheet::Closing;
 use tests::{all_finished, cells_found, states_allowed};
 use write::write_sheet;
 
@@ -26,7 +25,7 @@ pub fn sheet(
     seats: &[u64],
     frames: &[i64],
     output: &mut [u8],
-) -> Closing
+) -> Result<usize, Answer>
     ensures { ClosedAs result output.new
         (sheet_of (record {
           head = head;
@@ -49,22 +48,22 @@ pub fn sheet(
         frames.len(),
     );
     if !large {
-        return Closing::Refused(Answer::Damaged);
+        return Err(Answer::Damaged);
     }
     if MAX_CALLS < calls {
-        return Closing::Refused(Answer::Damaged);
+        return Err(Answer::Damaged);
     }
     if !states_allowed(status, calls) {
-        return Closing::Refused(Answer::Damaged);
+        return Err(Answer::Damaged);
     }
     if !all_finished(status, calls) {
-        return Closing::Refused(Answer::CallUnfinished);
+        return Err(Answer::CallUnfinished);
     }
     if MAX_KEYS < count {
-        return Closing::Refused(Answer::Damaged);
+        return Err(Answer::Damaged);
     }
     let Some(records) = cells_found(keys, cells, count) else {
-        return Closing::Refused(Answer::Damaged);
+        return Err(Answer::Damaged);
     };
     write_sheet(keys, cells, status, count, calls, records, output)
 }

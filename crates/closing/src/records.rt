@@ -25,7 +25,7 @@ fn put_head(output: &mut [u8], at: usize, size: usize, kind: usize)
     requires kind_bound { kind < 2 ^ 16 }
     ensures { output.new ≡ stored output.old at (bytes_of 2 size ++ bytes_of 2 kind) }
 {
-    wire::put32(output, at, (size + KIND_BASE * kind) as u64);
+    wire::write_le::<4>(output, at, (size + KIND_BASE * kind) as u64);
 }
 
 // A cell's key from its two words: address 2, field 2, a 4, b 4.
@@ -33,10 +33,10 @@ fn put_key(output: &mut [u8], at: usize, high: u64, low: u64)
     requires { at < 2 ^ 32 }
     ensures { output.new ≡ stored output.old at (key_bytes high low) }
 {
-    wire::put16(output, at, high / ADDRESS_BASE);
-    wire::put16(output, at + 2, high / FIELD_BASE);
-    wire::put32(output, at + 4, high);
-    wire::put32(output, at + 8, low);
+    wire::write_le::<2>(output, at, high / ADDRESS_BASE);
+    wire::write_le::<2>(output, at + 2, high / FIELD_BASE);
+    wire::write_le::<4>(output, at + 4, high);
+    wire::write_le::<4>(output, at + 8, low);
 }
 
 // The record of a cell whose value has these bits.
@@ -46,7 +46,7 @@ fn put_cell_record(output: &mut [u8], at: usize, high: u64, low: u64, bits: u64)
 {
     put_head(output, at, CELL_BYTES, CELL_KIND);
     put_key(output, at + 4, high, low);
-    wire::put64(output, at + 16, bits);
+    wire::write_le::<8>(output, at + 16, bits);
 }
 
 // "Kind 2 records of all non-zero cells": the record of cell n at the offset that is carried there, and the offset behind it; of a cell
@@ -57,12 +57,12 @@ fn put_cell(keys: &[u64], cells: &[i64], n: usize, at: usize, output: &mut [u8])
     ensures output_after { output.new ≡ stored output.old at (flatten (records_at keys.now cells.now n)) }
     ensures value { result ≡ at + lengths (records_at keys.now cells.now n) }
 {
-    let bits = arith::unsigned64(wire::value(cells, n));
+    let bits = arith::unsigned64(wire::get_or(cells, n, 0));
     if bits == 0 {
         return at;
     }
-    let high = wire::word(keys, KEY_WORDS * n);
-    let low = wire::word(keys, KEY_WORDS * n + 1);
+    let high = wire::get_or(keys, KEY_WORDS * n, 0);
+    let low = wire::get_or(keys, KEY_WORDS * n + 1, 0);
     put_cell_record(output, at, high, low, bits);
     at + HEAD_BYTES + CELL_BYTES
 }
@@ -77,8 +77,8 @@ fn put_receipt(status: &[u64], call: usize, at: usize, output: &mut [u8]) -> usi
     let outcome = status_word(status, call, OUTCOME_WORD);
     let count = status_word(status, call, COUNT_WORD);
     put_head(output, at, RECEIPT_BYTES, RECEIPT_KIND);
-    wire::put16(output, at + 4, outcome);
-    wire::put16(output, at + 6, count);
+    wire::write_le::<2>(output, at + 4, outcome);
+    wire::write_le::<2>(output, at + 6, count);
     at + HEAD_BYTES + RECEIPT_BYTES
 }
 

@@ -18,7 +18,7 @@ pub(crate) fn status_word(status: &[u64], call: usize, k: usize) -> u64
     requires k_lt_status_words { k < status_words }
     ensures { result ≡ status_word status.now call k }
 {
-    wire::word(status, STATUS_WORDS * call + k)
+    wire::get_or(status, STATUS_WORDS * call + k, 0)
 }
 
 // Whether the state of each call is one.
@@ -71,8 +71,8 @@ pub(crate) fn cells_found(keys: &[u64], cells: &[i64], count: usize) -> Option<u
 {
     let mut records = 0;
     for n in 0..count {
-        let value = wire::value(cells, n);
-        let high = wire::word(keys, KEY_WORDS * n);
+        let value = wire::get_or(cells, n, 0);
+        let high = wire::get_or(keys, KEY_WORDS * n, 0);
         if !balance_allowed(high, value) {
             return None;
         }

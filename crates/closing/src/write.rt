@@ -7,7 +7,6 @@ use crate::records::put_sheet;
 use crate::tests::receipts_allowed;
 use block::format::{CELL_BYTES, HEAD_BYTES, RECEIPT_BYTES};
 use machine::Answer;
-use sheet::Closing;
 
 // The sheet of a run whose calls are finished and whose cells are in their ranges and have so many records. 28, "sheet longer than the
 // output buffer", by their number and that of the calls; 20 for the receipts, which only the writing uses; then the records are stored at
@@ -20,7 +19,7 @@ pub(crate) fn write_sheet(
     calls: usize,
     records: usize,
     output: &mut [u8],
-) -> Closing
+) -> Result<usize, Answer>
     requires count_le_max_keys { count ≤ max_keys }
     requires calls_le_max_calls { calls ≤ max_calls }
     requires records_value { records ≡ length (cell_records keys.now cells.now count 0) }
@@ -32,10 +31,10 @@ pub(crate) fn write_sheet(
         + (HEAD_BYTES + RECEIPT_BYTES) * calls
         + HEAD_BYTES;
     if output.len() < length {
-        return Closing::Refused(Answer::SheetTooLong);
+        return Err(Answer::SheetTooLong);
     }
     if !receipts_allowed(status, calls) {
-        return Closing::Refused(Answer::Damaged);
+        return Err(Answer::Damaged);
     }
-    Closing::Written(put_sheet(keys, cells, status, count, calls, output))
+    Ok(put_sheet(keys, cells, status, count, calls, output))
 }

@@ -1,4 +1,5 @@
 -- What the proofs of this crate cite, and those of the code above: the word of an instruction, addresses that were read, and the bytes of a call.
+use Rattle.std.specs.Prelude.{None}
 use mathlib.Core.Path.{◌≡◌, sym, ap, ◌∙◌}
 use mathlib.Core.List.{List}
 use Prim.Native.Nat.{ℕ, ◌+◌, ◌*◌, ◌/◌, ◌%◌, ◌^◌, ◌<◌, ◌≤◌}
@@ -15,7 +16,6 @@ use Rattle.block.specs.Encoding.{AreBytes}
 use Rattle.block.specs.Instruction.{decode_parts, decode}
 use Rattle.block.specs.Record.{call_bytes, call_of}
 use Rattle.block.specs.declared.address.Address.{Address}
-use Rattle.block.specs.declared.CallBody.TheVariants.{OutOfRange}
 
 -- The parts of an instruction, read one by one: a number of one byte is that byte.
 pub decode_parts_lem : (size : ℕ) (s : List ℕ) {op x y z w : ℕ} → op ≡ get_or s 0 0 → x ≡ get_or s 1 0 → y ≡ get_or s 2 0 → z ≡ get_or s 3 0
@@ -57,7 +57,7 @@ pub high_named : (n field a : ℕ) {r : Address} {high : ℕ} → r ≡ address_
 high_named n field a e f = f ∙ ap (λ (k : ℕ). k * 2 ^ 48 + field * 2 ^ 32 + a) (ap address_number e ∙ number_named n)
 
 -- A call's body, by its length and the addresses that it names.
-pub call_cut : (s : List ℕ) → length s < call_bytes → OutOfRange ≡ call_of s
+pub call_cut : (s : List ℕ) → length s < call_bytes → None ≡ call_of s
 unfolding call_of
 call_cut s short = simp (lt-leb call_bytes (length s) short)
 

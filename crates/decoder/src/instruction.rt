@@ -3,7 +3,7 @@
 ghost use Rattle.std.specs.Prelude.{◌≡◌, ◌&&◌, eqb, leb, drop};
 ghost use Rattle.block.specs.Instruction.{is_register, source_of, allowed, decode_set, decode_arg, decode_fact, decode_cell, decode_pay, decode_parts, decode, is_valid};
 
-use block::{Decoded, Instr, Source};
+use block::{Instr, Source};
 
 // The opcodes.
 // Stays: they are numbers (d), bytes of the code, which one match names each; an enum would repeat them in a conversion.
@@ -67,25 +67,25 @@ fn source_of(n: u8, w: u32) -> Source
 }
 
 // An instruction whose parts keep its rule.
-fn allowed(rule: bool, i: Instr) -> Decoded
+fn allowed(rule: bool, i: Instr) -> Option<Instr>
     ensures { result ≡ allowed rule i }
 {
     if rule {
-        Decoded::Valid(i)
+        Some(i)
     } else {
-        Decoded::Invalid
+        None
     }
 }
 
 // The rules of parts, one for each kind of instruction, which is handed over with them.
-fn decode_end(x: u8, y: u8, z: u8, w: u32, i: Instr) -> Decoded
+fn decode_end(x: u8, y: u8, z: u8, w: u32, i: Instr) -> Option<Instr>
     ensures { result ≡ allowed (eqb x 0 && eqb y 0 && eqb z 0 && eqb w 0) i }
 {
     allowed(x == 0 && y == 0 && z == 0 && w == 0, i)
 }
 
 #[tactic(auto, unfolding(block::specs::Instruction::decode_set))]
-fn decode_set(x: u8, y: u8, z: u8, w: u32) -> Decoded
+fn decode_set(x: u8, y: u8, z: u8, w: u32) -> Option<Instr>
     ensures { result ≡ decode_set x y z w }
 {
     let rule = x <= LAST_REGISTER && y == 0 && z == 0;
@@ -94,7 +94,7 @@ fn decode_set(x: u8, y: u8, z: u8, w: u32) -> Decoded
 }
 
 #[tactic(auto, unfolding(block::specs::Instruction::decode_arg))]
-fn decode_arg(x: u8, y: u8, z: u8, w: u32) -> Decoded
+fn decode_arg(x: u8, y: u8, z: u8, w: u32) -> Option<Instr>
     ensures { result ≡ decode_arg x y z w }
 {
     let rule = x <= LAST_REGISTER && 1 <= y && y <= LAST_ARGUMENT && z == 0 && w == 0;
@@ -102,14 +102,14 @@ fn decode_arg(x: u8, y: u8, z: u8, w: u32) -> Decoded
 }
 
 #[tactic(auto, unfolding(block::specs::Instruction::decode_fact))]
-fn decode_fact(x: u8, y: u8, z: u8, w: u32, i: Instr) -> Decoded
+fn decode_fact(x: u8, y: u8, z: u8, w: u32, i: Instr) -> Option<Instr>
     ensures { result ≡ decode_fact x y z w i }
 {
     let rule = x <= LAST_REGISTER && y == 0 && z == 0 && w == 0;
     allowed(rule, i)
 }
 
-fn decode_arith(x: u8, y: u8, z: u8, w: u32, i: Instr) -> Decoded
+fn decode_arith(x: u8, y: u8, z: u8, w: u32, i: Instr) -> Option<Instr>
     ensures { result ≡ allowed (is_register x && is_register y && is_register z && eqb w 0) i }
 {
     let rule = x <= LAST_REGISTER && y <= LAST_REGISTER && z <= LAST_REGISTER && w == 0;
@@ -118,7 +118,7 @@ fn decode_arith(x: u8, y: u8, z: u8, w: u32, i: Instr) -> Decoded
 
 // The constant in w is zero if no source is the constant.
 #[tactic(auto, unfolding(block::specs::Instruction::decode_cell))]
-fn decode_cell(op: u8, x: u8, y: u8, z: u8, w: u32) -> Decoded
+fn decode_cell(op: u8, x: u8, y: u8, z: u8, w: u32) -> Option<Instr>
     ensures { result ≡ decode_cell op x y z w }
 {
     let constant = y == FROM_CONSTANT || z == FROM_CONSTANT || w / HALF == 0;
@@ -138,7 +138,7 @@ fn decode_cell(op: u8, x: u8, y: u8, z: u8, w: u32) -> Decoded
 }
 
 #[tactic(auto, unfolding(block::specs::Instruction::decode_pay))]
-fn decode_pay(x: u8, y: u8, z: u8, w: u32) -> Decoded
+fn decode_pay(x: u8, y: u8, z: u8, w: u32) -> Option<Instr>
     ensures { result ≡ decode_pay x y z w }
 {
     let constant = y == FROM_CONSTANT || w / HALF == 0;
@@ -147,7 +147,7 @@ fn decode_pay(x: u8, y: u8, z: u8, w: u32) -> Decoded
     allowed(rule, Instr::Pay { x, target })
 }
 
-fn decode_jump(size: usize, x: u8, y: u8, z: u8, w: u32, i: Instr) -> Decoded
+fn decode_jump(size: usize, x: u8, y: u8, z: u8, w: u32, i: Instr) -> Option<Instr>
     ensures { result ≡ allowed (is_register x && is_register y && eqb z 0 && leb w size) i }
 {
     let to = w as usize;
@@ -157,7 +157,7 @@ fn decode_jump(size: usize, x: u8, y: u8, z: u8, w: u32, i: Instr) -> Decoded
 
 // An instruction of a code of `size` instructions, from its parts.
 #[tactic(auto, unfolding(block::specs::Instruction::decode_parts, block::specs::Instruction::decode_end, block::specs::Instruction::decode_arith, block::specs::Instruction::decode_jump))]
-fn decode_parts(size: usize, op: u8, x: u8, y: u8, z: u8, w: u32) -> Decoded
+fn decode_parts(size: usize, op: u8, x: u8, y: u8, z: u8, w: u32) -> Option<Instr>
     ensures { result ≡ decode_parts size op x y z w }
 {
     match op {
@@ -176,22 +176,22 @@ fn decode_parts(size: usize, op: u8, x: u8, y: u8, z: u8, w: u32) -> Decoded
         PAY => decode_pay(x, y, z, w),
         JEQ => decode_jump(size, x, y, z, w, Instr::Jeq { x, y, to: w }),
         JLT => decode_jump(size, x, y, z, w, Instr::Jlt { x, y, to: w }),
-        _ => Decoded::Invalid,
+        _ => None,
     }
 }
 
 // The instruction at a position of the code, which is one of `size`; bytes past the end count as 0.
-pub fn decode(code: &[u8], at: usize, size: usize) -> Decoded
+pub fn decode(code: &[u8], at: usize, size: usize) -> Option<Instr>
     ensures { result ≡ decode size (drop at code.now) }
 {
-    let [op, x, y, z, w0, w1, w2, w3] = wire::get64(code, at).to_le_bytes();
+    let [op, x, y, z, w0, w1, w2, w3] = wire::read_le::<8>(code, at).to_le_bytes();
     let w = u32::from_le_bytes([w0, w1, w2, w3]);
     decode_parts(size, op, x, y, z, w)
 }
 
 // Whether bytes hold an instruction.
-pub fn is_valid(d: Decoded) -> bool
+pub fn is_valid(d: Option<Instr>) -> bool
     ensures { result ≡ is_valid d }
 {
-    matches!(d, Decoded::Valid(_))
+    matches!(d, Some(_))
 }

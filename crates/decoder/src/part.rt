@@ -14,12 +14,12 @@ pub fn from(s: &[u8], at: usize) -> &[u8]
 pub fn short(s: &[u8], at: usize) -> u16
     ensures { result ≡ read_le 2 s.now at }
 {
-    wire::get16(s, at) as u16
+    wire::read_le::<2>(s, at) as u16
 }
 
 // The number of 32 bits at a position.
 pub fn long(s: &[u8], at: usize) -> u32
     ensures { result ≡ read_le 4 s.now at }
 {
-    wire::get32(s, at) as u32
+    wire::read_le::<4>(s, at) as u32
 }

@@ -9,7 +9,7 @@ use block::format::{
     ADDRESS_BASE, CALL_BYTES, CALL_KIND, CELL_BYTES, CELL_KIND, FIELD_BASE, FUNCTION_BYTES,
     FUNCTION_KIND, INSTR_BYTES, LONGEST_FUNCTION,
 };
-use block::{Address, Call, CallBody, Contract, Payee};
+use block::{Account, Address, Call, Contract};
 
 // The place value of the contract in a function's id.
 const ID_BASE: u64 = 65536;
@@ -19,12 +19,12 @@ const WITHDRAWN: u64 = 0;
 
 // Whom PAY pays where a number names its target: all its bits count.
 #[tactic(auto, unfolding(block::specs::Key::payee_of, block::specs::Key::address_of))]
-pub fn payee_of(n: u64) -> Payee
+pub fn payee_of(n: u64) -> Option<Account>
     ensures { result ≡ payee_of n }
 {
     match u16::try_from(n).map(address_of) {
-        Ok(Address::OfAccount(account)) if n != WITHDRAWN => Payee::To(account),
-        _ => Payee::Nobody,
+        Ok(Address::OfAccount(account)) if n != WITHDRAWN => Some(account),
+        _ => None,
     }
 }
 
@@ -81,21 +81,21 @@ pub fn code_at(block: &[u8], start: usize, size: usize) -> &[u8]
 
 // The call of a body.
 #[tactic(auto, unfolding(block::specs::Record::call_of, block::specs::Key::address_of))]
-fn call_in(s: &[u8]) -> CallBody
+fn call_in(s: &[u8]) -> Option<Call>
     requires { call_bytes ≤ length s.now }
     ensures { result ≡ call_of s.now }
 {
     let value = wire::get_i64(s, 6);
     let Address::OfAccount(sender) = address_of(short(s, 0)) else {
-        return CallBody::OutOfRange;
+        return None;
     };
     let Address::OfContract(contract) = address_of(short(s, 2)) else {
-        return CallBody::OutOfRange;
+        return None;
     };
     if value < 0 {
-        return CallBody::OutOfRange;
+        return None;
     }
-    CallBody::InRange(Call {
+    Some(Call {
         sender,
         contract,
         function: short(s, 4),
@@ -110,11 +110,11 @@ fn call_in(s: &[u8]) -> CallBody
 
 // The call whose body starts at a position of the block; one that is cut is none. The body is lent as a slice of just its length, so that no
 // read of its parts tests again where it ends.
-pub fn call_at(block: &[u8], at: usize) -> CallBody
+pub fn call_at(block: &[u8], at: usize) -> Option<Call>
     ensures { result ≡ call_of (drop at block.now) }
 {
     let Some(body) = from(block, at).get(..CALL_BYTES) else {
-        return CallBody::OutOfRange;
+        return None;
     };
     call_in(body)
 }

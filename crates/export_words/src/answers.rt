@@ -5,50 +5,49 @@ ghost use Rattle.sheet.specs.Sheet.{closing_number};
 ghost use Rattle.exports.specs.Exports.{size_of, length_after};
 
 use crate::words::HEAD_WORDS;
-use block::Verdict;
 use block::limits::MAX_BYTES;
 use decoder::numbers::{number_of, offset_of};
 use machine::layout::{CELLS_SIZE, FRAMES_SIZE, KEYS_SIZE, PLAN_SIZE, SEATS_SIZE, STATUS_SIZE};
 use machine::numbers::answer_number;
-use sheet::{Closing, MAX_SHEET};
+use sheet::MAX_SHEET;
 
 // The number of a verdict, 0 if the block is accepted.
-pub fn verdict_number(verdict: Verdict) -> u64
+pub fn verdict_number(verdict: Result<(), Refusal>) -> u64
     ensures { result ≡ verdict_number verdict }
 {
     match verdict {
-        Verdict::Accepted => 0,
-        Verdict::Refused(why) => number_of(why),
+        Ok(()) => 0,
+        Err(why) => number_of(why),
     }
 }
 
 // The offset of a verdict, 0 if the block is accepted.
-pub fn verdict_offset(verdict: Verdict) -> u64
+pub fn verdict_offset(verdict: Result<(), Refusal>) -> u64
     ensures { result ≡ verdict_offset verdict }
 {
     match verdict {
-        Verdict::Accepted => 0,
-        Verdict::Refused(why) => offset_of(why),
+        Ok(()) => 0,
+        Err(why) => offset_of(why),
     }
 }
 
 // The number of a closing, 0 if the sheet is written.
-pub fn closing_number(closing: Closing) -> u64
+pub fn closing_number(closing: Result<usize, Answer>) -> u64
     ensures { result ≡ closing_number closing }
 {
     match closing {
-        Closing::Written(_) => 0,
-        Closing::Refused(answer) => answer_number(answer),
+        Ok(_) => 0,
+        Err(answer) => answer_number(answer),
     }
 }
 
 // The lent length behind a closing: that of a written sheet, and what it was before if the sheet is refused.
-pub fn length_after(closing: Closing, before: u64) -> u64
+pub fn length_after(closing: Result<usize, Answer>, before: u64) -> u64
     ensures { result ≡ length_after closing before }
 {
     match closing {
-        Closing::Written(n) => n as u64,
-        Closing::Refused(_) => before,
+        Ok(n) => n as u64,
+        Err(_) => before,
     }
 }
 
@@ -67,5 +66,5 @@ pub fn size_of(which: usize) -> u64
         MAX_SHEET as u64,
         MAX_BYTES as u64,
     ];
-    wire::word(&sizes, which)
+    wire::get_or(&sizes, which, 0)
 }

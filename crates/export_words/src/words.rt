@@ -29,7 +29,7 @@ fn held_number(word: u64) -> u16
 fn held_word(words: &[u64], at: usize) -> u16
     ensures { result ≡ held_number (get_or words.now at 0) }
 {
-    held_number(wire::word(words, at))
+    held_number(wire::get_or(words, at, 0))
 }
 
 // The head that words stand for.
@@ -41,10 +41,10 @@ pub fn head_in(words: &[u64]) -> Head
         held[worker] = held_word(words, FIRST_HELD + worker);
     }
     Head {
-        workers: wire::word(words, WORKERS_WORD) as usize,
-        calls: wire::word(words, CALLS_WORD) as usize,
-        cells: wire::word(words, CELLS_WORD) as usize,
-        first_call: wire::word(words, FIRST_CALL_WORD) as usize,
+        workers: wire::get_or(words, WORKERS_WORD, 0) as usize,
+        calls: wire::get_or(words, CALLS_WORD, 0) as usize,
+        cells: wire::get_or(words, CELLS_WORD, 0) as usize,
+        first_call: wire::get_or(words, FIRST_CALL_WORD, 0) as usize,
         held,
     }
 }
@@ -58,7 +58,7 @@ pub fn store_held(words: &mut [u64], after: Head, worker: usize)
     }
     let held = after.held[worker];
     if held_word(words, FIRST_HELD + worker) != held {
-        wire::put_word(words, FIRST_HELD + worker, held as u64);
+        wire::put(words, FIRST_HELD + worker, held as u64);
     }
 }
 
@@ -68,9 +68,9 @@ pub fn store_opened(words: &mut [u64], head: Head)
         ≡ stored (repeated (length words.old) 0) 0
         (head.workers ∷ head.calls ∷ head.cells ∷ head.first_call ∷ []) }
 {
-    wire::clear_words(words);
-    wire::put_word(words, WORKERS_WORD, head.workers as u64);
-    wire::put_word(words, CALLS_WORD, head.calls as u64);
-    wire::put_word(words, CELLS_WORD, head.cells as u64);
-    wire::put_word(words, FIRST_CALL_WORD, head.first_call as u64);
+    wire::clear(words, 0);
+    wire::put(words, WORKERS_WORD, head.workers as u64);
+    wire::put(words, CALLS_WORD, head.calls as u64);
+    wire::put(words, CELLS_WORD, head.cells as u64);
+    wire::put(words, FIRST_CALL_WORD, head.first_call as u64);
 }

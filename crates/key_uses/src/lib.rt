@@ -7,7 +7,7 @@ ghost use Rattle.footprint.specs.Access.{reading, writing, accesses, entry_acces
 ghost use Rattle.block.specs.Naming.{cell_key, source_value, target_of};
 ghost use Rattle.key_uses.specs.Uses.{no_use, use_of, uses_of};
 
-use block::{Address, Call, Instr, Payee, Source};
+use block::{Address, Call, Instr, Source};
 use decoder::record::{argument, high_of, payee_of};
 
 // A key in two words, and how it is used.
@@ -148,13 +148,13 @@ pub fn bal_uses(c: Call) -> Uses
 
 // "PAY reads and writes it and writes the target's balance if the target is an account": it is the contract's balance.
 #[tactic(auto, unfolding(crate::specs::Uses::uses_of, footprint::specs::Access::pay_accesses))]
-fn payee_uses(c: Call, target: Payee) -> Uses
+fn payee_uses(c: Call, target: Option<Account>) -> Uses
     ensures { result ≡ uses_of (pay_accesses c target) }
 {
     let own = balance_use(Address::OfContract(c.contract), true, true);
     match target {
-        Payee::To(account) => two(own, balance_use(Address::OfAccount(account), false, true)),
-        Payee::Nobody => one(own),
+        Some(account) => two(own, balance_use(Address::OfAccount(account), false, true)),
+        None => one(own),
     }
 }
 

@@ -1,4 +1,6 @@
 -- What the exported functions answer and leave, over plain values: a head that is too short, and one that is long enough.
+use Rattle.std.specs.Prelude.{Result}
+use Rattle.machine.specs.declared.Answer.{Answer}
 use mathlib.Core.Path.{◌≡◌, sym, ap, ◌∙◌}
 use mathlib.Core.Bool.{true, false}
 use mathlib.Core.List.{List, [], ◌∷◌}
@@ -21,7 +23,6 @@ use Rattle.opening.specs.Opened.{sizes_for, opened_none, OpenedAs}
 use Rattle.opening.specs.declared.Opened.{Opened}
 use Rattle.opening.proofs.Laws.{opened_as}
 use Rattle.sheet.specs.Sheet.{closing_number, sheet_of}
-use Rattle.sheet.specs.declared.Closing.{Closing}
 use Rattle.closing.specs.Answered.{ClosedAs}
 use Rattle.exports.specs.Words.{Words, words, head_words, head_in, run_in, held_stored}
 use Rattle.exports.specs.Exports.{opening_for, opened_words, open_words, MovedWords, moved_words, move_words, serial_move, length_after, sheet_for, closed_words, sheet_words}
@@ -100,7 +101,7 @@ module _ (l : Words) (output : List ℕ) (before : ℕ) where
   sheet_long long = rw (le-ltb (length l.head) head_words long)
 
   pub sheet_made :
-      head_words ≤ length l.head → {h : Head} → h ≡ head_in l.head → {r : Closing} {written : List ℕ}
+      head_words ≤ length l.head → {h : Head} → h ≡ head_in l.head → {r : Result ℕ Answer} {written : List ℕ}
       → ClosedAs r written (sheet_of (lent h l.plan l.keys l.cells l.status l.seats l.frames) output)
       → {number size : ℕ} → number ≡ closing_number r → size ≡ length_after r before
       → record { number = number; sheet_length = size; output = written } ≡ sheet_words l output before

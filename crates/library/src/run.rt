@@ -72,6 +72,6 @@ pub fn serial_move(
     let after = serial_run(head, block, plan, keys, cells, status, seats, frames);
     Reply {
         head: after,
-        answer: Answer::Accepted,
+        answer: Ok(()),
     }
 }

@@ -1,4 +1,5 @@
 -- What the proofs of this crate cite: a row by its words, and a loop over the rows of a plan.
+use Rattle.std.specs.Prelude.{Err, Ok, Result}
 use mathlib.Core.Path.{◌≡◌, refl, sym, ap, ap₂, ◌∙◌, subst}
 use mathlib.Core.List.{List, [], ◌∷◌, ◌++◌, map}
 use Prim.Native.Nat.{ℕ, suc, ◌+◌, ◌-◌, ◌*◌, ◌≤◌, ◌<◌, min}
@@ -14,8 +15,6 @@ use Rattle.block.specs.Limits.{max_calls, max_workers}
 use Rattle.block.specs.Reader.{Read, accepted, refused, read_block}
 use Rattle.block.specs.Refusal.{number_of, offset_of}
 use Rattle.block.specs.declared.Refusal.{Refusal}
-use Rattle.block.specs.declared.Verdict.{Verdict}
-use Rattle.block.specs.declared.Verdict.TheVariants.{Accepted, Refused}
 use Rattle.text.specs.Lines.{passing, block_refused_text, counts_text, row_text}
 use Rattle.text.proofs.WrittenLaws.{spaced_line, written_more}
 use Rattle.text.proofs.Laws.{digits_length, spaced_length}
@@ -95,14 +94,14 @@ counts_length a b c d =
     omega (arith, ap length (spaced_line ps), length-append (spaced ps) (line_feed ∷ []), spaced_length (a ∷ b ∷ c ∷ d ∷ []))
 
 module _ (functions cells calls keys : ℕ) (plan : List ℕ) where
-  pub listed : (s t u : List ℕ) (at r n : ℕ) (v : Verdict) → v ≡ Accepted → n ≡ min calls max_calls
+  pub listed : (s t u : List ℕ) (at r n : ℕ) (v : Result (Unit {0}) Refusal) → v ≡ (Ok tt) → n ≡ min calls max_calls
       → Written s t 0 at (counts_text functions cells calls keys) → Written t u at r (rows_text n 0 plan)
       → Written s u 0 r (listing_text functions cells calls keys plan v)
   unfolding listing_text
   listed s t u at r n v e f w x =
       rw (e, ← f) (written_more s t u 0 at r (counts_text functions cells calls keys) (rows_text n 0 plan) w (x.same, x.end))
 
-  pub unlisted : (s t : List ℕ) (r n o : ℕ) (why : Refusal) (v : Verdict) → v ≡ Refused why → n ≡ number_of why → o ≡ offset_of why
+  pub unlisted : (s t : List ℕ) (r n o : ℕ) (why : Refusal) (v : Result (Unit {0}) Refusal) → v ≡ Err why → n ≡ number_of why → o ≡ offset_of why
       → Written s t 0 r (block_refused_text n o) → Written s t 0 r (listing_text functions cells calls keys plan v)
   unfolding listing_text
   unlisted s t r n o why v e f g w = rw (e, ← f, ← g) w
@@ -120,7 +119,7 @@ cells_read (refused why) = refl
 
 -- An accepted block was opened in a plan that is large enough.
 pub plan_opened : (file : List ℕ) (s : Sizes) {plan keys : List ℕ} {cells : List ℤ} {status seats : List ℕ} {frames : List ℤ} {o : Opened}
-    → opening_with o plan keys cells status seats frames ≡ opening_of s file max_workers → o.verdict ≡ Accepted → fixed_sizes.plan ≤ s.plan
+    → opening_with o plan keys cells status seats frames ≡ opening_of s file max_workers → o.verdict ≡ (Ok tt) → fixed_sizes.plan ≤ s.plan
 plan_opened file s e h = accepted_large s file max_workers (sym (ap (λ (x : machine.Opened). x.answer) e) ∙ h)
 
 -- A file that is opened, read and listed.

@@ -1,4 +1,6 @@
 -- How long a listing can be.
+use Rattle.std.specs.Prelude.{Err, Ok, Result}
+use Rattle.block.specs.declared.Refusal.{Refusal}
 use mathlib.Core.Path.{◌≡◌, ap, ◌∙◌}
 use mathlib.Core.List.{List, [], ◌∷◌, map}
 use Prim.Native.Nat.{ℕ, zero, suc, ◌+◌, ◌*◌, ◌≤◌, ◌<◌, min}
@@ -7,8 +9,6 @@ use native.Mathlib.Nat.{min-le_right}
 use lib.ListN.{length, length-append}
 use Rattle.block.specs.Limits.{max_calls, max_workers}
 use Rattle.block.specs.Refusal.{number_of, offset_of}
-use Rattle.block.specs.declared.Verdict.{Verdict}
-use Rattle.block.specs.declared.Verdict.TheVariants as verdict
 use Rattle.wire.specs.Decimal.{decimal, line_feed, parts}
 use Rattle.wire.specs.Rows.{in_row}
 use Rattle.text.specs.Lines.{block_refused_text, counts_text, passing, row_text}
@@ -41,10 +41,10 @@ refused_fits n offset =
 counts_fit : (functions cells calls keys : ℕ) → length (counts_text functions cells calls keys) ≤ 86
 counts_fit functions cells calls keys = line_fits 110 (functions ∷ cells ∷ calls ∷ keys ∷ [])
 
-text_fits : (functions cells calls keys : ℕ) (plan : List ℕ) (v : Verdict) → length (listing_text functions cells calls keys plan v) ≤ max_listing
+text_fits : (functions cells calls keys : ℕ) (plan : List ℕ) (v : Result (Unit {0}) Refusal) → length (listing_text functions cells calls keys plan v) ≤ max_listing
 unfolding listing_text
-text_fits functions cells calls keys plan (verdict.Refused why) = refused_fits (number_of why) (offset_of why)
-text_fits functions cells calls keys plan verdict.Accepted =
+text_fits functions cells calls keys plan (Err why) = refused_fits (number_of why) (offset_of why)
+text_fits functions cells calls keys plan (Ok tt) =
     let few : min calls max_calls ≤ max_calls = min-le_right calls max_calls in
     omega (arith, length-append (counts_text functions cells calls keys) (rows_text (min calls max_calls) 0 plan), counts_fit functions cells calls keys, rows_fit (min calls max_calls) 0 plan (omega arith))
 

@@ -1,9 +1,8 @@
 -- What a listing tells of a block: its refusal; or its numbers, and for each call those that it waits for.
-use Rattle.std.specs.Prelude.{◌≡◌, List, [], ◌++◌, ℕ, zero, suc, ◌+◌, ◌*◌, min, ℤ, length}
+use Rattle.block.specs.declared.Refusal.{Refusal}
+use Rattle.std.specs.Prelude.{◌≡◌, List, [], ◌++◌, ℕ, zero, suc, ◌+◌, ◌*◌, min, ℤ, length, Err, Ok, Result}
 use Rattle.block.specs.Limits.{max_calls, max_workers}
 use Rattle.block.specs.Refusal.{number_of, offset_of}
-use Rattle.block.specs.declared.Verdict.{Verdict}
-use Rattle.block.specs.declared.Verdict.TheVariants as verdict
 use Rattle.text.specs.Lines.{block_refused_text, counts_text, row_text}
 use Rattle.text.specs.Written.{Written}
 use Rattle.block.specs.BlockOfFile.{block_of}
@@ -16,9 +15,9 @@ rows_text zero j plan = []
 rows_text (suc left) j plan = row_text j (row_in plan j) ++ rows_text left (j + 1) plan
 
 -- `e NUMBER OFFSET` for a refused block; else `n FUNCTIONS CELLS CALLS KEYS` and the rows.
-unfoldable pub listing_text : (functions cells calls keys : ℕ) → List ℕ → Verdict → List ℕ
-listing_text functions cells calls keys plan (verdict.Refused why) = block_refused_text (number_of why) (offset_of why)
-listing_text functions cells calls keys plan verdict.Accepted =
+unfoldable pub listing_text : (functions cells calls keys : ℕ) → List ℕ → Result (Unit {0}) Refusal → List ℕ
+listing_text functions cells calls keys plan (Err why) = block_refused_text (number_of why) (offset_of why)
+listing_text functions cells calls keys plan (Ok tt) =
     counts_text functions cells calls keys ++ rows_text (min calls max_calls) 0 plan
 
 -- The listing of a file, opened for 8 workers in buffers of these sizes.

@@ -8,7 +8,6 @@ ghost use Rattle.opening.specs.Opened.{sizes_for};
 ghost use Rattle.listing.specs.Listing.{rows_text, Listed};
 ghost use Rattle.text.specs.Written.{Written};
 
-use block::Verdict;
 use block::limits::{MAX_CALLS, MAX_WORKERS};
 use decoder::numbers::{number_of, offset_of};
 use text::{block_refused_line, counts_line, row_line};
@@ -52,8 +51,8 @@ pub fn list(
 {
     let o = opening::open(file, MAX_WORKERS, plan, keys, cells, status, seats, frames);
     match o.verdict {
-        Verdict::Refused(why) => block_refused_line(out, 0, number_of(why), offset_of(why)),
-        Verdict::Accepted => {
+        Err(why) => block_refused_line(out, 0, number_of(why), offset_of(why)),
+        Ok(()) => {
             let l = reader::read_block(file);
             let at = counts_line(
                 out,

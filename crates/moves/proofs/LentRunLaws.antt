@@ -7,13 +7,11 @@ use native.Mathlib.Omega.{arith}
 use lib.Dec.{ltb}
 use lib.IntN.{ℤ}
 use lib.ListN.{length, drop, length-drop}
-use Rattle.std.specs.Prelude.{if◌then◌else◌, Option}
+use Rattle.std.specs.Prelude.{if◌then◌else◌, Option, None, Some}
 use Rattle.block.specs.Limits.{max_code}
 use Rattle.block.specs.Record.{head_bytes, call_bytes, call_record_bytes, call_of}
 use Rattle.decoder.proofs.Laws.{call_cut}
 use Rattle.block.specs.declared.Call.{Call}
-use Rattle.block.specs.declared.CallBody.{CallBody}
-use Rattle.block.specs.declared.CallBody.TheVariants.{InRange, OutOfRange}
 use Rattle.machine.specs.Run.{Run, place_in, count_in, plan_word, regs_in}
 use Rattle.machine.specs.Step.{View, Performed, broken, onward, ending, concluded, finish, step_call, step_place}
 use Rattle.machine.specs.Moves.{Moved, local_of, stay, step_held, step_record, stepped, view_of}
@@ -25,7 +23,7 @@ use Rattle.moves.specs.declared.Turn.{Turn}
 
 -- A record behind the end of the block.
 pub record_short : (block : List ℕ) (first c : ℕ) → length block < first + call_record_bytes * c + head_bytes
-    → OutOfRange ≡ call_of (drop (first + call_record_bytes * c + head_bytes) block)
+    → None ≡ call_of (drop (first + call_record_bytes * c + head_bytes) block)
 record_short block first c h =
     let cut : length (drop (first + call_record_bytes * c + head_bytes) block) < call_bytes = simp length-drop (omega arith) in
     call_cut (drop (first + call_record_bytes * c + head_bytes) block) cut
@@ -84,7 +82,7 @@ module _ (head : Head) (block plan keys : List ℕ) (cells : List ℤ) (status s
     same_test = rw (← placed) tested
 
     module _ (seated : ok ≡ true) {first : ℕ} (starts : first ≡ head.first_call)
-        {body : CallBody} (read : body ≡ call_of (drop (first + call_record_bytes * c + head_bytes) block)) where
+        {body : Option Call} (read : body ≡ call_of (drop (first + call_record_bytes * c + head_bytes) block)) where
       on_head : behind_place head.first_call ≡ step_held block run w c
       unfolding step_held
       on_head = test_passed bad_place (stay run Damaged) (behind_place head.first_call) same_test seated
@@ -92,6 +90,6 @@ module _ (head : Head) (block plan keys : List ℕ) (cells : List ℤ) (status s
       on_record : step_record block run w c body ≡ step_held block run w c
       on_record = ap (step_record block run w c) read ∙ ap behind_place starts ∙ on_head
 
-      pub held_stepped : {call : Call} {m : Moved} → body ≡ InRange call → m ≡ stepped run w c (step_call (view_of block run c call) (local_of run w c) cells) → m ≡ step_held block run w c
+      pub held_stepped : {call : Call} {m : Moved} → body ≡ Some call → m ≡ stepped run w c (step_call (view_of block run c call) (local_of run w c) cells) → m ≡ step_held block run w c
       unfolding step_record
       held_stepped e p = p ∙ ap (step_record block run w c) (sym e) ∙ on_record

@@ -14,8 +14,6 @@ use Rattle.arith.proofs.IntegerLaws.{sum, diff, lt_z_false, non_neg_true, le_le_
 use Rattle.arith.proofs.Laws.{read, read_back, read_fits, diff_fits}
 use Rattle.footprint.specs.Access.{Access}
 use Rattle.machine.specs.Step.{cell_at, deposit_cell, transfer_cells, lookup}
-use Rattle.machine.specs.declared.Lookup.{Lookup}
-use Rattle.machine.specs.declared.Lookup.TheVariants.{Cell}
 use Rattle.moves.specs.Turn.{StandsForPlace, cell_view, lookup_in, turned}
 use Rattle.moves.specs.declared.Turn.TheVariants.{Going}
 use Rattle.std.specs.Prelude.{Option, Some}
@@ -70,7 +68,7 @@ module _ (place count : ℕ) (regs : List ℤ) {amount : ℤ} (g : SFits w64 amo
   pub deposit_done : lt_z (read there) (pos 0) ≡ false → lt_z (read (largest -ℤ read there)) (read amount) ≡ false → non_neg amount ≡ true
       → {held : ℤ} → SFits w64 held → held ≡ cell_at cells n → lt_z held amount ≡ false → {mid after : List ℤ}
       → mid ≡ set cells n (read (read held -ℤ read amount)) → after ≡ set mid m (read (read there +ℤ read amount))
-      → StandsForPlace (Some (Going (place + 1) count regs)) after cells (deposit_cell place count regs amount n cells (Cell m))
+      → StandsForPlace (Some (Going (place + 1) count regs)) after cells (deposit_cell place count regs amount n cells (Some m))
   unfolding deposit_cell
   deposit_done e r nonneg {held} h from holds p q =
       let paid : read (read held -ℤ read amount) ≡ held -ℤ amount = read_back (from_fits h g nonneg holds) ∙ rw (read_back h, read_back g) in
@@ -80,7 +78,7 @@ module _ (place count : ℕ) (regs : List ℤ) {amount : ℤ} (g : SFits w64 amo
 -- ---- the whole of a transfer
 
 pub transfer_enough : (plan keys : List ℕ) (c place count : ℕ) (regs : List ℤ) {amount : ℤ} → SFits w64 amount → (short : ℕ) (to : Access) (cells : List ℤ)
-    → {found : Lookup} {n : ℕ} → found ≡ Cell n → {held : ℤ} → SFits w64 held → held ≡ cell_at cells n
+    → {found : Option ℕ} {n : ℕ} → found ≡ Some n → {held : ℤ} → SFits w64 held → held ≡ cell_at cells n
     → lt_z (read held) (pos 0) ≡ false → lt_z (read held) (read amount) ≡ false → {t : Option Turn} {after : List ℤ}
     → StandsForPlace t after cells (deposit_cell place count regs (read amount) n cells (lookup_in plan keys c to))
     → StandsForPlace t after cells (transfer_cells (cell_view plan keys c) place count regs amount short to cells found)

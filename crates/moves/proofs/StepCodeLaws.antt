@@ -14,8 +14,6 @@ use Rattle.block.specs.Instruction.{decode, instr_bytes}
 use Rattle.block.specs.Limits.{max_code}
 use Rattle.block.specs.Record.{code_at}
 use Rattle.block.specs.declared.Call.{Call}
-use Rattle.block.specs.declared.Decoded.{Decoded}
-use Rattle.block.specs.declared.Decoded.TheVariants.{Valid}
 use Rattle.block.specs.declared.Instr.{Instr}
 use Rattle.footprint.specs.Access.{Access, accesses, entry_accesses}
 use Rattle.key_uses.specs.Uses.{uses_of}
@@ -45,8 +43,8 @@ pub entry_payable : (call : Call) (regs : List ℤ) {a : Action} → a ≡ entry
 entry_payable call regs e = rw e (fitting_payable (entry_action call regs).next (entry_accesses call) (entry_fits call regs))
 
 -- What was decoded decides the action.
-module _ (call : Call) (place : ℕ) (regs : List ℤ) (d : Decoded) {acted : Acted} (known : acted ≡ acted_of call (place - 1 + 1) regs d) (i : Instr) (valid : acted.decoded ≡ Valid i) where
-  pub acted_decoded : d ≡ Valid i
+module _ (call : Call) (place : ℕ) (regs : List ℤ) (d : Option Instr) {acted : Acted} (known : acted ≡ acted_of call (place - 1 + 1) regs d) (i : Instr) (valid : acted.decoded ≡ Some i) where
+  pub acted_decoded : d ≡ Some i
   acted_decoded = sym (ap (λ (x : Acted). x.decoded) known) ∙ valid
 
   pub acted_action : 0 < place → acted.action ≡ instr_action call place regs i
@@ -108,7 +106,7 @@ module _ (block plan keys : List ℕ) (c : ℕ) (call : Call) (place : ℕ) (reg
       (acted_stands 0 (entry_accesses call) (entry_action call regs) (entry_fits call regs) u e)
 
   module _ (count : ℕ) where
-    pub decoded_valid : 0 < place → (x : Decoded) {acted : Acted} → acted ≡ acted_of call (place - 1 + 1) regs x → (i : Instr) → acted.decoded ≡ Valid i
+    pub decoded_valid : 0 < place → (x : Option Instr) {acted : Acted} → acted ≡ acted_of call (place - 1 + 1) regs x → (i : Instr) → acted.decoded ≡ Some i
         → {us : Uses} → us ≡ uses_of (accesses call i)
         → done_at (Some (record { count = count + 1; uses = us; action = acted.action })) ≡ step_decoded (view_in block plan keys c call) place count regs cells x
     unfolding step_decoded

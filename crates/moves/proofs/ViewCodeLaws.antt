@@ -1,4 +1,6 @@
 -- A step's actions against what the code holds: the accesses as words of keys, and what an action looks at of the view.
+use Rattle.arith.specs.declared.NoResult.{NoResult}
+use Rattle.block.specs.declared.address.Account.{Account}
 use mathlib.Core.Path.{◌≡◌, refl}
 use mathlib.Core.Bool.{Bool, true, false}
 use mathlib.Core.List.{List, [], ◌∷◌}
@@ -7,13 +9,9 @@ use native.Mathlib.Omega.{arith}
 use lib.IntN.{ℤ, pos}
 use lib.ListN.{length}
 use lib.Signed.{lt_z, non_neg}
-use Rattle.std.specs.Prelude.{if◌then◌else◌}
+use Rattle.std.specs.Prelude.{if◌then◌else◌, Err, None, Ok, Option, Result, Some}
 use Rattle.arith.proofs.IntegerLaws.{lt_z_true, non_neg_of}
-use Rattle.arith.specs.declared.Checked.{Checked}
-use Rattle.arith.specs.declared.Checked.TheVariants as checked
 use Rattle.block.specs.declared.Call.{Call}
-use Rattle.block.specs.declared.Payee.{Payee}
-use Rattle.block.specs.declared.Payee.TheVariants.{To, Nobody}
 use Rattle.block.specs.declared.Instr.{Instr}
 use Rattle.block.specs.declared.Instr.TheVariants.{Stop, Throw, Set, Arg, Sender, Value, Add, Sub, Mul, Div, Get, Put, Bal, Pay, Jeq, Jlt}
 use Rattle.footprint.specs.Access.{Access, accesses, entry_accesses, pay_accesses}
@@ -23,8 +21,6 @@ use Rattle.machine.specs.Action.{checked_action, pay_action, instr_action, entry
 use Rattle.machine.specs.Step.{access_at, lookup, perform, transfer_cells}
 use Rattle.machine.specs.declared.Next.{Next}
 use Rattle.machine.specs.declared.Next.TheVariants.{Go, End, Load, Store, Transfer}
-use Rattle.machine.specs.declared.Lookup.{Lookup}
-use Rattle.machine.specs.declared.Lookup.TheVariants.{Cell, NoCell}
 use Rattle.moves.specs.Turn.{access_of, accesses_of, cell_view, view_in, Payable, KeyWorded}
 
 -- ---- accesses and their words
@@ -82,16 +78,16 @@ if_fits : (b : Bool) (x y : Next) (as' : List Access) → (b ≡ true → NextHa
 if_fits true x y as' f g = f refl
 if_fits false x y as' f g = g refl
 
-checked_fits : (place : ℕ) (regs : List ℤ) (x : ℕ) (r : Checked) (as' : List Access) → NextHasAccesses (checked_action place regs x r).next as'
+checked_fits : (place : ℕ) (regs : List ℤ) (x : ℕ) (r : Result ℤ NoResult) (as' : List Access) → NextHasAccesses (checked_action place regs x r).next as'
 unfolding checked_action
-checked_fits place regs x (checked.Value v) as' = tt
-checked_fits place regs x checked.Overflow as' = tt
-checked_fits place regs x checked.ZeroDivisor as' = tt
+checked_fits place regs x (Ok v) as' = tt
+checked_fits place regs x (Err Overflow) as' = tt
+checked_fits place regs x (Err ZeroDivisor) as' = tt
 
-pay_fits : (c : Call) (regs : List ℤ) (amount : ℤ) (to : Payee) → NextHasAccesses (pay_action regs amount to).next (pay_accesses c to)
+pay_fits : (c : Call) (regs : List ℤ) (amount : ℤ) (to : Option Account) → NextHasAccesses (pay_action regs amount to).next (pay_accesses c to)
 unfolding pay_action pay_accesses
-pay_fits c regs amount Nobody = tt
-pay_fits c regs amount (To account) = if_fits (non_neg amount) _ _ _ (λ e. (e, omega arith)) (λ e. tt)
+pay_fits c regs amount None = tt
+pay_fits c regs amount (Some account) = if_fits (non_neg amount) _ _ _ (λ e. (e, omega arith)) (λ e. tt)
 
 pub instr_fits : (c : Call) (place : ℕ) (regs : List ℤ) (i : Instr) → NextHasAccesses (instr_action c place regs i).next (accesses c i)
 unfolding instr_action accesses
@@ -127,12 +123,12 @@ entry_fits c regs = go (lt_z (pos 0) c.value) refl
 
 -- Of the view, its entries and keys.
 module _ (place count : ℕ) (regs : List ℤ) (cells : List ℤ) (block plan keys : List ℕ) (c : ℕ) (call : Call) where
-  transfer_view : (amount : ℤ) (short : ℕ) (to : Access) (found : Lookup)
+  transfer_view : (amount : ℤ) (short : ℕ) (to : Access) (found : Option ℕ)
       → transfer_cells (view_in block plan keys c call) place count regs amount short to cells found
       ≡ transfer_cells (cell_view plan keys c) place count regs amount short to cells found
   unfolding transfer_cells lookup
-  transfer_view amount short to NoCell = refl
-  transfer_view amount short to (Cell n) = refl
+  transfer_view amount short to None = refl
+  transfer_view amount short to (Some n) = refl
 
   pub perform_held : (as' : List Access) (next : Next) → NextHasAccesses next as'
       → perform (view_in block plan keys c call) place count as' regs next cells

@@ -16,8 +16,6 @@ use Rattle.machine.specs.Moves.{Moved, call_key_count, own_entries, stepped}
 use Rattle.machine.specs.declared.Head.{Head}
 use Rattle.machine.specs.declared.Next.{Next}
 use Rattle.machine.specs.declared.Next.TheVariants.{Go, End, Load, Store, Transfer}
-use Rattle.machine.specs.declared.Lookup.{Lookup}
-use Rattle.machine.specs.declared.Lookup.TheVariants.{NoCell}
 use Rattle.moves.specs.Lent.{lent}
 use Rattle.moves.specs.declared.Due.{Due}
 use Rattle.moves.specs.declared.Site.{Site}
@@ -67,8 +65,8 @@ abbrev pub accesses_of : Uses → List Access
 accesses_of us = access_of us.first ∷ access_of us.second ∷ []
 
 -- The lookup of a view, from its parts.
-abbrev pub lookup_in : List ℕ → List ℕ → ℕ → Access → Lookup
-lookup_in plan keys call a = if leb (call_key_count plan call) max_call_keys then find_entry keys (own_entries plan call) a else NoCell
+abbrev pub lookup_in : List ℕ → List ℕ → ℕ → Access → Option ℕ
+lookup_in plan keys call a = if leb (call_key_count plan call) max_call_keys then find_entry keys (own_entries plan call) a else None
 
 -- Plan and keys have their fixed sizes, and the call is in its range: what a move has tested before it uses an entry.
 pub record EntriesReady (plan keys : List ℕ) (call : ℕ) : Type 0 where

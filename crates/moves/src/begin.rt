@@ -22,7 +22,7 @@ fn state_of(status: &[u64], call: usize) -> u64
     requires { call < max_calls }
     ensures { result ≡ state_of status.now call }
 {
-    wire::word(status, STATUS_WORDS * call)
+    wire::get_or(status, STATUS_WORDS * call, 0)
 }
 
 // 22 and 23, and 20 for the numbers that these use: the number of calls, and the call that the worker holds.
@@ -115,7 +115,7 @@ fn begin_call(
     put_seat(seats, worker, 0, 0);
     put_regs(frames, worker, [0; REGISTERS]);
     save(plan, call, n, cells, frames, worker);
-    wire::put_word(status, STATUS_WORDS * call, RUNNING);
+    wire::put(status, STATUS_WORDS * call, RUNNING);
     Ok(hold.held())
 }
 

@@ -28,7 +28,7 @@ fn cancel_held(
         hold.call }
 {
     give_back(hold, plan, frames, cells)?;
-    wire::put_word(status, STATUS_WORDS * hold.call, WAITING);
+    wire::put(status, STATUS_WORDS * hold.call, WAITING);
     Ok(0)
 }
 

@@ -16,7 +16,7 @@ pub(crate) fn key_count(plan: &[u64], call: usize) -> usize
     requires { call < max_calls }
     ensures { result ≡ call_key_count plan.now call }
 {
-    wire::word(plan, PLAN_WORDS * call + KEY_COUNT) as usize
+    wire::get_or(plan, PLAN_WORDS * call + KEY_COUNT, 0) as usize
 }
 
 // The number of an entry's cell.
@@ -68,7 +68,7 @@ fn old_value(cells: &[i64], entry: u64) -> i64
     ensures { result ≡ (if entry_writes entry then cell_at cells.now (entry_cell entry) else pos 0) }
 {
     if is_written(entry) {
-        wire::value(cells, cell_of(entry))
+        wire::get_or(cells, cell_of(entry), 0)
     } else {
         0
     }
@@ -92,7 +92,7 @@ pub(crate) fn save(
 {
     let base = FRAME_VALUES * worker + REGISTERS;
     for (k, entry) in entries_of(plan, call, n).iter().enumerate() {
-        wire::put_value(frames, base + k, old_value(cells, *entry));
+        wire::put(frames, base + k, old_value(cells, *entry));
     }
 }
 
@@ -101,7 +101,7 @@ fn put_back(cells: &mut [i64], entry: u64, old: i64)
     ensures { cells.new ≡ (if entry_writes entry then set cells.old (entry_cell entry) old else cells.old) }
 {
     if is_written(entry) {
-        wire::put_value(cells, cell_of(entry), old);
+        wire::put(cells, cell_of(entry), old);
     }
 }
 

@@ -95,7 +95,7 @@ pub(crate) fn reply(head: Head, hold: Hold, left: Result<u16, Answer>) -> Reply
             next.held[hold.worker] = held;
             Reply {
                 head: next,
-                answer: Answer::Accepted,
+                answer: Ok(()),
             }
         }
         Err(answer) => Reply { head, answer },

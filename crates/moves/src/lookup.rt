@@ -10,7 +10,6 @@ use crate::entries::{cell_of, entries_of, is_written};
 use block::limits::{MAX_CALL_KEYS, MAX_KEYS};
 use footprint::layout::{KEY_COUNT, KEY_WORDS, PLAN_WORDS};
 use key_uses::KeyUse;
-use machine::Lookup;
 
 // Word k of a call in the plan.
 pub(crate) fn plan_word(plan: &[u64], call: usize, k: usize) -> u64
@@ -42,35 +41,35 @@ fn has_flags(e: u64, u: KeyUse) -> bool
 }
 
 // The cell of an entry that has the wanted key, if it has the flags too.
-fn kept(e: u64, u: KeyUse) -> Lookup
+fn kept(e: u64, u: KeyUse) -> Option<usize>
     ensures { result
-        ≡ (if (not u.reads || entry_reads e) && (not u.writes || entry_writes e) then Lookup.Cell (entry_cell e) else Lookup.NoCell) }
+        ≡ (if (not u.reads || entry_reads e) && (not u.writes || entry_writes e) then Some (entry_cell e) else None) }
 {
     if has_flags(e, u) {
-        Lookup::Cell(cell_of(e))
+        Some(cell_of(e))
     } else {
-        Lookup::NoCell
+        None
     }
 }
 
 // The cell that the entries of a call keep for the key of a use, with the flags that it wants; an entry that is looked at has a cell
 // number of the table.
-pub(crate) fn lookup(plan: &[u64], keys: &[u64], call: usize, u: KeyUse) -> Lookup
+pub(crate) fn lookup(plan: &[u64], keys: &[u64], call: usize, u: KeyUse) -> Option<usize>
     requires entries_ready { EntriesReady plan.now keys.now call }
     requires key_worded { KeyWorded u }
     ensures { result ≡ lookup_in plan.now keys.now call (access_of u) }
 {
     let n = plan_word(plan, call, KEY_COUNT) as usize;
     if MAX_CALL_KEYS < n {
-        return Lookup::NoCell;
+        return None;
     }
     for e in entries_of(plan, call, n) {
         if MAX_KEYS <= cell_of(*e) {
-            return Lookup::NoCell;
+            return None;
         }
         if has_key(keys, *e, u) {
             return kept(*e, u);
         }
     }
-    Lookup::NoCell
+    None
 }

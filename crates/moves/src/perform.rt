@@ -13,7 +13,7 @@ use arith::LARGEST;
 use block::format::{FIELD_BASE, FIELDS};
 use key_uses::{KeyUse, Uses};
 use machine::layout::REGISTERS;
-use machine::{Action, Lookup, Next};
+use machine::{Action, Next};
 
 impl Site {
     // The call goes on at the next place.
@@ -56,10 +56,10 @@ fn load(
         (load_cell site.place site.count regs x (access_of u) cells.now
         (lookup_in plan.now keys.now site.call (access_of u))) }
 {
-    let Lookup::Cell(n) = lookup(plan, keys, site.call, u) else {
+    let Some(n) = lookup(plan, keys, site.call, u) else {
         return None;
     };
-    let v = wire::value(cells, n);
+    let v = wire::get_or(cells, n, 0);
     let balance = is_balance(u);
     if balance & (v < 0) {
         return None;
@@ -86,10 +86,10 @@ fn store(
         (store_cell site.place site.count regs v cells.old
         (lookup_in plan.now keys.now site.call (access_of u))) }
 {
-    let Lookup::Cell(n) = lookup(plan, keys, site.call, u) else {
+    let Some(n) = lookup(plan, keys, site.call, u) else {
         return None;
     };
-    wire::put_value(cells, n, v);
+    wire::put(cells, n, v);
     Some(site.next(regs))
 }
 
@@ -107,18 +107,18 @@ fn pay_into(
     requires amount_value { non_neg amount ≡ true }
     requires amount_value_2 { lt_z (cell_at cells.old n) amount ≡ false }
     ensures { record { turn = result; cells = cells.new }
-        ≡ turned cells.old (deposit_cell site.place site.count regs amount n cells.old (Lookup.Cell m)) }
+        ≡ turned cells.old (deposit_cell site.place site.count regs amount n cells.old (Some m)) }
 {
-    let held = wire::value(cells, n);
-    let there = wire::value(cells, m);
+    let held = wire::get_or(cells, n, 0);
+    let there = wire::get_or(cells, m, 0);
     if there < 0 {
         return None;
     }
     if LARGEST - there < amount {
         return None;
     }
-    wire::put_value(cells, n, held - amount);
-    wire::put_value(cells, m, there + amount);
+    wire::put(cells, n, held - amount);
+    wire::put(cells, m, there + amount);
     Some(site.next(regs))
 }
 
@@ -144,7 +144,7 @@ fn deposit(
         (deposit_cell site.place site.count regs amount n cells.old
         (lookup_in plan.now keys.now site.call (access_of u))) }
 {
-    let Lookup::Cell(m) = lookup(plan, keys, site.call, u) else {
+    let Some(m) = lookup(plan, keys, site.call, u) else {
         return None;
     };
     pay_into(cells, site, regs, amount, n, m)
@@ -174,10 +174,10 @@ fn transfer(
         (lookup_in plan.now keys.now site.call (access_of uses.first))) }
 {
     let to = uses.second;
-    let Lookup::Cell(n) = lookup(plan, keys, site.call, uses.first) else {
+    let Some(n) = lookup(plan, keys, site.call, uses.first) else {
         return None;
     };
-    let held = wire::value(cells, n);
+    let held = wire::get_or(cells, n, 0);
     if held < 0 {
         return None;
     }

@@ -16,7 +16,7 @@ use crate::{Due, Site};
 use action::{act_at, enter};
 use block::format::INSTR_BYTES;
 use block::outcomes::{ENDED, OUT_OF_FUEL, UNKNOWN_FUNCTION};
-use block::{Call, Decoded, Instr};
+use block::{Call, Instr};
 use decoder::record::code_at;
 use footprint::layout::{CODE_LENGTH, CODE_START};
 use key_uses::{Uses, bal_uses, entry_uses, get_uses, no_uses, pay_uses, put_uses};
@@ -92,7 +92,7 @@ fn due_decoded(
 {
     let index = site.place - 1;
     let acted = act_at(code, INSTR_BYTES * index, index as u16, size, body, regs);
-    let Decoded::Valid(i) = acted.decoded else {
+    let Some(i) = acted.decoded else {
         return None;
     };
     Some(Due {

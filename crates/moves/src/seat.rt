@@ -10,7 +10,7 @@ pub(crate) fn place_of(seats: &[u64], worker: usize) -> u64
     requires { worker < max_workers }
     ensures { result ≡ place_in seats.now worker }
 {
-    wire::word(seats, SEAT_WORDS * worker)
+    wire::get_or(seats, SEAT_WORDS * worker, 0)
 }
 
 // Its count.
@@ -18,7 +18,7 @@ pub(crate) fn count_of(seats: &[u64], worker: usize) -> u64
     requires { worker < max_workers }
     ensures { result ≡ count_in seats.now worker }
 {
-    wire::word(seats, SEAT_WORDS * worker + SEAT_COUNT)
+    wire::get_or(seats, SEAT_WORDS * worker + SEAT_COUNT, 0)
 }
 
 // The place and the count, stored.
@@ -27,8 +27,8 @@ pub(crate) fn put_seat(seats: &mut [u64], worker: usize, place: u64, count: u64)
     ensures { seats.new ≡ with_seat seats.old worker place count }
 {
     let at = SEAT_WORDS * worker;
-    wire::put_word(seats, at, place);
-    wire::put_word(seats, at + SEAT_COUNT, count);
+    wire::put(seats, at, place);
+    wire::put(seats, at + SEAT_COUNT, count);
 }
 
 // The registers of a worker's call.
@@ -41,7 +41,7 @@ pub(crate) fn regs_of(frames: &[i64], worker: usize) -> [i64; REGISTERS]
     // Stays: with copy_from_slice here and in put_regs a move takes 46 instructions more (callgrind, the block `all conflict`), 796 for 750.
     let mut regs = [0; REGISTERS];
     for k in 0..REGISTERS {
-        regs[k] = wire::value(frames, at + k);
+        regs[k] = wire::get_or(frames, at + k, 0);
     }
     regs
 }
@@ -54,6 +54,6 @@ pub(crate) fn put_regs(frames: &mut [i64], worker: usize, regs: [i64; REGISTERS]
 {
     let at = FRAME_VALUES * worker;
     for k in 0..REGISTERS {
-        wire::put_value(frames, at + k, regs[k]);
+        wire::put(frames, at + k, regs[k]);
     }
 }

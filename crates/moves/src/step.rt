@@ -21,7 +21,7 @@ use crate::{Hold, Reply, Site, Turn};
 use block::format::{CALL_RECORD_BYTES, HEAD_BYTES};
 use block::limits::MAX_CODE;
 use block::outcomes::THROWN;
-use block::{Call, CallBody};
+use block::Call;
 use decoder::record::call_at;
 use footprint::layout::CODE_LENGTH;
 use machine::layout::{FINISHED, REGISTERS, STATUS_WORDS, large_enough};
@@ -66,16 +66,16 @@ fn in_range(plan: &[u64], site: Site) -> bool
 }
 
 // The record of a call in a block whose first call record starts at `start`; one that the block does not hold whole is none.
-fn record_of(block: &[u8], start: usize, call: usize) -> CallBody
+fn record_of(block: &[u8], start: usize, call: usize) -> Option<Call>
     requires { call < max_calls }
     ensures { result ≡ call_of (drop (start + call_record_bytes * call + head_bytes) block.now) }
 {
     let at = CALL_RECORD_BYTES * call + HEAD_BYTES;
     if block.len() < at {
-        return CallBody::OutOfRange;
+        return None;
     }
     if block.len() - at < start {
-        return CallBody::OutOfRange;
+        return None;
     }
     call_at(block, start + at)
 }
@@ -110,7 +110,7 @@ fn step_held(
     if !in_range(plan, site) {
         return None;
     }
-    let CallBody::InRange(body) = record_of(block, start, call) else {
+    let Some(body) = record_of(block, start, call) else {
         return None;
     };
     let regs = regs_of(frames, worker);
@@ -123,9 +123,9 @@ fn put_receipt(status: &mut [u64], call: usize, outcome: u64, count: u64)
     ensures { status.new ≡ with_receipt status.old call outcome count }
 {
     let at = STATUS_WORDS * call;
-    wire::put_word(status, at, FINISHED);
-    wire::put_word(status, at + 1, outcome);
-    wire::put_word(status, at + 2, count);
+    wire::put(status, at, FINISHED);
+    wire::put(status, at + 1, outcome);
+    wire::put(status, at + 2, count);
 }
 
 // The end of a call. "On 3, 4, 5 the same step restores every cell of the write set", on 6 "as 4 does", and on 7 "all is restored"; behind all tests the

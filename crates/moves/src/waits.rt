@@ -13,7 +13,7 @@ pub(crate) fn wait_of(status: &[u64], call: usize) -> u64
     requires { call < max_calls }
     ensures { result ≡ wait_count status.now call }
 {
-    wire::word(status, STATUS_WORDS * call + WAIT_WORD)
+    wire::get_or(status, STATUS_WORDS * call + WAIT_WORD, 0)
 }
 
 // Whether the row of a call names another.
@@ -57,7 +57,7 @@ fn lower_one(plan: &[u64], status: &mut [u64], call: usize, later: usize)
 {
     if names(plan, later, call) {
         let waits = wait_of(status, later);
-        wire::put_word(
+        wire::put(
             status,
             STATUS_WORDS * later + WAIT_WORD,
             waits.saturating_sub(1),

@@ -8,7 +8,7 @@ use borrow.Author.Tests.{leb-true}
 use lib.Dec.{eqb, leb, ltb}
 use lib.IntN.{ℤ, pos}
 use lib.ListN.{length}
-use Rattle.std.specs.Prelude.{if◌then◌else◌}
+use Rattle.std.specs.Prelude.{if◌then◌else◌, Err, Ok, Result}
 use Rattle.arith.proofs.ChoiceLaws.{both, if_all}
 use Rattle.wire.specs.Bytes.{repeated}
 use Rattle.block.specs.Limits.{max_calls, max_workers}
@@ -19,8 +19,6 @@ use Rattle.block.specs.Record.{Block}
 use Rattle.block.proofs.ReaderRight.{accepted_laws}
 use Rattle.block.specs.declared.Refusal.{Refusal}
 use Rattle.block.specs.declared.Refusal.TheVariants.{Workers, Buffers}
-use Rattle.block.specs.declared.Verdict.{Verdict}
-use Rattle.block.specs.declared.Verdict.TheVariants as verdict
 use Rattle.footprint.specs.Plan as footprint
 use Rattle.footprint.specs.Plan.{Room, room_enough, unprepared, prepare_analysed, prepare_read, prepared_of}
 use Rattle.footprint.specs.Table.{Analysis, analysed, refused}
@@ -35,16 +33,16 @@ use Rattle.opening.specs.Opened.{sizes_for, opening_with, tested_for, opened_by,
 
 -- ---- the tests before the block is read
 
-abbrev by_tests : Bool → Bool → Verdict
-by_tests large workers = if not large then verdict.Refused Buffers else if workers then verdict.Refused Workers else verdict.Accepted
+abbrev by_tests : Bool → Bool → Result (Unit {0}) Refusal
+by_tests large workers = if not large then Err Buffers else if workers then Err Workers else (Ok tt)
 
-tests_refuse : (a b : Bool) (why : Refusal) (s : Sizes) (x : machine.Opened) → by_tests a b ≡ verdict.Refused why
+tests_refuse : (a b : Bool) (why : Refusal) (s : Sizes) (x : machine.Opened) → by_tests a b ≡ Err why
     → (if not a then refused_run s Buffers else if b then refused_run s Workers else x) ≡ refused_run s why
 tests_refuse true true why s x e = let same : Workers ≡ why = cc in ap (refused_run s) same
 tests_refuse true false why s x e = let z : ◌≡◌ {A = ℕ} 0 1 = cc in absurd (omega arith)
 tests_refuse false b why s x e = let same : Buffers ≡ why = cc in ap (refused_run s) same
 
-tests_pass : (a b : Bool) (s : Sizes) (x : machine.Opened) → by_tests a b ≡ verdict.Accepted
+tests_pass : (a b : Bool) (s : Sizes) (x : machine.Opened) → by_tests a b ≡ (Ok tt)
     → (if not a then refused_run s Buffers else if b then refused_run s Workers else x) ≡ x
 tests_pass true true s x e = let z : ◌≡◌ {A = ℕ} 0 1 = cc in absurd (omega arith)
 tests_pass true false s x e = refl
@@ -55,13 +53,13 @@ abbrev prepared_in : Sizes → List ℕ → footprint.Prepared
 prepared_in s file = prepare_read (room_in s) file (read_block file)
 
 module _ (s : Sizes) (file : List ℕ) (workers : ℕ) where
-  opening_refused : (why : Refusal) → tested_for (large_enough s) workers ≡ verdict.Refused why → opening_of s file workers ≡ refused_run s why
+  opening_refused : (why : Refusal) → tested_for (large_enough s) workers ≡ Err why → opening_of s file workers ≡ refused_run s why
   unfolding tested_for opening_of
   opening_refused why e =
       tests_refuse (large_enough s) (eqb workers 0 || ltb max_workers workers) why s
       (open_prepared s workers (prepared_in s file) (prepared_in s file).verdict) e
 
-  opening_passed : tested_for (large_enough s) workers ≡ verdict.Accepted
+  opening_passed : tested_for (large_enough s) workers ≡ (Ok tt)
       → opening_of s file workers ≡ open_prepared s workers (prepared_in s file) (prepared_in s file).verdict
   unfolding tested_for opening_of
   opening_passed e =
@@ -72,7 +70,7 @@ module _ (s : Sizes) (file : List ℕ) (workers : ℕ) where
 
 -- A refused one leaves its buffers zero.
 abbrev pub Zeroed : Room → footprint.Prepared → Type 0
-Zeroed r p = (why : Refusal) → p.verdict ≡ verdict.Refused why → p ≡ unprepared r why
+Zeroed r p = (why : Refusal) → p.verdict ≡ Err why → p ≡ unprepared r why
 
 unprepared_zero : (r : Room) (why : Refusal) → Zeroed r (unprepared r why)
 unfolding unprepared
@@ -114,7 +112,7 @@ pub calls_few : (p : Prepared) (plan keys : List ℕ) (cells : List ℤ) (r : Ro
 calls_few p plan keys cells r file e = subst⁻¹ Few e (prepared_few r file)
 
 -- In buffers that are large enough the sizes are not what a block is refused by.
-large_tested : (large : Bool) (workers : ℕ) → tested_for large workers ≡ verdict.Accepted → large ≡ true
+large_tested : (large : Bool) (workers : ℕ) → tested_for large workers ≡ (Ok tt) → large ≡ true
 unfolding tested_for
 large_tested true workers e = refl
 large_tested false workers e = let z : ◌≡◌ {A = ℕ} 0 1 = cc in absurd (omega arith)
@@ -134,7 +132,7 @@ large_plan s large =
     leb-true fixed_sizes.plan s.plan (both _ _ (both _ (leb fixed_sizes.cells s.cells) (large_room s large)).0).0
 
 -- A head and six lists that are equal, part by part.
-same_run : (v : Verdict) (w c n f c' n' f' : ℕ) (x x' y y' : List ℕ) (z z' : List ℤ) (t t' u u' : List ℕ) (o o' : List ℤ)
+same_run : (v : Result (Unit {0}) Refusal) (w c n f c' n' f' : ℕ) (x x' y y' : List ℕ) (z z' : List ℤ) (t t' u u' : List ℕ) (o o' : List ℤ)
     → c ≡ c' → n ≡ n' → f ≡ f' → x ≡ x' → y ≡ y' → z ≡ z' → t ≡ t' → u ≡ u' → o ≡ o'
     → opening_with (record { verdict = v; head = head_of w c n f }) x y z t u o ≡ opening_with (record { verdict = v; head = head_of w c' n' f' }) x' y' z' t' u' o'
 same_run v w c n f c' n' f' x x' y y' z z' t t' u u' o o' e₁ e₂ e₃ e₄ e₅ e₆ e₇ e₈ e₉ = rw (e₁, e₂, e₃, e₄, e₅, e₆, e₇, e₈, e₉)
@@ -154,10 +152,10 @@ still_zero s status seats frames z = z.status_zero ∙ ap (λ (n : ℕ). repeate
 module _ (s : Sizes) (workers : ℕ) (p : Prepared) (plan keys : List ℕ) (cells : List ℤ) (status seats : List ℕ) (frames : List ℤ)
     (q : footprint.Prepared) (e : preparing p plan keys cells ≡ q) (zero : Zeroed (room_of s.plan s.keys s.cells) q)
     (z : StatesCleared s status seats frames) (waits : List ℕ) (w : waits ≡ waits_set plan p.calls status) where
-  by_verdict : (v : Verdict) → p.verdict ≡ v → opening_with (opened_by p workers v) plan keys cells waits seats frames ≡ open_prepared s workers q v
+  by_verdict : (v : Result (Unit {0}) Refusal) → p.verdict ≡ v → opening_with (opened_by p workers v) plan keys cells waits seats frames ≡ open_prepared s workers q v
   unfolding opened_by open_prepared refused_run unprepared each_wait
-  by_verdict verdict.Accepted h =
-      same_run verdict.Accepted workers p.calls p.cells p.first_call q.calls q.cells q.first_call plan q.plan keys q.keys cells q.values
+  by_verdict (Ok tt) h =
+      same_run (Ok tt) workers p.calls p.cells p.first_call q.calls q.cells q.first_call plan q.plan keys q.keys cells q.values
       waits (waits_set q.plan q.calls (repeated s.status 0)) seats (repeated s.seats 0) frames (repeated s.frames (pos 0))
       (ap (λ (x : footprint.Prepared). x.calls) e)
       (ap (λ (x : footprint.Prepared). x.cells) e)
@@ -168,9 +166,9 @@ module _ (s : Sizes) (workers : ℕ) (p : Prepared) (plan keys : List ℕ) (cell
       (w ∙ ap (λ (x : footprint.Prepared). waits_set x.plan x.calls status) e ∙ ap (waits_set q.plan q.calls) z.status_zero)
       z.seats_zero
       z.frames_zero
-  by_verdict (verdict.Refused why) h =
+  by_verdict (Err why) h =
       let none = e ∙ zero why (sym (ap (λ (x : footprint.Prepared). x.verdict) e) ∙ h) in
-      same_run (verdict.Refused why) 0 0 0 0 0 0 0 plan (repeated s.plan 0) keys (repeated s.keys 0) cells (repeated s.cells (pos 0))
+      same_run (Err why) 0 0 0 0 0 0 0 plan (repeated s.plan 0) keys (repeated s.keys 0) cells (repeated s.cells (pos 0))
       waits (repeated s.status 0) seats (repeated s.seats 0) frames (repeated s.frames (pos 0))
       refl
       refl
@@ -190,7 +188,7 @@ module _ (s : Sizes) (workers : ℕ) (p : Prepared) (plan keys : List ℕ) (cell
 module _ (n m k t u o : ℕ) (file : List ℕ) (workers : ℕ) (status seats : List ℕ) (frames : List ℤ)
     (z : StatesCleared (sizes_for n m k t u o) status seats frames) (large : Bool)
     (l : large ≡ large_enough (sizes_for n m k (length status) (length seats) (length frames)))
-    (v : Verdict) (tested : v ≡ tested_for large workers) where
+    (v : Result (Unit {0}) Refusal) (tested : v ≡ tested_for large workers) where
   tested_as : v ≡ tested_for (large_enough (sizes_for n m k t u o)) workers
   tested_as =
       tested
@@ -201,19 +199,19 @@ module _ (n m k t u o : ℕ) (file : List ℕ) (workers : ℕ) (status seats : L
       same t u o t' u' o' a b c = rw (a, b, c)
 
   -- 20 and 13.
-  pub open_refused : (why : Refusal) (r : Opened) {plan keys : List ℕ} {cells : List ℤ} → v ≡ verdict.Refused why → r ≡ opened_none why
+  pub open_refused : (why : Refusal) (r : Opened) {plan keys : List ℕ} {cells : List ℤ} → v ≡ Err why → r ≡ opened_none why
       → plan ≡ repeated n 0 → keys ≡ repeated m 0 → cells ≡ repeated k (pos 0)
       → opening_with r plan keys cells status seats frames ≡ opening_of (sizes_for n m k t u o) file workers
   unfolding refused_run
   open_refused why r {plan} {keys} {cells} h made planned keyed celled =
       ap (λ (x : Opened). opening_with x plan keys cells status seats frames) made
-      ∙ same_run (verdict.Refused why) 0 0 0 0 0 0 0 plan (repeated n 0) keys (repeated m 0) cells (repeated k (pos 0)) status (repeated t 0) seats (repeated u 0)
+      ∙ same_run (Err why) 0 0 0 0 0 0 0 plan (repeated n 0) keys (repeated m 0) cells (repeated k (pos 0)) status (repeated t 0) seats (repeated u 0)
       frames (repeated o (pos 0)) refl refl refl planned keyed celled z.status_zero z.seats_zero z.frames_zero
       ∙ sym (opening_refused (sizes_for n m k t u o) file workers why (sym tested_as ∙ h))
 
   -- Where these tests pass, the buffers are large enough.
-  module _ (h : v ≡ verdict.Accepted) where
-    passed : tested_for (large_enough (sizes_for n m k t u o)) workers ≡ verdict.Accepted
+  module _ (h : v ≡ (Ok tt)) where
+    passed : tested_for (large_enough (sizes_for n m k t u o)) workers ≡ (Ok tt)
     passed = sym tested_as ∙ h
 
     large_is : large_enough (sizes_for n m k t u o) ≡ true
@@ -237,12 +235,12 @@ module _ (n m k t u o : ℕ) (file : List ℕ) (workers : ℕ) (status seats : L
 
 -- An accepted block is opened in buffers that are large enough.
 large_answer : (a b : Bool) (s : Sizes) (x : machine.Opened)
-    → (if not a then refused_run s Buffers else if b then refused_run s Workers else x).answer ≡ verdict.Accepted → a ≡ true
+    → (if not a then refused_run s Buffers else if b then refused_run s Workers else x).answer ≡ (Ok tt) → a ≡ true
 unfolding refused_run
 large_answer true b s x e = refl
 large_answer false b s x e = let z : ◌≡◌ {A = ℕ} 0 1 = cc in absurd (omega arith)
 
-pub accepted_large : (s : Sizes) (file : List ℕ) (workers : ℕ) → (opening_of s file workers).answer ≡ verdict.Accepted → fixed_sizes.plan ≤ s.plan
+pub accepted_large : (s : Sizes) (file : List ℕ) (workers : ℕ) → (opening_of s file workers).answer ≡ (Ok tt) → fixed_sizes.plan ≤ s.plan
 unfolding opening_of
 accepted_large s file workers e =
     large_plan s

@@ -1,12 +1,10 @@
 -- What `open` answers, put together with the buffers that it leaves.
-use Rattle.std.specs.Prelude.{◌≡◌, Bool, ◌||◌, not, List, ℕ, eqb, ltb, ℤ}
+use Rattle.std.specs.Prelude.{◌≡◌, Bool, ◌||◌, not, List, ℕ, eqb, ltb, ℤ, Err, Ok, Result}
 use Rattle.std.specs.Prelude.{if◌then◌else◌}
 use Rattle.block.specs.Limits.{max_workers}
 use Rattle.block.specs.Refusal.{verdict_number, verdict_offset}
 use Rattle.block.specs.declared.Refusal.{Refusal}
 use Rattle.block.specs.declared.Refusal.TheVariants.{Workers, Buffers}
-use Rattle.block.specs.declared.Verdict.{Verdict}
-use Rattle.block.specs.declared.Verdict.TheVariants as verdict
 use Rattle.analysis.specs.declared.Prepared.{Prepared}
 use Rattle.machine.specs.Opening as machine
 use Rattle.machine.specs.Opening.{head_of}
@@ -27,22 +25,22 @@ opening_with r plan keys cells status seats frames =
 
 -- The answer of a refusal.
 abbrev pub opened_none : Refusal → Opened
-opened_none why = record { verdict = verdict.Refused why; head = head_of 0 0 0 0 }
+opened_none why = record { verdict = Err why; head = head_of 0 0 0 0 }
 
 -- The answer of a block that is prepared.
-unfoldable pub opened_by : Prepared → ℕ → Verdict → Opened
-opened_by p workers (verdict.Refused why) = opened_none why
-opened_by p workers verdict.Accepted =
-    record { verdict = verdict.Accepted; head = head_of workers p.calls p.cells p.first_call }
+unfoldable pub opened_by : Prepared → ℕ → Result (Unit {0}) Refusal → Opened
+opened_by p workers (Err why) = opened_none why
+opened_by p workers (Ok tt) =
+    record { verdict = (Ok tt); head = head_of workers p.calls p.cells p.first_call }
 
 -- "20 (below; here with offset 0 and buffers zero), 13": what is tested before the block is read.
-unfoldable pub tested_for : (large : Bool) → (workers : ℕ) → Verdict
+unfoldable pub tested_for : (large : Bool) → (workers : ℕ) → Result (Unit {0}) Refusal
 tested_for large workers =
     if not large
-    then verdict.Refused Buffers
+    then Err Buffers
     else if eqb workers 0 || ltb max_workers workers
-    then verdict.Refused Workers
-    else verdict.Accepted
+    then Err Workers
+    else (Ok tt)
 
 -- The answer and the buffers are the definition's, and so are the verdict's number and offset.
 pub record OpenedAs (r : Opened) (plan keys : List ℕ) (cells : List ℤ) (status seats : List ℕ) (frames : List ℤ) (o : machine.Opened) : Type 0 where

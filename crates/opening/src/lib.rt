@@ -11,7 +11,7 @@ ghost use Rattle.opening.specs.Opened.{sizes_for, OpenedAs, tested_for, opened_b
 
 use analysis::Prepared;
 use block::limits::MAX_WORKERS;
-use block::{Refusal, Verdict};
+use block::Refusal;
 use footprint::layout::{FIRST_ROW_WORD, PLAN_WORDS};
 use machine::Head;
 use machine::layout::{STATUS_WORDS, WAIT_WORD, large_enough};
@@ -20,7 +20,7 @@ use wire::ROW_WORDS;
 // What a block is opened to: its verdict, and the head of its run, all zero if it is refused.
 #[derive(Clone, Copy)]
 pub struct Opened {
-    pub verdict: Verdict,
+    pub verdict: Result<(), Refusal>,
     pub head: Head,
 }
 
@@ -42,7 +42,7 @@ pub fn refused(why: Refusal) -> Opened
     ensures { result ≡ opened_none why }
 {
     Opened {
-        verdict: Verdict::Refused(why),
+        verdict: Err(why),
         head: idle_head(0, 0, 0, 0),
     }
 }
@@ -52,25 +52,25 @@ fn answered(p: Prepared, workers: usize) -> Opened
     ensures { result ≡ opened_by p workers p.verdict }
 {
     match p.verdict {
-        Verdict::Refused(why) => refused(why),
-        Verdict::Accepted => Opened {
-            verdict: Verdict::Accepted,
+        Err(why) => refused(why),
+        Ok(()) => Opened {
+            verdict: Ok(()),
             head: idle_head(workers, p.calls, p.cells, p.first_call),
         },
     }
 }
 
 // The refusals that come before the block is read: 20 and 13.
-fn tested(large: bool, workers: usize) -> Verdict
+fn tested(large: bool, workers: usize) -> Result<(), Refusal>
     ensures { result ≡ tested_for large workers }
 {
     if !large {
-        return Verdict::Refused(Refusal::Buffers);
+        return Err(Refusal::Buffers);
     }
     if workers == 0 || MAX_WORKERS < workers {
-        return Verdict::Refused(Refusal::Workers);
+        return Err(Refusal::Workers);
     }
-    Verdict::Accepted
+    Ok(())
 }
 
 // The status of the calls, the seats and the frames become zero.
@@ -79,9 +79,9 @@ pub fn clear_states(status: &mut [u64], seats: &mut [u64], frames: &mut [i64])
     ensures seats_after { seats.new ≡ repeated (length seats.old) 0 }
     ensures frames_after { frames.new ≡ repeated (length frames.old) (pos 0) }
 {
-    wire::clear_words(status);
-    wire::clear_words(seats);
-    wire::clear_values(frames);
+    wire::clear(status, 0);
+    wire::clear(seats, 0);
+    wire::clear(frames, 0);
 }
 
 // The plan, the keys and the cells of a block that is not read become zero.
@@ -90,9 +90,9 @@ pub fn clear_prepared(plan: &mut [u64], keys: &mut [u64], cells: &mut [i64])
     ensures keys_after { keys.new ≡ repeated (length keys.old) 0 }
     ensures cells_after { cells.new ≡ repeated (length cells.old) (pos 0) }
 {
-    wire::clear_words(plan);
-    wire::clear_words(keys);
-    wire::clear_values(cells);
+    wire::clear(plan, 0);
+    wire::clear(keys, 0);
+    wire::clear(cells, 0);
 }
 
 // The row of a call's earlier conflicting calls.
@@ -114,7 +114,7 @@ fn set_waits(plan: &[u64], calls: usize, status: &mut [u64])
 {
     for call in 0..calls {
         let count = wire::row_count(row_of(plan, call), call);
-        wire::put_word(status, STATUS_WORDS * call + WAIT_WORD, count);
+        wire::put(status, STATUS_WORDS * call + WAIT_WORD, count);
     }
 }
 
@@ -146,11 +146,11 @@ pub fn open(
         frames.len(),
     );
     match tested(large, workers) {
-        Verdict::Refused(why) => {
+        Err(why) => {
             clear_prepared(plan, keys, cells);
             refused(why)
         }
-        Verdict::Accepted => {
+        Ok(()) => {
             let p = analysis::prepare(file, plan, keys, cells);
             set_waits(plan, p.calls, status);
             answered(p, workers)

@@ -1,8 +1,8 @@
 -- A whole line played, its answer written, over plain variables.
+use Rattle.std.specs.Prelude.{None, Option, Some}
 use mathlib.Core.Path.{◌≡◌, refl, sym, ap, ◌∙◌}
 use mathlib.Core.Bool.{false}
 use mathlib.Core.List.{List, [], ◌∷◌}
-use mathlib.Core.Option.{Option, none, some}
 use Prim.Native.Nat.{ℕ, zero, suc}
 use native.Mathlib.Nat.{add-zero}
 use Rattle.wire.specs.Bytes.{stored}
@@ -38,7 +38,7 @@ answer_some out after from end line {n} e f w = rw (sym e, ← some_text line n 
 
 module _ (block : List ℕ) (number : ℕ) (line : Line) (run : Run) (out after : List ℕ) (from end : ℕ) where
   -- A line in no such form.
-  pub line_none : none ≡ line_move line → {next : ℕ} → next ≡ next_number number → {left : Run} → left ≡ run → Written out after from end (refused_text number 0)
+  pub line_none : None ≡ line_move line → {next : ℕ} → next ≡ next_number number → {left : Run} → left ≡ run → Written out after from end (refused_text number 0)
       → shown_from next Empty left after end ≡ shown out from (play_line block (fresh_session number line run))
   unfolding play_move
   line_none e n h w =
@@ -46,7 +46,7 @@ module _ (block : List ℕ) (number : ℕ) (line : Line) (run : Run) (out after 
       ∙ ap (λ (m : Option Move). shown out from (play_move block (fresh_session number line run) m)) e
 
   -- A line that names a move.
-  pub line_some : (m : Move) → some m ≡ line_move line → {next : ℕ} → next ≡ next_number number → {answer : Answer} {left : Run} → moved answer left ≡ move_of block run m
+  pub line_some : (m : Move) → Some m ≡ line_move line → {next : ℕ} → next ≡ next_number number → {answer : Answer} {left : Run} → moved answer left ≡ move_of block run m
       → Written out after from end (answer_text number (answer_number answer))
       → shown_from next Empty left after end ≡ shown out from (play_line block (fresh_session number line run))
   unfolding play_move

@@ -1,8 +1,8 @@
 -- The input in pieces: any chunking of it gives the same answers, and the text of the answers only grows.
+use Rattle.std.specs.Prelude.{None, Option, Some}
 use mathlib.Core.Path.{◌≡◌, refl, ap, ◌∙◌}
 use mathlib.Core.Bool.{Bool, true, false}
 use mathlib.Core.List.{List, [], ◌∷◌, ◌++◌, append_assoc}
-use mathlib.Core.Option.{Option, none, some}
 use Prim.Native.Nat.{ℕ}
 use lib.Dec.{eqb}
 use Rattle.wire.specs.Decimal.{line_feed}
@@ -24,8 +24,8 @@ with_text_before text s = record { number = s.number; line = s.line; run = s.run
 module _ (block text : List ℕ) where
   pub move_behind : (s : Session) (m : Option Move) → play_move block (with_text_before text s) m ≡ with_text_before text (play_move block s m)
   unfolding play_move
-  move_behind s none = rw (append_assoc text)
-  move_behind s (some m) = rw (append_assoc text)
+  move_behind s None = rw (append_assoc text)
+  move_behind s (Some m) = rw (append_assoc text)
 
   byte_behind : (s : Session) (x : ℕ) → play_byte block (with_text_before text s) x ≡ with_text_before text (play_byte block s x)
   unfolding play_byte

@@ -1,8 +1,8 @@
 -- How long the lines of text are at most.
+use Rattle.std.specs.Prelude.{None, Option, Some}
 use mathlib.Core.Path.{◌≡◌, refl}
 use mathlib.Core.Bool.{Bool, true, false}
 use mathlib.Core.List.{List, [], ◌∷◌}
-use mathlib.Core.Option.{Option, none, some}
 use Prim.Native.Nat.{ℕ, zero, suc, ◌+◌, ◌-◌, ◌*◌, ◌^◌, ◌≤◌, ◌<◌}
 use native.Mathlib.Omega.{arith}
 use borrow.Author.Tests.{ltb-true, ltb-false}
@@ -40,8 +40,8 @@ unfolding play_move
 line_grows block s = go (line_move s.line)
   where
     go : (m : Option Move) → length (play_move block s m).output ≤ length s.output + max_answer
-    go none = simp length-append (omega (arith, refused_short s.number 0))
-    go (some m) =
+    go None = simp length-append (omega (arith, refused_short s.number 0))
+    go (Some m) =
         let h : length (answer_text s.number (answer_number (move_of block s.run m).answer)) ≤ max_answer = answer_short s.number (answer_number (move_of block s.run m).answer) in
         simp length-append (omega arith)
 

@@ -1,9 +1,8 @@
 -- REGISTER on an input that comes in pieces: the texts that the pieces make, one after another, then those of the input's end and of the
 -- sheet. Each is what `play_chunk`, `play_end`, `sheet` and `sheet_text` store.
-use Rattle.std.specs.Prelude.{◌≡◌, ℕ, ◌≤◌, length}
+use Rattle.std.specs.Prelude.{◌≡◌, ℕ, ◌≤◌, length, Ok}
 use mathlib.Core.List.{List, [], ◌∷◌, ◌++◌, flatten}
 use Rattle.block.specs.Limits.{max_workers}
-use Rattle.block.specs.declared.Verdict.TheVariants as verdict
 use Rattle.machine.specs.Run.{Run, fixed_sizes}
 use Rattle.machine.specs.Opening.{opening_of}
 use Rattle.console.specs.Register.{Session, play_bytes, play_end, close_run, max_input, register_of}
@@ -24,5 +23,5 @@ pieces_text block number line run (p ∷ ps) =
 -- However the input is cut, the texts of its pieces are what REGISTER prints of the whole.
 abbrev pub RegisterInPieces : Type 0
 RegisterInPieces =
-    (file : List ℕ) (ps : List (List ℕ)) → length (flatten ps) ≤ max_input → (opening_of fixed_sizes file max_workers).answer ≡ verdict.Accepted
+    (file : List ℕ) (ps : List (List ℕ)) → length (flatten ps) ≤ max_input → (opening_of fixed_sizes file max_workers).answer ≡ (Ok tt)
     → register_of file (flatten ps) ≡ pieces_text file 1 Empty (opening_of fixed_sizes file max_workers).run ps

@@ -21,10 +21,10 @@ fn put_cell(sheet: &[u8], body: usize, out: &mut [u8], from: u32) -> usize
     requires { body < 2 ^ 40 }
     ensures { Written out.old out.new from result (cell_line (drop body sheet.now)) }
 {
-    let address = wire::get16(sheet, body);
-    let field = wire::get16(sheet, body + 2);
-    let a = wire::get32(sheet, body + 4);
-    let b = wire::get32(sheet, body + 8);
+    let address = wire::read_le::<2>(sheet, body);
+    let field = wire::read_le::<2>(sheet, body + 2);
+    let a = wire::read_le::<4>(sheet, body + 4);
+    let b = wire::read_le::<4>(sheet, body + 8);
     let value = wire::get_i64(sheet, body + 12);
     cell_line(out, from, address, field, a, b, value)
 }
@@ -34,8 +34,8 @@ fn put_receipt(sheet: &[u8], body: usize, call: u64, out: &mut [u8], from: u32) 
     requires { body < 2 ^ 40 }
     ensures { Written out.old out.new from result (receipt_line call (drop body sheet.now)) }
 {
-    let outcome = wire::get16(sheet, body);
-    let count = wire::get16(sheet, body + 2);
+    let outcome = wire::read_le::<2>(sheet, body);
+    let count = wire::read_le::<2>(sheet, body + 2);
     receipt_line(out, from, call, outcome, count)
 }
 
@@ -45,9 +45,9 @@ fn next_record(p: Reading, sheet: &[u8], out: &mut [u8]) -> Option<Reading>
     requires turns_within { TurnsWithin (length sheet.now) p }
     ensures { Printed sheet.now p out.old result out.new }
 {
-    let size = wire::get16(sheet, p.at) as usize;
+    let size = wire::read_le::<2>(sheet, p.at) as usize;
     let body = p.at + HEAD_BYTES;
-    match wire::get16(sheet, p.at + 2) as usize {
+    match wire::read_le::<2>(sheet, p.at + 2) as usize {
         CELL_KIND => Some(Reading {
             at: body + size,
             call: p.call,

@@ -1,4 +1,5 @@
 -- What is said and what a run's close prints, for both outputs: each text fits its buffer, and what is handed over is the definition's.
+use Rattle.std.specs.Prelude.{Err, Ok, Result}
 use mathlib.Core.Path.{◌≡◌, sym, ap, subst, subst⁻¹, ◌∙◌}
 use mathlib.Core.List.{List, [], ◌∷◌}
 use Prim.Native.Nat.{ℕ, ◌≤◌}
@@ -14,8 +15,6 @@ use Rattle.machine.specs.Run.{Run}
 use Rattle.machine.specs.Answer.{answer_number}
 use Rattle.machine.specs.declared.Answer.{Answer}
 use Rattle.sheet.specs.Sheet.{Closed, sheet_records, sheet_of, max_sheet}
-use Rattle.sheet.specs.declared.Closing.{Closing}
-use Rattle.sheet.specs.declared.Closing.TheVariants as closing
 use Rattle.sheet.proofs.RecordLists.{behind_whole}
 use Rattle.sheet.proofs.SheetTests.{sheet_all}
 use Rattle.console.specs.Register.{closing_text}
@@ -54,9 +53,9 @@ module _ {output : Output} {before after : List ℕ} {x y : Exchange} (text : Li
 
 -- ---- the close
 
-abbrev Fits : ℕ → Closing → Type 0
-Fits n (closing.Written k) = k ≤ n
-Fits n (closing.Refused a) = Unit {0}
+abbrev Fits : ℕ → Result ℕ Answer → Type 0
+Fits n (Ok k) = k ≤ n
+Fits n (Err a) = Unit {0}
 
 -- A written sheet is no longer than the output.
 abbrev Fitting : List ℕ → Closed → Type 0
@@ -66,40 +65,40 @@ sheet_fits : (r : Run) (out : List ℕ) → Fitting out (sheet_of r out)
 sheet_fits r out = sheet_all (Fitting out) r out (λ a. tt) (λ b fits. omega (arith, behind_whole (sheet_records r)))
 
 module _ (r : Run) (bytes out : List ℕ) where
-  abbrev Made : Closing → Type 0
+  abbrev Made : Result ℕ Answer → Type 0
   Made answer = ◌≡◌ {A = Closed} (record { answer = answer; output = bytes }) (sheet_of r out)
 
-  pub written_fits : {answer : Closing} → Made answer → (n : ℕ) → answer ≡ closing.Written n → n ≤ length out
+  pub written_fits : {answer : Result ℕ Answer} → Made answer → (n : ℕ) → answer ≡ Ok n → n ≤ length out
   written_fits is n e = subst (Fits (length out)) (sym (ap (λ (c : Closed). c.answer) is) ∙ e) (sheet_fits r out)
 
-  module _ {answer : Closing} (is : Made answer) (room : out ≡ repeated max_sheet 0) where
+  module _ {answer : Result ℕ Answer} (is : Made answer) (room : out ≡ repeated max_sheet 0) where
     abbrev made : Closed
     made = record { answer = answer; output = bytes }
 
-    close_is : (f : Closed → Closing → List ℕ) → f made answer ≡ f (sheet_of r (repeated max_sheet 0)) (sheet_of r (repeated max_sheet 0)).answer
+    close_is : (f : Closed → Result ℕ Answer → List ℕ) → f made answer ≡ f (sheet_of r (repeated max_sheet 0)) (sheet_of r (repeated max_sheet 0)).answer
     close_is f = ap (λ (c : Closed). f c c.answer) is ∙ ap (λ (o : List ℕ). f (sheet_of r o) (sheet_of r o).answer) room
 
-    written_is : (output : Output) (n : ℕ) → answer ≡ closing.Written n → printed_sheet output (take n bytes) ≡ printed_close output r
+    written_is : (output : Output) (n : ℕ) → answer ≡ Ok n → printed_sheet output (take n bytes) ≡ printed_close output r
     unfolding printed_sheet printed_close closing_text closing_bytes
     written_is Text n e = ap (closing_text made) (sym e) ∙ close_is closing_text
     written_is Sheet n e = ap (closing_bytes made) (sym e) ∙ close_is closing_bytes
 
-    refused_is : (output : Output) (a : Answer) → answer ≡ closing.Refused a → printed_lines output (refused_text 0 (answer_number a)) ≡ printed_close output r
+    refused_is : (output : Output) (a : Answer) → answer ≡ Err a → printed_lines output (refused_text 0 (answer_number a)) ≡ printed_close output r
     unfolding printed_lines printed_close closing_text closing_bytes
     refused_is Text a e = ap (closing_text made) (sym e) ∙ close_is closing_text
     refused_is Sheet a e = ap (closing_bytes made) (sym e) ∙ close_is closing_bytes
 
     -- The sheet's lines fit their buffer.
-    pub lines_short : (n : ℕ) → answer ≡ closing.Written n → length (sheet_text (take n bytes)) ≤ max_close_text
+    pub lines_short : (n : ℕ) → answer ≡ Ok n → length (sheet_text (take n bytes)) ≤ max_close_text
     unfolding printed_sheet printed_close
     lines_short n e = subst⁻¹ (λ (t : List ℕ). length t ≤ max_close_text) (written_is Text n e) (close_short r)
 
     module _ (output : Output) {before after : List ℕ} {x y : Exchange} where
-      pub closed_written : (n : ℕ) → answer ≡ closing.Written n → Handed before x (printed_sheet output (take n bytes)) after y
+      pub closed_written : (n : ℕ) → answer ≡ Ok n → Handed before x (printed_sheet output (take n bytes)) after y
           → Handed before x (printed_close output r) after y
       closed_written n e h = handed_as (written_is output n e) h
 
-      pub closed_refused : (a : Answer) → answer ≡ closing.Refused a → Handed before x (printed_lines output (refused_text 0 (answer_number a))) after y
+      pub closed_refused : (a : Answer) → answer ≡ Err a → Handed before x (printed_lines output (refused_text 0 (answer_number a))) after y
           → Handed before x (printed_close output r) after y
       closed_refused a e h = handed_as (refused_is output a e) h
 

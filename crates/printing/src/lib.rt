@@ -21,7 +21,7 @@ use machine::numbers::answer_number;
 use machine::{Answer, Head};
 use play::input::MAX_ANSWER;
 use play::records::{MAX_CLOSE_TEXT, sheet_text};
-use sheet::{Closing, MAX_SHEET};
+use sheet::MAX_SHEET;
 
 // What a run prints: text lines, or the bytes of its sheet.
 #[derive(Clone, Copy)]
@@ -122,8 +122,8 @@ pub fn close(
 {
     let mut bytes = [0u8; MAX_SHEET];
     match sheet(head, plan, keys, cells, status, seats, frames, &mut bytes) {
-        Closing::Written(n) => print_sheet(rt, output, x, &bytes[..n], transcript),
-        Closing::Refused(answer) => refuse_sheet(rt, output, answer, x, transcript),
+        Ok(n) => print_sheet(rt, output, x, &bytes[..n], transcript),
+        Err(answer) => refuse_sheet(rt, output, answer, x, transcript),
     }
 }
 

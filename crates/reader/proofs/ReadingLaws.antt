@@ -18,7 +18,6 @@ use Rattle.reader.specs.Standing.{floor_of, NumbersOfBlock, MovedOn, TurnFollows
 use Rattle.reader.specs.declared.Layout.{Layout}
 use Rattle.block.specs.declared.Refusal.{Refusal}
 use Rattle.block.specs.declared.Refusal.TheVariants.{InputTooLong}
-use Rattle.block.specs.declared.Verdict.TheVariants.{Accepted}
 use Rattle.reader.specs.declared.Progress.{Progress}
 use Rattle.reader.specs.declared.Turn.TheVariants.{More, Function as AddFunction, End}
 
@@ -199,19 +198,19 @@ module _ (file ids starts sizes : List ℕ) (p : Progress) (g : ReadingOn file i
 
   pub reading_end : TurnFollows p g.b (Ok End) turn
       → ◌≡◌ {A = Layout}
-      (record { verdict = Accepted; functions = p.functions; cells = p.cells; calls = p.calls; opening = p.opening; first_call = p.first_call; ids = ids; starts = starts; sizes = sizes })
+      (record { verdict = (Ok tt); functions = p.functions; cells = p.cells; calls = p.calls; opening = p.opening; first_call = p.first_call; ids = ids; starts = starts; sizes = sizes })
       (layout_of (read_block file))
   unfolding layout_of
   reading_end t = all ∙ go turn refl t
     where
       all : ◌≡◌ {A = Layout}
-          (record { verdict = Accepted; functions = p.functions; cells = p.cells; calls = p.calls; opening = p.opening; first_call = p.first_call; ids = ids; starts = starts; sizes = sizes })
+          (record { verdict = (Ok tt); functions = p.functions; cells = p.cells; calls = p.calls; opening = p.opening; first_call = p.first_call; ids = ids; starts = starts; sizes = sizes })
           (layout_of (accepted g.b))
       all =
           let h : NumbersOfBlock p g.b = g.stands.holds in
           λ i.
           record {
-            verdict = Accepted;
+            verdict = (Ok tt);
             functions = h.functions i;
             cells = h.cells i;
             calls = h.calls i;

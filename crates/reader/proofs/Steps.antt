@@ -11,7 +11,7 @@ use lib.IntN.{ℤ, pos, ◌+ℤ◌, +ℤ_assoc, +ℤ_idl, +ℤ_idr}
 use lib.ListN.{length, drop, length-append}
 use lib.Signed.{lt_z}
 use borrow.Author.Tests.{lt-ltb, le-ltb, le-leb, lt-leb, eq-eqb, ne_eqb, ltb-true, ltb-false, eqb-true}
-use Rattle.std.specs.Prelude.{Ok, Err, if◌then◌else◌}
+use Rattle.std.specs.Prelude.{Ok, Err, if◌then◌else◌, None, Some}
 use Rattle.arith.specs.Balance.{total}
 use Rattle.arith.specs.Exact.{signed}
 use Rattle.arith.proofs.IntegerLaws.{signed_low, signed_high}
@@ -23,7 +23,6 @@ use Rattle.block.specs.Record.{Function, Cell, Block, function_id, head_bytes, f
 use Rattle.block.specs.Reader.{rises, balances, read_function, read_cell, withCall, read_call}
 use Rattle.reader.specs.Standing.{floor_of, value_allowed, NumbersOfBlock, TurnFollows}
 use Rattle.block.specs.declared.Call.{Call}
-use Rattle.block.specs.declared.CallBody.TheVariants.{InRange, OutOfRange}
 use Rattle.block.specs.declared.Refusal.TheVariants.{BeyondLimit, Field, Code, NotRising, Balances}
 use Rattle.reader.specs.declared.Progress.{Progress}
 use Rattle.reader.specs.declared.Turn.TheVariants.{More, Function as AddFunction}
@@ -297,15 +296,15 @@ module _ (p : Progress) (b : Block) (h : NumbersOfBlock p b) (len : ℕ) (body :
     call_room : leb 256 (length b.calls) ≡ false
     call_room = lt-leb 256 (length b.calls) (rw h.calls at room)
 
-    pub call_field : call_of body ≡ OutOfRange → TurnFollows p b (Err (Field p.at)) (read_call p.at len body b)
+    pub call_field : call_of body ≡ None → TurnFollows p b (Err (Field p.at)) (read_call p.at len body b)
     unfolding read_call withCall
     call_field bad = simp (call_room, bad) refl
 
-    pub call_unfuelled : (c : Call) → call_of body ≡ InRange c → c.fuel ≡ 0 → TurnFollows p b (Err (Field p.at)) (read_call p.at len body b)
+    pub call_unfuelled : (c : Call) → call_of body ≡ Some c → c.fuel ≡ 0 → TurnFollows p b (Err (Field p.at)) (read_call p.at len body b)
     unfolding read_call withCall
     call_unfuelled c good none' = simp (call_room, good, eq-eqb c.fuel 0 none') refl
 
-    pub call_more : (c : Call) → call_of body ≡ InRange c → ¬ (c.fuel ≡ 0) → TurnFollows p b (Ok (More (after_call p len))) (read_call p.at len body b)
+    pub call_more : (c : Call) → call_of body ≡ Some c → ¬ (c.fuel ≡ 0) → TurnFollows p b (Ok (More (after_call p len))) (read_call p.at len body b)
     unfolding read_call withCall
     call_more c good some =
         simp (call_room, good, ne_eqb c.fuel 0 some) (

@@ -1,11 +1,10 @@
 -- What the reader leaves of a file, in numbers.
-use Rattle.std.specs.Prelude.{List, map, ℕ, length}
+use Rattle.std.specs.Prelude.{List, map, ℕ, length, Err, Ok}
 use Rattle.wire.specs.Bytes.{repeated, padded}
 use Rattle.block.specs.Limits.{max_functions}
 use Rattle.block.specs.Record.{Function, function_id}
 use Rattle.block.specs.Reader.{Read, accepted, refused}
 use Rattle.reader.specs.declared.Layout.{Layout}
-use Rattle.block.specs.declared.Verdict.TheVariants.{Accepted, Refused}
 
 -- A number of each function, in a table that has room for all and is zero behind them.
 abbrev pub table : (Function → ℕ) → List Function → List ℕ
@@ -15,7 +14,7 @@ table f functions = padded max_functions 0 (map f functions)
 unfoldable pub layout_of : Read → Layout
 layout_of (refused why) =
     record {
-      verdict = Refused why;
+      verdict = Err why;
       functions = 0;
       cells = 0;
       calls = 0;
@@ -27,7 +26,7 @@ layout_of (refused why) =
     }
 layout_of (accepted b) =
     record {
-      verdict = Accepted;
+      verdict = (Ok tt);
       functions = length b.functions;
       cells = length b.cells;
       calls = length b.calls;

@@ -56,7 +56,7 @@ pub(crate) fn read_cell(body: &[u8], len: usize, p: Progress) -> Result<Turn, Re
     let field = short(body, 2);
     let a = long(body, 4);
     let b = long(body, 8);
-    let bits = wire::get64(body, 12);
+    let bits = wire::read_le::<8>(body, 12);
     if !key_allowed(address, field, a, b) {
         return Err(Refusal::Field(p.at));
     }

@@ -13,13 +13,13 @@ ghost use Rattle.reader.specs.Standing.{left_of};
 
 use crate::record::read_record;
 use block::limits::{MAX_BYTES, MAX_FUNCTIONS};
-use block::{Refusal, Verdict};
+use block::Refusal;
 
 // What the reader leaves of a file: the counts, the offsets at which its opening cells and its calls begin, and of each function its
 // id, contract * 65536 + number, and where its code starts and how many instructions it has. All zero if the file is refused.
 #[derive(Clone, Copy)]
 pub struct Layout {
-    pub verdict: Verdict,
+    pub verdict: Result<(), Refusal>,
     pub functions: usize,
     pub cells: usize,
     pub calls: usize,
@@ -65,7 +65,7 @@ fn refused(why: Refusal) -> Layout
     ensures { result ≡ layout_of (refused why) }
 {
     Layout {
-        verdict: Verdict::Refused(why),
+        verdict: Err(why),
         functions: 0,
         cells: 0,
         calls: 0,
@@ -104,7 +104,7 @@ fn read_records(file: &[u8]) -> Result<Layout, Refusal>
             }
             Turn::End => {
                 return Ok(Layout {
-                    verdict: Verdict::Accepted,
+                    verdict: Ok(()),
                     functions: p.functions,
                     cells: p.cells,
                     calls: p.calls,

@@ -10,7 +10,7 @@ use crate::function::read_function;
 use crate::{Progress, Turn};
 use block::format::{CALL_KIND, CELL_KIND, END_KIND, FUNCTION_KIND, HEAD_BYTES};
 use block::limits::MAX_CALLS;
-use block::{CallBody, Refusal};
+use block::Refusal;
 use decoder::part::short;
 use decoder::record::{call_at, length_allowed};
 
@@ -22,7 +22,7 @@ fn read_call(body: &[u8], len: usize, p: Progress) -> Result<Turn, Refusal>
     if MAX_CALLS <= p.calls {
         return Err(Refusal::BeyondLimit(p.at));
     }
-    let CallBody::InRange(c) = call_at(body, 0) else {
+    let Some(c) = call_at(body, 0) else {
         return Err(Refusal::Field(p.at));
     };
     if c.fuel == 0 {

@@ -13,7 +13,6 @@ ghost use Rattle.host.specs.Exchange.{Handed};
 ghost use Rattle.printing.specs.declared.Output.TheVariants.{Text, Sheet};
 ghost use Rattle.register_run.specs.Runs.{chunk_size, printed_end, InputRead, PiecePlayed, InputPlayed, RunsOn, Runs, Registers};
 
-use block::Verdict;
 use block::limits::MAX_WORKERS;
 use console::Line;
 use host::{Exchange, FILE_BYTES};
@@ -361,7 +360,7 @@ pub fn run(
     let verdict = o.verdict;
     let head = o.head;
     match verdict {
-        Verdict::Refused(why) => {
+        Err(why) => {
             let exchange = refuse_block(rt, output, why, start, transcript);
             Ran {
                 opened: false,
@@ -369,7 +368,7 @@ pub fn run(
                 exchange,
             }
         }
-        Verdict::Accepted => run_opened(
+        Ok(()) => run_opened(
             rt,
             output,
             head,

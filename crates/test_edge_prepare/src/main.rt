@@ -3,7 +3,6 @@
 #![tactic(auto)]
 
 use analysis::prepare;
-use block::Verdict;
 use decoder::numbers::{number_of, offset_of};
 
 fn text(rt: &impl Print, s: &str) {
@@ -15,13 +14,13 @@ fn number(rt: &impl Print, n: u64) {
     let _ = rt.print(n);
 }
 
-fn verdict(rt: &impl Print, answer: Verdict) {
+fn verdict(rt: &impl Print, answer: Result<(), Refusal>) {
     match answer {
-        Verdict::Accepted => {
+        Ok(()) => {
             number(rt, 0);
             number(rt, 0);
         }
-        Verdict::Refused(why) => {
+        Err(why) => {
             number(rt, number_of(why));
             number(rt, offset_of(why));
         }
@@ -46,9 +45,9 @@ fn prepared(rt: &impl Print, plan: &mut [u64], keys: &mut [u64], values: &mut [i
     number(rt, r.calls as u64);
     number(rt, r.cells as u64);
     number(rt, r.first_call as u64);
-    number(rt, wire::word(plan, 0));
-    number(rt, wire::word(keys, 0));
-    number(rt, arith::unsigned64(wire::value(values, 0)));
+    number(rt, wire::get_or(plan, 0, 0));
+    number(rt, wire::get_or(keys, 0, 0));
+    number(rt, arith::unsigned64(wire::get_or(values, 0, 0)));
     text(rt, "\n");
 }
 

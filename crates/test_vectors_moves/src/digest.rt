@@ -34,7 +34,7 @@ pub(crate) fn bytes(s: &[u8]) -> u64 {
     let mut hash = BASIS;
     let mut i = 0;
     while i < s.len() {
-        let x = wire::byte(s, i);
+        let x = wire::get_or(s, i, 0);
         hash = mix(hash, x as u64);
         i += 1;
     }

@@ -14,7 +14,7 @@ opening_values-requires c =
     let b = c.requires.blank in
     let o = c.opening_keys in
     let k = c.call_keys-collected in
-    let held = laid_holding c.args.file.now c.args.l c.requires.layout_of_block c.args.plan.now c.args.keys.now c.args.values.now b o.new.keys o.auto.keys k.result k.new.keys k.ensures c.in-Accepted.is in
+    let held = laid_holding c.args.file.now c.args.l c.requires.layout_of_block c.args.plan.now c.args.keys.now c.args.values.now b o.new.keys o.auto.keys k.result k.new.keys k.ensures c.in-Ok.is in
     record { layout_of_block = c.requires.layout_of_block; table_of = held.table; sorted = tabled_sorted _ _ held.tabled; max_keys_in_bounds = b.cells_room; values_value = b.values_zero }
 
 pub plan_calls-requires : goal.plan_calls-requires
@@ -22,19 +22,19 @@ plan_calls-requires c =
     let b = c.requires.blank in
     let o = c.opening_keys in
     let k = c.call_keys-collected in
-    let held = laid_holding c.args.file.now c.args.l c.requires.layout_of_block c.args.plan.now c.args.keys.now c.args.values.now b o.new.keys o.auto.keys k.result k.new.keys k.ensures c.in-Accepted.is in
+    let held = laid_holding c.args.file.now c.args.l c.requires.layout_of_block c.args.plan.now c.args.keys.now c.args.values.now b o.new.keys o.auto.keys k.result k.new.keys k.ensures c.in-Ok.is in
     record { layout_of_block = c.requires.layout_of_block; table_of = held.table; sorted = tabled_sorted _ _ held.tabled; plan_words_in_bounds = b.plan_room; plan_value = b.plan_zero }
 
-pub returns-in-Refused : goal.returns-in-Refused
-returns-in-Refused c =
+pub returns-in-Err : goal.returns-in-Err
+returns-in-Err c =
     let b = c.requires.blank in
     let o = c.opening_keys in
     let k = c.call_keys-collected in
-    laid_refused c.args.file.now c.args.l c.requires.layout_of_block c.args.plan.now c.args.keys.now c.args.values.now b o.new.keys o.auto.keys k.result k.new.keys k.ensures _ _ c.in-Refused.is c.refused.ensures
+    laid_refused c.args.file.now c.args.l c.requires.layout_of_block c.args.plan.now c.args.keys.now c.args.values.now b o.new.keys o.auto.keys k.result k.new.keys k.ensures _ _ c.in-Err.is c.refused.ensures
 
-pub returns-in-Accepted : goal.returns-in-Accepted
-returns-in-Accepted c =
+pub returns-in-Ok : goal.returns-in-Ok
+returns-in-Ok c =
     let b = c.requires.blank in
     let o = c.opening_keys in
     let k = c.call_keys-collected in
-    laid_accepted c.args.file.now c.args.l c.requires.layout_of_block c.args.plan.now c.args.keys.now c.args.values.now b o.new.keys o.auto.keys k.result k.new.keys k.ensures _ _ c.in-Accepted.is c.plan_calls.ensures c.opening_values.ensures
+    laid_accepted c.args.file.now c.args.l c.requires.layout_of_block c.args.plan.now c.args.keys.now c.args.values.now b o.new.keys o.auto.keys k.result k.new.keys k.ensures _ _ c.in-Ok.is c.plan_calls.ensures c.opening_values.ensures

@@ -2,10 +2,10 @@
 use Rattle.opening.specs.Opened.{opened_by}
 use Rattle.opening.proofs.answered.Goals as goal
 
-pub returns-in-Refused : goal.returns-in-Refused
+pub returns-in-Err : goal.returns-in-Err
 unfolding opened_by
-returns-in-Refused c = simp c.in-Refused.is c.refused.ensures
+returns-in-Err c = simp c.in-Err.is c.refused.ensures
 
-pub returns-in-Accepted : goal.returns-in-Accepted
+pub returns-in-Ok : goal.returns-in-Ok
 unfolding opened_by
-returns-in-Accepted c = simp (c.in-Accepted.is, ← c.idle_head.ensures)
+returns-in-Ok c = simp (c.in-Ok.is, ← c.idle_head.ensures)

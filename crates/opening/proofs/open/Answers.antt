@@ -26,25 +26,25 @@ pub set_waits-requires : goal.set_waits-requires
 set_waits-requires c =
     let a = c.args in
     let large =
-    plan_large _ _ _ _ _ _ a.file.now a.workers _ _ _ (states (goal.at.set_waits-requires c).After-clear_states) _ c.large_enough-large.ensures _ c.tested.ensures c.in-Accepted.is
+    plan_large _ _ _ _ _ _ a.file.now a.workers _ _ _ (states (goal.at.set_waits-requires c).After-clear_states) _ c.large_enough-large.ensures _ c.tested.ensures c.in-Ok.is
     c.prepare-p.auto.plan in
     record { calls_le_max_calls = calls_few _ _ _ _ _ _ c.prepare-p.ensures; plan_in_bounds = large; status_value = still_zero _ _ _ _ (states (goal.at.set_waits-requires c).After-clear_states) }
 
-pub returns-in-Refused : goal.returns-in-Refused
-returns-in-Refused c =
+pub returns-in-Err : goal.returns-in-Err
+returns-in-Err c =
     let a = c.args in
     opened_as
     (open_refused _ _ _ _ _ _ a.file.now a.workers _ _ _
-    (states (goal.at.returns-in-Refused c).After-clear_states)
-    _ c.large_enough-large.ensures _ c.tested.ensures _ _ c.in-Refused.is c.refused.ensures c.clear_prepared.ensures.plan_after c.clear_prepared.ensures.keys_after c.clear_prepared.ensures.cells_after)
+    (states (goal.at.returns-in-Err c).After-clear_states)
+    _ c.large_enough-large.ensures _ c.tested.ensures _ _ c.in-Err.is c.refused.ensures c.clear_prepared.ensures.plan_after c.clear_prepared.ensures.keys_after c.clear_prepared.ensures.cells_after)
 
-pub shape_of-status-in-Accepted : goal.shape_of-status-in-Accepted
-shape_of-status-in-Accepted c =
+pub shape_of-status-in-Ok : goal.shape_of-status-in-Ok
+shape_of-status-in-Ok c =
     c.set_waits.auto.status ∙ c.clear_states.auto.status
 
-pub returns-in-Accepted : goal.returns-in-Accepted
-returns-in-Accepted c =
+pub returns-in-Ok : goal.returns-in-Ok
+returns-in-Ok c =
     let a = c.args in
     opened_as
-    (open_passed _ _ _ _ _ _ a.file.now a.workers _ _ _ (states (goal.at.returns-in-Accepted c).After-clear_states)
-    _ c.large_enough-large.ensures _ c.tested.ensures c.in-Accepted.is _ _ _ _ _ _ c.prepare-p.ensures c.set_waits.ensures c.answered.ensures)
+    (open_passed _ _ _ _ _ _ a.file.now a.workers _ _ _ (states (goal.at.returns-in-Ok c).After-clear_states)
+    _ c.large_enough-large.ensures _ c.tested.ensures c.in-Ok.is _ _ _ _ _ _ c.prepare-p.ensures c.set_waits.ensures c.answered.ensures)

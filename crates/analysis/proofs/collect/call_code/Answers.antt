@@ -13,12 +13,12 @@ pub code_of-requires : goal.code_of-requires
 code_of-requires c =
     laid_narrow c.args.file.now c.args.l c.requires.layout_of_block
 
-pub returns-in-InRange : goal.returns-in-InRange
-returns-in-InRange c =
+pub returns-in-Some : goal.returns-in-Some
+returns-in-Some c =
     let read = read_at c.args.file.now c.call_place.ensures c.call_at.ensures in
-    ap words_of c.code_of.ensures ∙ call_coded c.args.file.now c.args.l c.requires.layout_of_block c.args.call c.requires.call_in_bounds _ read c.in-InRange.is
+    ap words_of c.code_of.ensures ∙ call_coded c.args.file.now c.args.l c.requires.layout_of_block c.args.call c.requires.call_in_bounds _ read c.in-Some.is
 
-pub returns-in-OutOfRange : goal.returns-in-OutOfRange
-returns-in-OutOfRange c =
+pub returns-in-None : goal.returns-in-None
+returns-in-None c =
     let read = read_at c.args.file.now c.call_place.ensures c.call_at.ensures in
-    absurd (call_there c.args.file.now c.args.l c.requires.layout_of_block c.args.call c.requires.call_in_bounds read c.in-OutOfRange.is)
+    absurd (call_there c.args.file.now c.args.l c.requires.layout_of_block c.args.call c.requires.call_in_bounds read c.in-None.is)

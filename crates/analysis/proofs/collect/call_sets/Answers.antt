@@ -19,15 +19,15 @@ pub sets_of-requires : goal.sets_of-requires
 sets_of-requires c =
     code_short c.args.l _ (laid_narrow c.args.file.now c.args.l c.requires.layout_of_block) c.code_of.ensures
 
-pub returns-in-InRange : goal.returns-in-InRange
-returns-in-InRange c =
+pub returns-in-Some : goal.returns-in-Some
+returns-in-Some c =
     let read = read_at c.args.file.now c.call_place.ensures c.call_at.ensures in
     subst (Gathered c.sets_of.result)
-    (ap (λ (code : Code). code_sets c.args.file.now code c.in-InRange.c) c.code_of.ensures
-    ∙ call_set c.args.file.now c.args.l c.requires.layout_of_block c.args.call c.requires.call_in_bounds _ read c.in-InRange.is)
+    (ap (λ (code : Code). code_sets c.args.file.now code c.in-Some.c) c.code_of.ensures
+    ∙ call_set c.args.file.now c.args.l c.requires.layout_of_block c.args.call c.requires.call_in_bounds _ read c.in-Some.is)
     c.sets_of.ensures
 
-pub returns-in-OutOfRange : goal.returns-in-OutOfRange
-returns-in-OutOfRange c =
+pub returns-in-None : goal.returns-in-None
+returns-in-None c =
     let read = read_at c.args.file.now c.call_place.ensures c.call_at.ensures in
-    absurd (call_there c.args.file.now c.args.l c.requires.layout_of_block c.args.call c.requires.call_in_bounds read c.in-OutOfRange.is)
+    absurd (call_there c.args.file.now c.args.l c.requires.layout_of_block c.args.call c.requires.call_in_bounds read c.in-None.is)

@@ -1,8 +1,8 @@
 -- `analysis::collect::refuse_keys` meets its contract: the buffer is cleared.
+use Rattle.std.specs.Prelude.{Err}
 use mathlib.Core.Path.{ap}
 use mathlib.Core.List.{List}
 use Prim.Native.Nat.{ℕ}
-use Rattle.block.specs.declared.Verdict.TheVariants.{Refused}
 use Rattle.analysis.specs.Collected.{leaving, collected_of}
 use Rattle.analysis.proofs.collect.refuse_keys.Goals as goal
 
@@ -10,4 +10,4 @@ pub returns : goal.returns
 unfolding collected_of
 returns c =
     let why = c.args.why in
-    ap (λ (t : List ℕ). leaving (record { verdict = Refused why; cells = 0 }) t) c.clear_words.ensures
+    ap (λ (t : List ℕ). leaving (record { verdict = Err why; cells = 0 }) t) c.clear_words.ensures

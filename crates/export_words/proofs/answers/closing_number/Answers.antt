@@ -2,10 +2,10 @@
 use Rattle.sheet.specs.Sheet.{closing_number}
 use Rattle.export_words.proofs.answers.closing_number.Goals as goal
 
-pub returns-in-Written : goal.returns-in-Written
+pub returns-in-Ok : goal.returns-in-Ok
 unfolding closing_number
-returns-in-Written c = simp c.in-Written.is
+returns-in-Ok c = simp c.in-Ok.is
 
-pub returns-in-Refused : goal.returns-in-Refused
+pub returns-in-Err : goal.returns-in-Err
 unfolding closing_number
-returns-in-Refused c = simp c.in-Refused.is c.answer_number.ensures
+returns-in-Err c = simp c.in-Err.is c.answer_number.ensures

@@ -2,10 +2,10 @@
 use Rattle.exports.specs.Exports.{length_after}
 use Rattle.export_words.proofs.answers.length_after.Goals as goal
 
-pub returns-in-Written : goal.returns-in-Written
+pub returns-in-Ok : goal.returns-in-Ok
 unfolding length_after
-returns-in-Written c = simp c.in-Written.is
+returns-in-Ok c = simp c.in-Ok.is
 
-pub returns-in-Refused : goal.returns-in-Refused
+pub returns-in-Err : goal.returns-in-Err
 unfolding length_after
-returns-in-Refused c = simp c.in-Refused.is
+returns-in-Err c = simp c.in-Err.is

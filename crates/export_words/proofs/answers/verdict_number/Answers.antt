@@ -2,10 +2,10 @@
 use Rattle.block.specs.Refusal.{verdict_number}
 use Rattle.export_words.proofs.answers.verdict_number.Goals as goal
 
-pub returns-in-Accepted : goal.returns-in-Accepted
+pub returns-in-Ok : goal.returns-in-Ok
 unfolding verdict_number
-returns-in-Accepted c = simp c.in-Accepted.is
+returns-in-Ok c = simp c.in-Ok.is
 
-pub returns-in-Refused : goal.returns-in-Refused
+pub returns-in-Err : goal.returns-in-Err
 unfolding verdict_number
-returns-in-Refused c = simp c.in-Refused.is c.number_of.ensures
+returns-in-Err c = simp c.in-Err.is c.number_of.ensures

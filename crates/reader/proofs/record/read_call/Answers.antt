@@ -12,8 +12,8 @@ returns-in_default c =
 
 pub returns-then-c-eq0 : goal.returns-then-c-eq0
 returns-then-c-eq0 c =
-    λ b h. call_unfuelled c.args.p b h c.args.len c.args.body.now c.if-p-ge-MAX_CALLS.false _ (sym c.call_at.ensures ∙ c.in-InRange.is) c.if-c-eq0.true
+    λ b h. call_unfuelled c.args.p b h c.args.len c.args.body.now c.if-p-ge-MAX_CALLS.false _ (sym c.call_at.ensures ∙ c.in-Some.is) c.if-c-eq0.true
 
 pub returns : goal.returns
 returns c =
-    λ b h. call_more c.args.p b h c.args.len c.args.body.now c.if-p-ge-MAX_CALLS.false _ (sym c.call_at.ensures ∙ c.in-InRange.is) c.if-c-eq0.false
+    λ b h. call_more c.args.p b h c.args.len c.args.body.now c.if-p-ge-MAX_CALLS.false _ (sym c.call_at.ensures ∙ c.in-Some.is) c.if-c-eq0.false
