@@ -63,9 +63,6 @@ module _ {ℓ} {A : Type ℓ} (a : A) where
     pub within : i ≤ length s₀
     pub same : s ≡ replicate i a ++ drop i s₀
 
-  pub cleared_none : (s : List A) → ClearedBelow s s 0
-  cleared_none s = record { within = omega arith; same = refl }
-
   step : (i : ℕ) (s : List A) → i < length s → set (replicate i a ++ drop i s) i a ≡ replicate (suc i) a ++ drop (suc i) s
   step i [] h = absurd (not-suc-le-zero h)
   step zero (x ∷ s) h = refl
