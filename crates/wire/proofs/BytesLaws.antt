@@ -32,9 +32,6 @@ pub read_one : (s : List ℕ) (at : ℕ) → read_le 1 s at ≡ get_or s at 0
 unfolding number
 read_one s at = read_suc 0 s at ∙ add-zero (get_or s at 0)
 
-pub read_two : (s : List ℕ) (at : ℕ) → read_le 2 s at ≡ get_or s at 0 + 256 * get_or s (at + 1) 0
-read_two s at = read_suc 1 s at ∙ ap (λ (t : ℕ). get_or s at 0 + 256 * t) (read_one s (at + 1))
-
 regroup : (b p x y : ℕ) → b + 256 * (x + p * y) ≡ b + 256 * x + p * 256 * y
 regroup b p x y =
     ap (λ (t : ℕ). b + t) (mul-add 256 x (p * y)) ∙ sym (add_assoc b (256 * x) (256 * (p * y)))

@@ -2,14 +2,13 @@
 use mathlib.Core.Path.{◌≡◌, refl, sym, ap, ap₂, ◌∙◌}
 use mathlib.Core.List.{List, [], ◌∷◌, ◌++◌, append-nil}
 use Prim.Native.Nat.{ℕ, zero, suc, ◌+◌, ◌-◌, ◌*◌, ◌/◌, ◌%◌, ◌^◌, ◌≤◌, ◌<◌}
-use native.Mathlib.Nat.{le_refl, lt_of_lt_of_le, not-suc-le-zero, le_of_suc-le-suc, add-zero, mul-zero, mul_comm, mod-eq_of_lt, pow-suc, pow-le-pow_right}
+use native.Mathlib.Nat.{le_refl, lt_of_lt_of_le, not-suc-le-zero, le_of_suc-le-suc, mul_comm, mod-eq_of_lt, pow-suc, pow-le-pow_right}
 use native.Mathlib.Numerals.{add-one}
 use native.Mathlib.Omega.{arith}
-use lib.ListN.{length, get_or, set, drop, replicate, length-set, length-append, length-replicate, length-drop, drop_of_length-le, get_or-eq_default}
-use lib.Seq.{set_out}
+use lib.ListN.{length, get_or, set, drop, replicate, drop_of_length-le}
 use Rattle.std.proofs.lemmas.Nat.{pow-add}
 use Rattle.wire.specs.Bytes.{number, read_le, bytes_of, stored, write_le, repeated}
-use Rattle.wire.proofs.BytesLaws.{read_one, read_join, read_lt, read_past, write_join, write_past, stored_length}
+use Rattle.wire.proofs.BytesLaws.{read_one, read_join, read_lt}
 
 -- ---- a number read byte by byte
 
@@ -42,23 +41,6 @@ module _ (s : List ℕ) (at i : ℕ) {number b : ℕ} (is : number ≡ read_le i
   pub read_more_lt : number + b * 2 ^ (8 * i) % 2 ^ 64 < 256 ^ 8
   read_more_lt = rw read_more whole_lt
 
--- Past the end there is nothing to read or to write: so many bytes as there are tell all.
-pub read_short : (j k : ℕ) (s : List ℕ) (at : ℕ) → j ≤ k → length s ≤ at + j → read_le j s at ≡ read_le k s at
-read_short j k s at l end =
-    let more : k ≡ j + (k - j) = omega arith in
-    let none : read_le j s at + 256 ^ j * read_le (k - j) s (at + j) ≡ read_le j s at =
-    rw (read_past (k - j) s (at + j) end) (simp (mul-zero, add-zero))
-    in
-    sym (ap (λ (m : ℕ). read_le m s at) more ∙ read_join j (k - j) s at ∙ none)
-
-pub write_short : (j k : ℕ) (s : List ℕ) (at n : ℕ) → j ≤ k → length s ≤ at + j → write_le j s at n ≡ write_le k s at n
-write_short j k s at n l end =
-    let more : k ≡ j + (k - j) = omega arith in
-    let long : length (write_le j s at n) ≡ length s = stored_length (bytes_of j n) s at in
-    sym
-    (ap (λ (m : ℕ). write_le m s at n) more ∙ write_join j (k - j) s at n
-    ∙ write_past (k - j) (write_le j s at n) (at + j) (n / 256 ^ j) (omega arith))
-
 -- ---- a number written from its first byte to its last: what is written and what is left make up the whole
 
 pub write_more : (s : List ℕ) (at n i rest : ℕ) → i < n
@@ -80,9 +62,6 @@ module _ {ℓ} {A : Type ℓ} (a : A) where
   pub record ClearedBelow (s₀ s : List A) (i : ℕ) : Type ℓ where
     pub within : i ≤ length s₀
     pub same : s ≡ replicate i a ++ drop i s₀
-
-  pub cleared_none : (s : List A) → ClearedBelow s s 0
-  cleared_none s = record { within = omega arith; same = refl }
 
   step : (i : ℕ) (s : List A) → i < length s → set (replicate i a ++ drop i s) i a ≡ replicate (suc i) a ++ drop (suc i) s
   step i [] h = absurd (not-suc-le-zero h)

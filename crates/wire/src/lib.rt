@@ -4,7 +4,7 @@
 
 pub mod decimal;
 
-ghost use Rattle.std.specs.Prelude.{◌≡◌, ◌+◌, ◌%◌, ◌^◌, ◌≤◌, min, length, get_or, set};
+ghost use Rattle.std.specs.Prelude.{◌≡◌, ◌+◌, ◌%◌, ◌^◌, ◌<◌, ◌≤◌, min, length, get_or, set};
 ghost use Rattle.arith.specs.Exact.{signed, unsigned};
 ghost use Rattle.wire.specs.Bytes.{read_le, write_le, repeated};
 ghost use Rattle.wire.specs.Rows.{in_row, in_word, row_bits};
@@ -48,8 +48,23 @@ fn read_within(s: &[u8], at: usize, n: usize) -> u64
     number
 }
 
+// The same where the end of the slice is among them. Out of the way, so that the case above stays small.
+#[cold]
+#[inline(never)]
+fn read_across(s: &[u8], at: usize, n: usize) -> u64
+    requires inside { at < length s.now }
+    requires short { n ≤ 8 }
+    ensures { result ≡ read_le n s.now at }
+{
+    let mut number = 0;
+    for i in 0..n {
+        number += u64::from(get_or(s, at + i, 0)) << (8 * i);
+    }
+    number
+}
+
 // The number in the N bytes at a position, at most eight, lowest byte first.
-// Where they all lie inside the slice, their count is a constant and they are one load.
+// Where they all lie inside the slice, no test is left, so they are one load.
 pub fn read_le<const N: usize>(s: &[u8], at: usize) -> u64
     ensures { result ≡ read_le (min N 8) s.now at }
 {
@@ -57,11 +72,10 @@ pub fn read_le<const N: usize>(s: &[u8], at: usize) -> u64
         return 0;
     }
     let n = N.min(8);
-    let left = s.len() - at;
-    if n <= left {
+    if n <= s.len() - at {
         read_within(s, at, n)
     } else {
-        read_within(s, at, left)
+        read_across(s, at, n)
     }
 }
 
@@ -77,6 +91,21 @@ fn write_within(s: &mut [u8], at: usize, n: usize, v: u64)
     }
 }
 
+// The same where the end of the slice is among them.
+#[cold]
+#[inline(never)]
+fn write_across(s: &mut [u8], at: usize, n: usize, v: u64)
+    requires inside { at < length s.old }
+    requires short { n ≤ 8 }
+    ensures { s.new ≡ write_le n s.old at v }
+{
+    let mut rest = v;
+    for i in 0..n {
+        put(s, at + i, (rest % 256) as u8);
+        rest /= 256;
+    }
+}
+
 // The N low bytes of a number, at most eight, stored at a position.
 pub fn write_le<const N: usize>(s: &mut [u8], at: usize, v: u64)
     ensures { s.new ≡ write_le (min N 8) s.old at v }
@@ -85,11 +114,10 @@ pub fn write_le<const N: usize>(s: &mut [u8], at: usize, v: u64)
         return;
     }
     let n = N.min(8);
-    let left = s.len() - at;
-    if n <= left {
+    if n <= s.len() - at {
         write_within(s, at, n, v)
     } else {
-        write_within(s, at, left, v)
+        write_across(s, at, n, v)
     }
 }
 

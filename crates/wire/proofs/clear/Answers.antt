@@ -1,5 +1,4 @@
 -- `wire::clear` meets its contract: each turn clears one element more, and the loop ends behind the last.
-use native.Mathlib.Omega.{arith}
 use Rattle.wire.proofs.Laws.{cleared_more, cleared_all}
 use Rattle.wire.proofs.clear.Goals as goal
 
