@@ -38,7 +38,7 @@ fn place(s: &Sets, u: KeyUse) -> Option<usize>
 {
     s.keys[..s.count]
         .iter()
-        .position(|k| k.high == u.high && k.low == u.low)
+        .position(|k| (k.high == u.high) & (k.low == u.low))
 }
 
 // One more use: it joins that of its key, or its key is a new one behind the others, unless there are as many as the limit.
