@@ -10,4 +10,4 @@ loop-call-init c = refl
 
 pub loop-call-preserved : goal.loop-call-preserved
 loop-call-preserved c =
-    set_more _ _ c.requires.status_value c.loop-call.call c.loop-call.invariant c.row_of.ensures c.row_count-count.ensures c.put_word.ensures
+    set_more _ _ c.requires.status_value c.loop-call.call c.loop-call.invariant c.row_of.ensures c.row_count-count.ensures c.put.ensures

@@ -10,4 +10,4 @@ pub returns : goal.returns
 unfolding collected_of
 returns c =
     let why = c.args.why in
-    ap (λ (t : List ℕ). leaving (record { verdict = Err why; cells = 0 }) t) c.clear_words.ensures
+    ap (λ (t : List ℕ). leaving (record { verdict = Err why; cells = 0 }) t) c.clear.ensures

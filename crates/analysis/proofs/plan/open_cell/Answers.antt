@@ -9,4 +9,4 @@ pub returns : goal.returns
 returns c =
     cell_stored _ _ c.args.values.now _ c.short.ensures c.short-2.ensures c.long.ensures c.long-low.ensures
     (high_named c.short.result c.short-2.result c.long.result c.address_of.ensures c.high_of-high.ensures) c.cell_number-number.ensures c.get_i64.ensures
-    (read_back {z = c.get_i64.result} (record { sfits = c.get_i64.type_inv })) c.put_value.ensures
+    (read_back {z = c.get_i64.result} (record { sfits = c.get_i64.type_inv })) c.put.ensures

@@ -16,5 +16,5 @@ pub returns : goal.returns
 returns c =
     let key = key_bytes c.args.high c.args.low in
     let twelve : c.args.at + 16 ≡ c.args.at + 4 + length (key_bytes c.args.high c.args.low) = simp (length-append, bytes_of_length) (omega arith) in
-    let body = stored_joined _ (c.args.at + 4) key (bytes_of 8 c.args.bits) twelve c.put_key.ensures c.put64.ensures in
+    let body = stored_joined _ (c.args.at + 4) key (bytes_of 8 c.args.bits) twelve c.put_key.ensures c.write_le.ensures in
     record_behind c.args.output.now c.args.at cell_kind 20 (key ++ bytes_of 8 c.args.bits) (cell_body_lem c.args.high c.args.low c.args.bits) c.put_head.ensures body

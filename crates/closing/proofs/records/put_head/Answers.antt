@@ -7,4 +7,4 @@ use Rattle.closing.proofs.records.put_head.Goals as goal
 
 pub returns : goal.returns
 returns c =
-    c.put32.ensures ∙ ap (stored c.args.output.now c.args.at) (head_number c.args.size c.args.kind (omega arith) (omega arith))
+    c.write_le.ensures ∙ ap (stored c.args.output.now c.args.at) (head_number c.args.size c.args.kind (omega arith) (omega arith))

@@ -20,7 +20,7 @@ returns c =
     let told : receipt_record outcome count ≡ receipt_record (status_word c.args.status.now c.args.call 1) (status_word c.args.status.now c.args.call 2) =
     ap₂ (λ (o n : ℕ). receipt_record o n) c.status_word-outcome.ensures c.status_word-count.ensures in
     let two : c.args.at + 6 ≡ c.args.at + 4 + length (bytes_of 2 outcome) = omega (arith, bytes_of_length 2 outcome) in
-    let body = stored_joined _ (c.args.at + 4) (bytes_of 2 outcome) (bytes_of 2 count) two c.put16.ensures c.put16-2.ensures in record {
+    let body = stored_joined _ (c.args.at + 4) (bytes_of 2 outcome) (bytes_of 2 count) two c.write_le.ensures c.write_le-2.ensures in record {
       output_after = record_behind c.args.output.now c.args.at receipt_kind 4 (bytes_of 2 outcome ++ bytes_of 2 count) (receipt_body outcome count) c.put_head.ensures body
           ∙ ap (stored c.args.output.now c.args.at) told;
       value = omega (arith, receipt_length outcome count, ap length told);

@@ -7,4 +7,4 @@ pub returns : goal.returns
 returns c =
     let a = c.args in
     simp c.to_le_bytes.ensures at c.decode_parts.ensures
-    ∙ decode_word a.size a.code.now a.at (λ i. (c.type_inv.code i).fits) c.get64.ensures (simp c.to_le_bytes.ensures at c.from_le_bytes-w.ensures)
+    ∙ decode_word a.size a.code.now a.at (λ i. (c.type_inv.code i).fits) c.read_le.ensures (simp c.to_le_bytes.ensures at c.from_le_bytes-w.ensures)

@@ -3,4 +3,4 @@ use Rattle.wire.proofs.BytesLaws.{read_lt}
 use Rattle.decoder.proofs.part.long.Goals as goal
 
 pub overflow_cast-result : goal.overflow_cast-result
-overflow_cast-result c = record { fits = rw c.get32.ensures (read_lt 4 c.args.s.now (λ i. (c.type_inv.s i).fits) c.args.at) }
+overflow_cast-result c = record { fits = rw c.read_le.ensures (read_lt 4 c.args.s.now (λ i. (c.type_inv.s i).fits) c.args.at) }

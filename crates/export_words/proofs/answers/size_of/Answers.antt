@@ -4,4 +4,4 @@ use Rattle.export_words.proofs.answers.size_of.Goals as goal
 
 pub returns : goal.returns
 unfolding size_of
-returns c = c.word.ensures
+returns c = c.get_or.ensures

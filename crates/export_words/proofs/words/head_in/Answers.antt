@@ -15,4 +15,4 @@ unfolding held_in below
 returns c =
     let held : c.loop-worker.held ≡ map (λ (k : ℕ). held_number (get_or c.args.words.now (4 + k) 0)) (range_with_len 0 8) =
     fill_by_all (λ (k : ℕ). held_number (get_or c.args.words.now (4 + k) 0)) c.loop-worker.held 8 0 c.loop-worker.invariant.0 (search rules) in
-    simp (c.word-4.ensures, c.word-3.ensures, c.word-2.ensures, c.word.ensures, held)
+    simp (c.get_or-4.ensures, c.get_or-3.ensures, c.get_or-2.ensures, c.get_or.ensures, held)

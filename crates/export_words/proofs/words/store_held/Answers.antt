@@ -8,7 +8,7 @@ returns-then-worker-ge-MAX_WORKERS c = stored_none _ _ _ c.if-worker-ge-MAX_WORK
 
 pub returns-then-held_word-held : goal.returns-then-held_word-held
 returns-then-held_word-held c =
-    c.put_word.ensures ∙ stored_other _ _ _ c.if-worker-ge-MAX_WORKERS.false c.held_word.ensures c.if-held_word-held.true
+    c.put.ensures ∙ stored_other _ _ _ c.if-worker-ge-MAX_WORKERS.false c.held_word.ensures c.if-held_word-held.true
 
 pub returns-else-held_word-held : goal.returns-else-held_word-held
 returns-else-held_word-held c = stored_same _ _ _ c.if-worker-ge-MAX_WORKERS.false c.held_word.ensures c.if-held_word-held.false

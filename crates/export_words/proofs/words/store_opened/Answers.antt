@@ -5,4 +5,4 @@ use Rattle.export_words.proofs.words.store_opened.Goals as goal
 pub returns : goal.returns
 unfolding stored
 returns c =
-    simp (c.put_word-4.ensures, c.put_word-3.ensures, c.put_word-2.ensures, c.put_word.ensures, c.clear_words.ensures)
+    simp (c.put-4.ensures, c.put-3.ensures, c.put-2.ensures, c.put.ensures, c.clear.ensures)

@@ -14,7 +14,7 @@ use Rattle.moves.proofs.entries.save.Goals as goal
 pub loop-k-preserved : goal.loop-k-preserved
 loop-k-preserved c =
     c.loop-k.invariant ∙ save_turn c.entries_of-entry-items.result.now c.args.cells.now (frame_values * c.args.worker + registers) c.loop-k.k c.loop-k-test.true c.loop-k.frames
-    (to_z-of_z {w = w64} {z = c.old_value.result} (search rules) ∙ c.old_value.ensures) c.put_value.ensures
+    (to_z-of_z {w = w64} {z = c.old_value.result} (search rules) ∙ c.old_value.ensures) c.put.ensures
 
 pub returns : goal.returns
 returns c =

@@ -7,4 +7,4 @@ use Rattle.moves.proofs.perform.transfer.Goals as goal
 pub returns : goal.returns
 returns c =
     let a = c.args in
-    transfer_enough a.plan.now a.keys.now a.site.call a.site.place a.site.count a.regs c.ranges.amount a.short (access_of a.uses.second) a.cells.now (sym c.lookup.ensures ∙ c.in-Some.is) (record { sfits = c.value-held.type_inv }) c.value-held.ensures c.if-held-lt0.false c.if-held-amount.false c.deposit.ensures
+    transfer_enough a.plan.now a.keys.now a.site.call a.site.place a.site.count a.regs c.ranges.amount a.short (access_of a.uses.second) a.cells.now (sym c.lookup.ensures ∙ c.in-Some.is) (record { sfits = c.value-held.type_inv }) c.get_or-held.ensures c.if-held-lt0.false c.if-held-amount.false c.deposit.ensures

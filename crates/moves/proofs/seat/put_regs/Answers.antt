@@ -20,7 +20,7 @@ loop-k-init c = stored_none _ _ _
 
 pub loop-k-preserved : goal.loop-k-preserved
 loop-k-preserved c =
-    stored_more _ _ _ _ c.loop-k.invariant (omega (arith, c.loop-k-test.true, full (goal.at.loop-k-preserved c).Start)) (pos 0) c.put_value.ensures
+    stored_more _ _ _ _ c.loop-k.invariant (omega (arith, c.loop-k-test.true, full (goal.at.loop-k-preserved c).Start)) (pos 0) c.put.ensures
     (to_z-of_z {w = w64} {z = get_or c.args.regs c.loop-k.k (pos 0)} (search rules))
 
 pub returns : goal.returns

@@ -10,7 +10,7 @@ loop-k-init c = taken_none _ _
 
 pub loop-k-preserved : goal.loop-k-preserved
 loop-k-preserved c =
-    taken_more _ _ _ c.loop-k.invariant (omega (arith, c.loop-k-test.true)) (read_back (record { sfits = c.value.type_inv }) ∙ c.value.ensures)
+    taken_more _ _ _ c.loop-k.invariant (omega (arith, c.loop-k-test.true)) (read_back (record { sfits = c.value.type_inv }) ∙ c.get_or.ensures)
 
 pub returns : goal.returns
 returns c =

@@ -6,4 +6,4 @@ use Rattle.play.proofs.records.put_cell.Goals as goal
 
 pub returns : goal.returns
 returns c =
-    cell_put c.args.sheet.now c.args.body c.get16-address.ensures c.get16-field.ensures c.get32-a.ensures c.get32-b.ensures (read_back (record { sfits = c.get_i64-value.type_inv }) ∙ c.get_i64-value.ensures) c.cell_line.ensures
+    cell_put c.args.sheet.now c.args.body c.read_le-address.ensures c.read_le-field.ensures c.read_le-a.ensures c.read_le-b.ensures (read_back (record { sfits = c.get_i64-value.type_inv }) ∙ c.get_i64-value.ensures) c.cell_line.ensures

@@ -4,4 +4,4 @@ use Rattle.play.proofs.records.put_receipt.Goals as goal
 
 pub returns : goal.returns
 returns c =
-    receipt_put c.args.sheet.now c.args.body c.args.call c.get16-outcome.ensures c.get16-count.ensures c.receipt_line.ensures
+    receipt_put c.args.sheet.now c.args.body c.args.call c.read_le-outcome.ensures c.read_le-count.ensures c.receipt_line.ensures
