@@ -12,7 +12,7 @@ ghost use Rattle.block.specs.Outcomes.{ended, thrown};
 // Stays: document 01 names each instruction's own function, with the registers by value (a); they differ in one call each.
 use arith::NoResult;
 use block::outcomes::{ENDED, NOT_PAID, OUT_OF_RANGE, THROWN, ZERO_DIVISOR};
-use block::{Call, Source};
+use block::{Account, Call, Source};
 use decoder::record::{argument, payee_of};
 use key_uses::source_value;
 use machine::layout::REGISTERS;

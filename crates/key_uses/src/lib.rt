@@ -7,7 +7,7 @@ ghost use Rattle.footprint.specs.Access.{reading, writing, accesses, entry_acces
 ghost use Rattle.block.specs.Naming.{cell_key, source_value, target_of};
 ghost use Rattle.key_uses.specs.Uses.{no_use, use_of, uses_of};
 
-use block::{Address, Call, Instr, Source};
+use block::{Account, Address, Call, Instr, Source};
 use decoder::record::{argument, high_of, payee_of};
 
 // A key in two words, and how it is used.

@@ -14,7 +14,7 @@ use Rattle.block.specs.Reader.{Read, Reading, accepted, refused, due, ended, emp
 use Rattle.block.proofs.ReaderLaws.{Reached, Right, reached_start}
 use Rattle.block.proofs.ReaderRight.{right_record}
 use Rattle.reader.specs.Layout.{table, layout_of}
-use Rattle.reader.specs.Standing.{floor_of, NumbersOfBlock, MovedOn, TurnFollows, left_of}
+use Rattle.reader.specs.Standing.{floor_of, NumbersOfBlock, MovedOn, TurnFollows}
 use Rattle.reader.specs.declared.Layout.{Layout}
 use Rattle.block.specs.declared.Refusal.{Refusal}
 use Rattle.block.specs.declared.Refusal.TheVariants.{InputTooLong}
@@ -197,20 +197,19 @@ module _ (file ids starts sizes : List ℕ) (p : Progress) (g : ReadingOn file i
       go (ended (accepted b')) e t = absurd t
 
   pub reading_end : TurnFollows p g.b (Ok End) turn
-      → ◌≡◌ {A = Layout}
-      (record { verdict = (Ok tt); functions = p.functions; cells = p.cells; calls = p.calls; opening = p.opening; first_call = p.first_call; ids = ids; starts = starts; sizes = sizes })
+      → ◌≡◌ {A = Result Layout Refusal}
+      (Ok record { functions = p.functions; cells = p.cells; calls = p.calls; opening = p.opening; first_call = p.first_call; ids = ids; starts = starts; sizes = sizes })
       (layout_of (read_block file))
   unfolding layout_of
   reading_end t = all ∙ go turn refl t
     where
-      all : ◌≡◌ {A = Layout}
-          (record { verdict = (Ok tt); functions = p.functions; cells = p.cells; calls = p.calls; opening = p.opening; first_call = p.first_call; ids = ids; starts = starts; sizes = sizes })
+      all : ◌≡◌ {A = Result Layout Refusal}
+          (Ok record { functions = p.functions; cells = p.cells; calls = p.calls; opening = p.opening; first_call = p.first_call; ids = ids; starts = starts; sizes = sizes })
           (layout_of (accepted g.b))
       all =
           let h : NumbersOfBlock p g.b = g.stands.holds in
           λ i.
-          record {
-            verdict = (Ok tt);
+          Ok record {
             functions = h.functions i;
             cells = h.cells i;
             calls = h.calls i;
@@ -227,7 +226,8 @@ module _ (file ids starts sizes : List ℕ) (p : Progress) (g : ReadingOn file i
       go (ended (accepted b')) e t = ap (λ (x : Block). layout_of (accepted x)) (sym t) ∙ ap layout_of (answer (accepted b') e)
 
 -- A refusal that is handed on.
-pub handed_on : (r : Result Layout Refusal) (why : Refusal) → IsErrAnd r (λ e. e ≡ why) → left_of r ≡ layout_of (refused why)
+pub handed_on : (r : Result Layout Refusal) (why : Refusal) → IsErrAnd r (λ e. e ≡ why) → r ≡ layout_of (refused why)
+unfolding layout_of
 handed_on (Ok l) why h = absurd h
 handed_on (Err e) why h = ap (λ (w : Refusal). layout_of (refused w)) h
 

@@ -1,32 +1,20 @@
 -- What the reader leaves of a file, in numbers.
-use Rattle.std.specs.Prelude.{List, map, ℕ, length, Err, Ok}
+use Rattle.std.specs.Prelude.{List, map, ℕ, length, Err, Ok, Result}
 use Rattle.wire.specs.Bytes.{repeated, padded}
 use Rattle.block.specs.Limits.{max_functions}
-use Rattle.block.specs.Record.{Function, function_id}
+use Rattle.block.specs.Record.{Function, function_id, Block}
 use Rattle.block.specs.Reader.{Read, accepted, refused}
+use Rattle.block.specs.declared.Refusal.{Refusal}
 use Rattle.reader.specs.declared.Layout.{Layout}
 
 -- A number of each function, in a table that has room for all and is zero behind them.
 abbrev pub table : (Function → ℕ) → List Function → List ℕ
 table f functions = padded max_functions 0 (map f functions)
 
--- Of a refused file only the refusal.
-unfoldable pub layout_of : Read → Layout
-layout_of (refused why) =
+-- The numbers of a block.
+abbrev pub layout_for : Block → Layout
+layout_for b =
     record {
-      verdict = Err why;
-      functions = 0;
-      cells = 0;
-      calls = 0;
-      opening = 0;
-      first_call = 0;
-      ids = repeated max_functions 0;
-      starts = repeated max_functions 0;
-      sizes = repeated max_functions 0;
-    }
-layout_of (accepted b) =
-    record {
-      verdict = (Ok tt);
       functions = length b.functions;
       cells = length b.cells;
       calls = length b.calls;
@@ -36,3 +24,8 @@ layout_of (accepted b) =
       starts = table (λ f. f.start) b.functions;
       sizes = table (λ f. f.size) b.functions;
     }
+
+-- Of a refused file only the refusal.
+unfoldable pub layout_of : Read → Result Layout Refusal
+layout_of (refused why) = Err why
+layout_of (accepted b) = Ok (layout_for b)

@@ -6,8 +6,6 @@ use Rattle.arith.specs.Balance.{total}
 use Rattle.arith.specs.Exact.{signed}
 use Rattle.block.specs.Record.{Block, function_id}
 use Rattle.block.specs.Reader.{Reading, accepted, refused, due, ended, balances}
-use Rattle.reader.specs.Layout.{layout_of}
-use Rattle.reader.specs.declared.Layout.{Layout}
 use Rattle.block.specs.declared.Refusal.{Refusal}
 use Rattle.reader.specs.declared.Progress.{Progress}
 use Rattle.reader.specs.declared.Turn.{Turn}
@@ -65,8 +63,3 @@ TurnFollows p b (Ok End) (ended (refused why)) = ⊥
 TurnFollows p b (Err told) (due kind at rest b') = ⊥
 TurnFollows p b (Err told) (ended (accepted b')) = ⊥
 TurnFollows p b (Err told) (ended (refused why)) = told ≡ why
-
--- What is left of a file, accepted or refused.
-abbrev pub left_of : Result Layout Refusal → Layout
-left_of (Ok l) = l
-left_of (Err why) = layout_of (refused why)

@@ -22,7 +22,7 @@ fn value_allowed(field: u16, bits: u64) -> bool
     ensures { result ≡ value_allowed field bits }
 {
     if field == 0 {
-        arith::less(0, arith::signed64(bits))
+        0 < arith::signed64(bits)
     } else {
         bits != 0
     }

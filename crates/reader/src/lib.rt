@@ -7,19 +7,17 @@ mod function;
 mod record;
 
 ghost use Rattle.std.specs.Prelude.{◌≡◌, ◌+◌, ◌*◌, ◌^◌, ◌-◌, ◌<◌};
-ghost use Rattle.block.specs.Reader.{read_block, refused};
+ghost use Rattle.block.specs.Reader.{read_block};
 ghost use Rattle.reader.specs.Layout.{layout_of};
-ghost use Rattle.reader.specs.Standing.{left_of};
 
 use crate::record::read_record;
 use block::limits::{MAX_BYTES, MAX_FUNCTIONS};
 use block::Refusal;
 
 // What the reader leaves of a file: the counts, the offsets at which its opening cells and its calls begin, and of each function its
-// id, contract * 65536 + number, and where its code starts and how many instructions it has. All zero if the file is refused.
+// id, contract * 65536 + number, and where its code starts and how many instructions it has.
 #[derive(Clone, Copy)]
 pub struct Layout {
-    pub verdict: Result<(), Refusal>,
     pub functions: usize,
     pub cells: usize,
     pub calls: usize,
@@ -60,26 +58,9 @@ pub enum Turn {
     End,
 }
 
-// What is left of a refused file.
-fn refused(why: Refusal) -> Layout
-    ensures { result ≡ layout_of (refused why) }
-{
-    Layout {
-        verdict: Err(why),
-        functions: 0,
-        cells: 0,
-        calls: 0,
-        opening: 0,
-        first_call: 0,
-        ids: [0; MAX_FUNCTIONS],
-        starts: [0; MAX_FUNCTIONS],
-        sizes: [0; MAX_FUNCTIONS],
-    }
-}
-
 // The reader, record by record to the answer.
-fn read_records(file: &[u8]) -> Result<Layout, Refusal>
-    ensures { left_of result ≡ layout_of (read_block file.now) }
+pub fn read_block(file: &[u8]) -> Result<Layout, Refusal>
+    ensures { result ≡ layout_of (read_block file.now) }
 {
     if MAX_BYTES < file.len() {
         return Err(Refusal::InputTooLong);
@@ -104,7 +85,6 @@ fn read_records(file: &[u8]) -> Result<Layout, Refusal>
             }
             Turn::End => {
                 return Ok(Layout {
-                    verdict: Ok(()),
                     functions: p.functions,
                     cells: p.cells,
                     calls: p.calls,
@@ -117,11 +97,4 @@ fn read_records(file: &[u8]) -> Result<Layout, Refusal>
             }
         }
     }
-}
-
-// What the reader leaves: all zero if the file is refused.
-pub fn read_block(file: &[u8]) -> Layout
-    ensures { result ≡ layout_of (read_block file.now) }
-{
-    read_records(file).unwrap_or_else(refused)
 }

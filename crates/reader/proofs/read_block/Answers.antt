@@ -1,4 +1,4 @@
--- `reader::read_records` meets its contract: its numbers and tables stand for the block read so far, and each turn is one of the definition.
+-- `reader::read_block` meets its contract: its numbers and tables stand for the block read so far, and each turn is one of the definition.
 use mathlib.Core.Path.{ap, ◌∙◌}
 use lib.ListN.{set}
 use Prim.Native.Nat.{◌<◌}
@@ -6,10 +6,11 @@ use Rattle.wire.specs.Bytes.{repeated}
 use Rattle.wire.proofs.ListLaws.{to_the_end}
 use Rattle.reader.specs.Layout.{layout_of}
 use Rattle.reader.proofs.ReadingLaws.{Advanced, long_file, handed_on, rest_size, reading_start, reading_more, reading_refused, going_room, going_function, reading_end}
-use Rattle.reader.proofs.read_records.Goals.{In-Function, In-More}
-use Rattle.reader.proofs.read_records.Goals as goal
+use Rattle.reader.proofs.read_block.Goals.{In-Function, In-More}
+use Rattle.reader.proofs.read_block.Goals as goal
 
 pub returns-then-file-gt-MAX_BYTES : goal.returns-then-file-gt-MAX_BYTES
+unfolding layout_of
 returns-then-file-gt-MAX_BYTES c = ap layout_of (long_file c.args.file.now c.if-file-gt-MAX_BYTES.true)
 
 pub loop-next-init : goal.loop-next-init
@@ -17,6 +18,7 @@ unfolding repeated
 loop-next-init c = reading_start c.args.file.now c.default-p.result c.if-file-gt-MAX_BYTES.false c.default-p.ensures
 
 pub returns-in_err-next : goal.returns-in_err-next
+unfolding layout_of
 returns-in_err-next c =
     let l = c.loop-next in
     let s = l.invariant.stands in

@@ -1,7 +1,7 @@
 use Prim.Native.Nat.{◌-◌}
 use lib.ListN.{length}
 use Rattle.reader.proofs.ReadingLaws.{ReadingOn}
-use Rattle.reader.proofs.read_records.Given as goal
+use Rattle.reader.proofs.read_block.Given as goal
 
 abbrev pub invariant-loop-next : goal.invariant-loop-next
 invariant-loop-next l = ReadingOn l.file l.ids l.starts l.sizes l.p
