@@ -157,7 +157,7 @@ fn clear_from(file: &mut [u8], from: usize)
     ensures { drop from file.new ≡ repeated (length file.old - from) 0 }
 {
     let rest = &mut file[from..];
-    wire::clear_bytes(rest);
+    wire::clear(rest, 0);
 }
 
 // One read of the file into the buffer from a position on: how many bytes came, 0 at the file's end.
@@ -283,7 +283,7 @@ pub fn next_length(rt: &impl Input) -> Part
     }
     Part {
         found: true,
-        length: (wire::get32(&head, 0) % LENGTHS) as usize,
+        length: (wire::read_le::<4>(&head, 0) % LENGTHS) as usize,
     }
 }
 
