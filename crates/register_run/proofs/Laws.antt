@@ -7,6 +7,7 @@ use native.Mathlib.Nat.{add-zero, zero-add}
 use native.Mathlib.Omega.{arith}
 use lib.ListN.{length, take, length-append}
 use lib.Seq.{length-take-le, take_all}
+use Rattle.std.specs.Prelude.{Option, Some, None, is_some, unwrap_or}
 use Rattle.wire.specs.Bytes.{stored}
 use Rattle.block.specs.Limits.{max_bytes, max_workers}
 use Rattle.block.specs.Refusal.{number_of, offset_of, is_accepted}
@@ -27,12 +28,12 @@ use Rattle.play.proofs.PiecesLaws.{end_said, register_in_pieces}
 use Rattle.play.proofs.TextLaws.{bytes_grow, end_grows}
 use Rattle.play.specs.declared.Session as play
 use Rattle.play.specs.Pieces.{pieces_text}
-use Rattle.host.specs.Exchange.{Handed, FileIn}
+use Rattle.host.specs.Exchange.{Handed, nothing_exchanged, FileIn}
 use Rattle.host.proofs.Laws.{file_whole, front, handed_as, handed_empty, handed_more}
 use Rattle.host.specs.declared.Exchange.{Exchange}
 use Rattle.host.specs.declared.FileRead.{FileRead}
 use Rattle.printing.specs.Printing.{printed_lines, printed_close}
-use Rattle.register_run.specs.Runs.{chunk_size, printed_of, InputRead, PlaysBytes, PiecePlayed, InputPlayed, exchange_start, printed_end, printed_opened, RunsOn, Runs, Registers}
+use Rattle.register_run.specs.Runs.{chunk_size, printed_of, InputRead, PlaysBytes, PiecePlayed, InputPlayed, exchange_start, printed_end, printed_opened, RunsOn, Runs, RegistersFile}
 use Rattle.printing.specs.declared.Output.{Output}
 use Rattle.printing.specs.declared.Output.TheVariants.{Text, Sheet}
 use Rattle.register_run.specs.declared.Piece.{Piece}
@@ -242,14 +243,14 @@ module _ (block : List ℕ) (number : ℕ) (line : Line) (run : Run) (out : List
 module _ {output : Output} {block : List ℕ} {run left : Run} {x y : Exchange} {limit : ℕ} {before mid after : List ℕ} {i : Input} where
   pub runs_on : InputPlayed output block (fresh_session 1 Empty run) x limit before i left mid
       → Handed mid i.exchange (printed_end output block i.session.number i.session.line left) after y → y.received ≡ i.exchange.received → x.received ≡ 0
-      → RunsOn output block run x limit before (record { opened = true; ended = i.ended; exchange = y }) after
+      → RunsOn output block run x limit before (record { input_ended = Some i.ended; exchange = y }) after
   runs_on p h same none =
       let s : Session = play_bytes block (fresh_session 1 Empty run) p.bytes in
       record {
         opened = refl;
         input = p.bytes;
         within = p.within;
-        whole = λ ok more. p.whole (h.still ok) more;
+        whole = λ ok more. p.whole (h.still ok) (ap (λ (e : Option Bool). unwrap_or e true) more);
         received = same ∙ p.plays.received ∙ ap (λ (n : ℕ). n + length p.bytes) none ∙ zero-add (length p.bytes);
         text =
             handed_as
@@ -288,7 +289,7 @@ module _ {output : Output} {block : List ℕ} {x : Exchange} {limit : ℕ} {befo
         opened = p.opened ∙ sym (ap is_accepted accepted);
         input = p.input;
         within = p.within;
-        whole = λ ok o more. p.whole ok more;
+        whole = p.whole;
         received = p.received;
         text =
             handed_as
@@ -299,7 +300,7 @@ module _ {output : Output} {block : List ℕ} {x : Exchange} {limit : ℕ} {befo
 
   pub runs_refused : (why : Refusal) → v ≡ verdict.Refused why → {y : Exchange}
       → Handed before (exchange_start x) (printed_lines output (block_refused_text (number_of why) (offset_of why))) after y
-      → y.received ≡ 0 → Runs output block x limit before (record { opened = false; ended = false; exchange = y }) after
+      → y.received ≡ 0 → Runs output block x limit before (record { input_ended = None; exchange = y }) after
   unfolding is_accepted
   runs_refused why e {y} h none =
       let refused : (opening_of fixed_sizes block max_workers).answer ≡ verdict.Refused why = sym (ap (λ (o : Opened). o.answer) is) ∙ e in
@@ -307,21 +308,21 @@ module _ {output : Output} {block : List ℕ} {x : Exchange} {limit : ℕ} {befo
         opened = sym (ap is_accepted refused);
         input = [];
         within = omega arith;
-        whole = λ ok o more. absurd (false≢true o);
+        whole = λ ok more. absurd (false≢true (ap is_some more));
         received = none;
         text = handed_as (sym (refused_of output block [] why refused)) h;
       }
 
 -- The file that was read, run as REGISTER does.
-module _ {output : Output} (buffer file : List ℕ) {f : FileRead} {before after : List ℕ} {r : Ran} (i : FileIn buffer file f) (same : length file ≡ length buffer)
-    (long : length buffer ≡ max_bytes + 1) where
-  pub registers_of : Runs output (take f.length file) (record { ok = f.ok; received = 0; sent = 0 }) max_input before r after
-      → Registers output before (record { file_ok = f.ok; file_ended = f.ended; opened = r.opened; input_ended = r.ended; exchange = r.exchange }) after
+module _ {output : Output} (buffer file : List ℕ) {f : FileRead} {before after : List ℕ} {r : Ran} (i : FileIn buffer file (Some f))
+    (same : length file ≡ length buffer) (long : length buffer ≡ max_bytes + 1) where
+  pub registers_of : Runs output (take f.length file) nothing_exchanged max_input before r after
+      → RegistersFile output before (record { file_ended = f.ended; input_ended = r.input_ended; exchange = r.exchange }) after
   registers_of p =
       record {
         file = take f.length file;
         input = p.input;
-        file_whole = λ ok more. file_whole buffer file i same long (p.text.still ok) more;
+        file_whole = λ more. file_whole buffer file i same long more;
         opened = p.opened;
         input_within = p.within;
         input_whole = p.whole;
