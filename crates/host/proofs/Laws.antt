@@ -8,13 +8,10 @@ use native.Mathlib.Omega.{arith}
 use lib.ListN.{length, take, drop, take-append-drop, length-append, length-drop}
 use lib.Seq.{take-append_seam, length-take-le}
 use borrow.Rule.Slice.PartMut.{post_of, put_mid, Post-is}
-use Rattle.std.specs.Prelude.{Some}
-use Rattle.block.specs.Limits.{max_bytes}
 use Rattle.wire.specs.Bytes.{stored}
 use Rattle.wire.proofs.BytesLaws.{stored_append, stored_length, stored_past, stored_inside}
-use Rattle.host.specs.Exchange.{Handed, FileIn}
+use Rattle.host.specs.Exchange.{Handed}
 use Rattle.host.specs.declared.Exchange.{Exchange}
-use Rattle.host.specs.declared.FileRead.{FileRead}
 use Rattle.text.specs.Written.{Written}
 
 -- ---- a text stored as far as it fits
@@ -39,17 +36,6 @@ stored_part before text from n short room past =
     ∙ sym (rest_past (drop n text) (stored before from (take n text)) (from + length (take n text)) (λ h. omega (arith, past (omega arith))))
     ∙ sym (stored_append (take n text) (drop n text) before from)
     ∙ ap (stored before from) (take-append-drop n text)
-
--- ---- a file that was read
-
--- A file read into a buffer of one byte more than a block may have.
-module _ (buffer file : List ℕ) {f : FileRead} (i : FileIn buffer file (Some f)) (same : length file ≡ length buffer) where
-  pub file_fits : f.length ≤ length file
-  file_fits = let l : f.length ≤ length buffer = i.0.within in omega arith
-
-  pub file_whole : length buffer ≡ max_bytes + 1 → f.ended ≡ false → max_bytes < length (take f.length file)
-  file_whole long more =
-      let all : f.length ≡ length buffer = i.0.whole more in omega (arith, length-take-le f.length file file_fits)
 
 -- ---- a text at the front of a buffer
 

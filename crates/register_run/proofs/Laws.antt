@@ -2,14 +2,14 @@
 use mathlib.Core.Path.{◌≡◌, refl, sym, ap, subst, ◌∙◌}
 use mathlib.Core.Bool.{Bool, true, false, true≢false, false≢true}
 use mathlib.Core.List.{List, [], ◌∷◌, ◌++◌, append-nil, flatten}
-use Prim.Native.Nat.{ℕ, zero, suc, ◌+◌, ◌*◌, ◌≤◌, ◌<◌}
+use Prim.Native.Nat.{ℕ, ◌+◌, ◌*◌, ◌≤◌, ◌<◌}
 use native.Mathlib.Nat.{add-zero, zero-add}
 use native.Mathlib.Omega.{arith}
 use lib.ListN.{length, take, length-append}
 use lib.Seq.{length-take-le, take_all}
 use Rattle.std.specs.Prelude.{Option, Some, None, is_some, unwrap_or}
 use Rattle.wire.specs.Bytes.{stored}
-use Rattle.block.specs.Limits.{max_bytes, max_workers}
+use Rattle.block.specs.Limits.{max_workers}
 use Rattle.block.specs.Refusal.{number_of, offset_of, is_accepted}
 use Rattle.block.specs.declared.Refusal.{Refusal}
 use Rattle.block.specs.declared.Verdict.{Verdict}
@@ -28,12 +28,11 @@ use Rattle.play.proofs.PiecesLaws.{end_said, register_in_pieces}
 use Rattle.play.proofs.TextLaws.{bytes_grow, end_grows}
 use Rattle.play.specs.declared.Session as play
 use Rattle.play.specs.Pieces.{pieces_text}
-use Rattle.host.specs.Exchange.{Handed, nothing_exchanged, FileIn}
-use Rattle.host.proofs.Laws.{file_whole, front, handed_as, handed_empty, handed_more}
+use Rattle.host.specs.Exchange.{Handed}
+use Rattle.host.proofs.Laws.{front, handed_as, handed_empty, handed_more}
 use Rattle.host.specs.declared.Exchange.{Exchange}
-use Rattle.host.specs.declared.FileRead.{FileRead}
 use Rattle.printing.specs.Printing.{printed_lines, printed_close}
-use Rattle.register_run.specs.Runs.{chunk_size, printed_of, InputRead, PlaysBytes, PiecePlayed, InputPlayed, exchange_start, printed_end, printed_opened, RunsOn, Runs, RegistersFile}
+use Rattle.register_run.specs.Runs.{chunk_size, printed_of, InputRead, PlaysBytes, PiecePlayed, InputPlayed, exchange_start, printed_end, printed_opened, RunsOn, Runs}
 use Rattle.printing.specs.declared.Output.{Output}
 use Rattle.printing.specs.declared.Output.TheVariants.{Text, Sheet}
 use Rattle.register_run.specs.declared.Piece.{Piece}
@@ -74,14 +73,6 @@ module _ {x y : Exchange} {n : ℕ} (r : InputRead x n y) where
         still = λ e. r.still (h.still e);
         nothing = λ e. h.nothing (gone y.ok refl e);
       }
-
--- No more comes than the part that is lent takes.
-pub read_within : (limit : ℕ) (chunk last : List ℕ) {n : ℕ} → n ≤ length last → length last ≡ length (take limit chunk) → limit ≤ length chunk → n ≤ limit
-read_within limit chunk last l e h = omega (arith, length-take-le limit chunk h)
-
-pub some_taken : (n : ℕ) → (n ≡ 0 → ⊥) → 0 < n
-some_taken zero f = absurd (f refl)
-some_taken (suc n) f = omega arith
 
 -- ---- pieces, one after another
 
@@ -311,21 +302,4 @@ module _ {output : Output} {block : List ℕ} {x : Exchange} {limit : ℕ} {befo
         whole = λ ok more. absurd (false≢true (ap is_some more));
         received = none;
         text = handed_as (sym (refused_of output block [] why refused)) h;
-      }
-
--- The file that was read, run as REGISTER does.
-module _ {output : Output} (buffer file : List ℕ) {f : FileRead} {before after : List ℕ} {r : Ran} (i : FileIn buffer file (Some f))
-    (same : length file ≡ length buffer) (long : length buffer ≡ max_bytes + 1) where
-  pub registers_of : Runs output (take f.length file) nothing_exchanged max_input before r after
-      → RegistersFile output before (record { file_ended = f.ended; input_ended = r.input_ended; exchange = r.exchange }) after
-  registers_of p =
-      record {
-        file = take f.length file;
-        input = p.input;
-        file_whole = λ more. file_whole buffer file i same long more;
-        opened = p.opened;
-        input_within = p.within;
-        input_whole = p.whole;
-        received = p.received;
-        text = p.text;
       }
