@@ -238,7 +238,17 @@ fn finish(
     );
     let after = say(rt, output, x, &answers[..p.length], transcript);
     close(
-        rt, output, p.session.head, plan, keys, cells, status, seats, frames, after, transcript,
+        rt,
+        output,
+        p.session.head,
+        plan,
+        keys,
+        cells,
+        status,
+        seats,
+        frames,
+        after,
+        transcript,
     )
 }
 
@@ -284,7 +294,8 @@ fn run_opened(
         transcript,
     );
     let exchange = finish(
-        rt, output, i.session, block, plan, keys, cells, status, seats, frames, i.exchange, transcript,
+        rt, output, i.session, block, plan, keys, cells, status, seats, frames, i.exchange,
+        transcript,
     );
     Ran {
         input_ended: Some(i.ended),
@@ -373,7 +384,10 @@ fn run_file(
 }
 
 // REGISTER: block.bin and standard input, and as text the answers of refused lines and the closing sheet.
-pub fn register(rt: &(impl Files + io::Input + Print + Eprint), transcript: &mut [u8]) -> Option<Registered>
+pub fn register(
+    rt: &(impl Files + io::Input + Print + Eprint),
+    transcript: &mut [u8],
+) -> Option<Registered>
     ensures { Registers Text transcript.old result transcript.new }
 {
     run_file(rt, Output::Text, transcript)

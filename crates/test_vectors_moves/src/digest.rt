@@ -28,7 +28,8 @@ pub(crate) fn bytes(s: &[u8]) -> u64 {
 
 // Values by their 64 bits.
 fn values(start: u64, s: &[i64]) -> u64 {
-    s.iter().fold(start, |hash, x| mix(hash, arith::unsigned64(*x)))
+    s.iter()
+        .fold(start, |hash, x| mix(hash, arith::unsigned64(*x)))
 }
 
 // What the workers hold.
