@@ -2,144 +2,40 @@
 use mathlib.Core.Path.{◌≡◌, refl, sym, ap, subst, ◌∙◌}
 use mathlib.Core.Bool.{Bool, true, false, true≢false}
 use mathlib.Core.List.{List, [], ◌∷◌, ◌++◌, append_assoc, append-nil}
-use Prim.Native.Nat.{ℕ, ◌+◌, ◌-◌, ◌^◌, ◌≤◌, ◌<◌}
+use Prim.Native.Nat.{ℕ, ◌+◌, ◌-◌, ◌≤◌, ◌<◌}
 use native.Mathlib.Nat.{add-zero, zero-add}
-use native.Mathlib.Numerals.{add-one}
 use native.Mathlib.Omega.{arith}
-use lib.ListN.{length, get_or, set, take, drop, length-set, length-append, length-drop, drop_of_length-le}
-use lib.Seq.{drop-cons, drop-append_seam, take-append_seam, length-take-le}
-use borrow.Rule.Slice.PartMut.{mid_of, post_of, put_mid}
-use Rattle.block.specs.Limits.{max_bytes}
-use Rattle.wire.specs.Bytes.{stored, repeated}
-use Rattle.wire.proofs.BytesLaws.{stored_append, stored_past, stored_inside}
-use Rattle.host.specs.Exchange.{Handed, Filled, Taken, PartIn, Reads, FileIn}
+use lib.ListN.{length, take, drop, take-append-drop, length-append, length-drop}
+use lib.Seq.{take-append_seam, length-take-le}
+use borrow.Rule.Slice.PartMut.{post_of, put_mid, Post-is}
+use Rattle.wire.specs.Bytes.{stored}
+use Rattle.wire.proofs.BytesLaws.{stored_append, stored_length, stored_past, stored_inside}
+use Rattle.host.specs.Exchange.{Handed}
 use Rattle.host.specs.declared.Exchange.{Exchange}
-use Rattle.host.specs.declared.FileRead.{FileRead}
 use Rattle.text.specs.Written.{Written}
 
--- ---- a text stored byte by byte: what is stored and what is left make up the whole
+-- ---- a text stored as far as it fits
 
-pub record Keeping (before text : List ℕ) (from : ℕ) (t : List ℕ) (i : ℕ) : Type 0 where
-  pub within : i ≤ length text
-  pub same : length t ≡ length before
-  pub whole : stored before from text ≡ stored t (from + i) (drop i text)
+rest_past : (rest s : List ℕ) (at : ℕ) → (0 < length rest → length s ≤ at) → stored s at rest ≡ s
+unfolding stored
+rest_past [] s at h = refl
+rest_past (b ∷ bs) s at h = stored_past (b ∷ bs) s at (h (omega arith))
 
-pub keeping_start : (before text : List ℕ) (from : ℕ) → Keeping before text from before 0
-keeping_start before text from = record { within = omega arith; same = refl; whole = simp add-zero }
-
-module _ {before text : List ℕ} {from : ℕ} {t : List ℕ} {i : ℕ} (k : Keeping before text from t i) where
-  pub keeping_on : i < length text → Keeping before text from (set t (from + i) (get_or text i 0)) (i + 1)
-  unfolding stored
-  keeping_on h =
-      let next : (from + i) + 1 ≡ from + (i + 1) = omega arith in
-      let here : drop i text ≡ get_or text i 0 ∷ drop (i + 1) text = drop-cons text i 0 h ∙ rw (add-one i) in
-      record {
-        within = omega arith;
-        same = length-set t (from + i) (get_or text i 0) ∙ k.same;
-        whole =
-            k.whole ∙ ap (stored t (from + i)) here ∙ ap (λ (n : ℕ). stored (set t (from + i) (get_or text i 0)) n (drop (i + 1) text)) next;
-      }
-
-  -- What lies past the transcript's end is dropped; behind the last byte nothing is left.
-  pub keeping_past : length t ≤ from + i → t ≡ stored before from text
-  keeping_past h = sym (k.whole ∙ stored_past (drop i text) t (from + i) h)
-
-  pub keeping_end : length text ≤ i → t ≡ stored before from text
-  unfolding stored
-  keeping_end h = sym (k.whole ∙ ap (stored t (from + i)) (drop_of_length-le text h))
-
--- ---- the rest of a buffer, cleared
-
-pub cleared_rest : (a : ℕ) (xs ys : List ℕ) → a ≤ length xs → ys ≡ repeated (length (mid_of a (length xs - a) xs)) 0
-    → drop a (put_mid a (length xs - a) xs ys) ≡ repeated (length xs - a) 0
-cleared_rest a xs ys h e =
-    let k : ℕ = length xs - a in
-    let long : length (drop a xs) ≡ k = length-drop a xs in
-    let none : post_of a k xs ≡ [] = drop_of_length-le (drop a xs) {i = k} (omega (arith, long)) in
-    let mid : length (mid_of a k xs) ≡ k = length-take-le k (drop a xs) (omega (arith, long)) in
-    ap (λ (n : ℕ). drop n (put_mid a k xs ys)) (sym (length-take-le a xs h)) ∙ drop-append_seam (take a xs) (ys ++ post_of a k xs)
-    ∙ ap (λ (l : List ℕ). ys ++ l) none ∙ append-nil ys ∙ e ∙ ap (λ (n : ℕ). repeated n 0) mid
-
--- ---- how much of a file is read
-
-pub reads_failed : (size : ℕ) {r : FileRead} → r ≡ record { ok = false; length = 0; ended = false } → Reads size r
-reads_failed size e =
-    rw e (record { within = omega arith; whole = λ h. absurd (true≢false (sym h)); none = λ h. refl })
-
-pub reads_ended : (size n : ℕ) → n ≤ size → Reads size (record { ok = true; length = n; ended = true })
-reads_ended size n l =
-    record { within = l; whole = λ h e. absurd (true≢false e); none = λ h. absurd (true≢false h) }
-
-pub reads_full : (size n : ℕ) → n ≤ size → size ≤ n → Reads size (record { ok = true; length = n; ended = false })
-reads_full size n l m =
-    record { within = l; whole = λ h e. omega arith; none = λ h. absurd (true≢false h) }
-
-pub read_filled : (before mid after : List ℕ) (n : ℕ) → n ≤ length mid → length mid ≡ length before → drop n after ≡ repeated (length mid - n) 0
-    → Filled before after n
-read_filled before mid after n l e d =
-    record { within = omega arith; behind = d ∙ ap (λ (k : ℕ). repeated (k - n) 0) e }
-
--- The first n bytes of a buffer, lent and come back, before the rest.
-module _ (n : ℕ) (buffer last : List ℕ) {got : ℕ} (l : got ≤ length last) where
-  pub got_fits : got ≤ length (last ++ drop n buffer)
-  got_fits = omega (arith, length-append last (drop n buffer))
-
-  pub got_filled : {after : List ℕ} → n ≤ length buffer → length last ≡ length (take n buffer) → drop got after ≡ repeated (length (last ++ drop n buffer) - got) 0
-      → Filled buffer after got
-  got_filled {after} h e d =
-      let same : length (last ++ drop n buffer) ≡ length buffer = omega (arith, length-append last (drop n buffer), length-drop n buffer, length-take-le n buffer h) in
-      read_filled buffer (last ++ drop n buffer) after got got_fits same d
-
-  pub taken_some : {after : List ℕ} → n ≤ length buffer → length last ≡ length (take n buffer) → drop got after ≡ repeated (length (last ++ drop n buffer) - got) 0
-      → Taken buffer after n got
-  taken_some {after} h e d =
-      record {
-        filled = got_filled h e d;
-        most = omega (arith, l, e, length-take-le n buffer h);
-        short = λ s. absurd (omega (arith, s, h));
-      }
-
-pub taken_none : {before after : List ℕ} {n : ℕ} → drop 0 after ≡ repeated (length before - 0) 0 → Taken before after n 0
-taken_none d = record { filled = record { within = omega arith; behind = d }; most = omega arith; short = λ s. refl }
-
--- A part of a stream: its length told, and a buffer that is too short, or large enough.
-pub part_refused : {told : ℕ} {before after : List ℕ} → told < 2 ^ 32 → drop 0 after ≡ repeated (length before - 0) 0
-    → PartIn before after (record { found = false; told = told; length = 0 })
-part_refused bound d =
-    record {
-      in_four = bound;
-      filled = record { within = omega arith; behind = d };
-      most = omega arith;
-      short = λ h. refl;
-      none = λ h. refl;
-    }
-
-pub part_taken : {found : Bool} {told got : ℕ} {before after : List ℕ} → told < 2 ^ 32 → (found ≡ false → told ≡ 0) → told ≤ length before
-    → Taken before after told got → PartIn before after (record { found = found; told = told; length = got })
-part_taken {found} {told} {got} bound none large t =
-    let most : got ≤ told = t.most in
-    record {
-      in_four = bound;
-      filled = t.filled;
-      most = most;
-      short = λ h. absurd (omega (arith, h, large));
-      none = λ h. let e : told ≡ 0 = none h in omega (arith, e, most);
-    }
-
-pub file_in : (before mid after : List ℕ) {r : FileRead} → Reads (length before) r → length mid ≡ length before
-    → drop r.length after ≡ repeated (length mid - r.length) 0 → FileIn before after r
-file_in before mid after {r} reads e d =
-    let l : r.length ≤ length before = reads.within in
-    record { reads = reads; filled = read_filled before mid after r.length (omega arith) e d }
-
--- A file read into a buffer of one byte more than a block may have.
-module _ (buffer file : List ℕ) {f : FileRead} (i : FileIn buffer file f) (same : length file ≡ length buffer) where
-  pub file_fits : f.length ≤ length file
-  file_fits = let l : f.length ≤ length buffer = i.reads.within in omega arith
-
-  pub file_whole : length buffer ≡ max_bytes + 1 → f.ok ≡ true → f.ended ≡ false → max_bytes < length (take f.length file)
-  file_whole long ok more =
-      let all : f.length ≡ length buffer = i.reads.whole ok more in omega (arith, length-take-le f.length file file_fits)
+-- The first n bytes of a text take the place of as many; the others, if there are any, lie past the transcript's end.
+pub stored_part : (before text : List ℕ) (from n : ℕ) → n ≤ length text → from + n ≤ length before → (n < length text → length before ≤ from + n)
+    → put_mid from ((from + n) - from) before (take n text) ≡ stored before from text
+stored_part before text from n short room past =
+    let size : length (take n text) ≡ n = length-take-le n text short in
+    let left : length (drop n text) ≡ length text - n = length-drop n text in
+    let same : length (stored before from (take n text)) ≡ length before = stored_length (take n text) before from in
+    let behind : post_of from ((from + n) - from) before ≡ drop (from + length (take n text)) before =
+    Post-is from (from + n) before (omega arith) ∙ ap (λ (k : ℕ). drop (from + k) before) (sym size) in
+    ap (λ (l : List ℕ). take from before ++ (take n text ++ l)) behind
+    ∙ sym (append_assoc (take from before) (take n text) (drop (from + length (take n text)) before))
+    ∙ sym (stored_inside (take n text) before from (omega arith))
+    ∙ sym (rest_past (drop n text) (stored before from (take n text)) (from + length (take n text)) (λ h. omega (arith, past (omega arith))))
+    ∙ sym (stored_append (take n text) (drop n text) before from)
+    ∙ ap (stored before from) (take-append-drop n text)
 
 -- ---- a text at the front of a buffer
 
@@ -165,18 +61,6 @@ module _ (before text : List ℕ) (x y : Exchange) where
         whole = λ h. absurd (true≢false (sym h ∙ e));
         still = λ h. absurd (true≢false (sym h ∙ e));
         nothing = λ h. refl;
-      }
-
-  pub handed_all : (after : List ℕ) → x.ok ≡ true → after ≡ stored before x.sent text → y.sent ≡ x.sent + length text → Handed before x text after y
-  handed_all after e a s =
-      record {
-        handed = text;
-        rest = [];
-        parts = sym (append-nil text);
-        kept = record { same = a; end = s };
-        whole = λ h. refl;
-        still = λ h. e;
-        nothing = λ h. absurd (true≢false (sym e ∙ h));
       }
 
 -- The same text, said otherwise.

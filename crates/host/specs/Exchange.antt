@@ -1,10 +1,16 @@
 -- What the programs exchange with their host, as far as a contract can say it: what is handed to standard output, and how a file is read.
-use Rattle.std.specs.Prelude.{◌≡◌, Bool, true, false, List, [], ◌++◌, ℕ, ◌-◌, ◌^◌, ◌≤◌, ◌<◌, ltb, length, drop}
+use Rattle.std.specs.Prelude.{◌≡◌, ⊤, Bool, true, false, List, [], ◌++◌, ℕ, ◌-◌, ◌^◌, ◌≤◌, ◌<◌, ltb, length, drop, Option, Some, None, Result, Ok, Err}
 use Rattle.wire.specs.Bytes.{repeated}
 use Rattle.host.specs.declared.Exchange.{Exchange}
 use Rattle.host.specs.declared.FileRead.{FileRead}
+use Rattle.host.specs.declared.NoPart.{NoPart}
+use Rattle.host.specs.declared.NoPart.TheVariants.{Ended, TooLong}
 use Rattle.host.specs.declared.PartRead.{PartRead}
 use Rattle.text.specs.Written.{Written}
+
+-- Nothing came yet, and nothing was handed over.
+abbrev pub nothing_exchanged : Exchange
+nothing_exchanged = record { ok = true; received = 0; sent = 0 }
 
 -- A text is handed to standard output: whole, or, where a write failed, a first part of it. What is handed over stands in the transcript
 -- behind what was handed over before, as far as the transcript reaches. After a failure nothing more is handed over.
@@ -26,32 +32,35 @@ pub record Filled (before after : List ℕ) (n : ℕ) : Type 0 where
   pub within : n ≤ length before
   pub behind : drop n after ≡ repeated (length before - n) 0
 
--- What was not found has no byte.
-abbrev pub NoneIsEmpty : (found : Bool) → (n : ℕ) → Type 0
-NoneIsEmpty found n = found ≡ false → n ≡ 0
-
 -- At most n bytes read into a buffer; none into one of fewer.
 pub record Taken (before after : List ℕ) (n got : ℕ) : Type 0 where
   pub filled : Filled before after got
   pub most : got ≤ n
   pub short : length before < n → got ≡ 0
 
--- A part of a stream in a buffer, behind its length, which is told in four bytes: at most so many bytes. A buffer of fewer has none of it and is
--- refused: no part is found.
-pub record PartIn (before after : List ℕ) (r : PartRead) : Type 0 where
+-- A part of a stream in a buffer, behind its length, which is told in four bytes: at most so many bytes, and the buffer has as many.
+pub record PartFound (before after : List ℕ) (r : PartRead) : Type 0 where
   pub in_four : r.told < 2 ^ 32
   pub filled : Filled before after r.length
   pub most : r.length ≤ r.told
-  pub short : length before < r.told → r.found ≡ false
-  pub none : NoneIsEmpty r.found r.length
+  pub fits : r.told ≤ length before
 
--- How much of a file is read into a buffer of a size: all of it to its end, or as much as the buffer takes; nothing of one that cannot be read.
+-- A part is refused as too long where the buffer has fewer bytes than were told.
+abbrev pub Refuses : List ℕ → NoPart → Type 0
+Refuses before Ended = ⊤
+Refuses before (TooLong told) = (told < 2 ^ 32) × (length before < told)
+
+-- The next part of a stream in a buffer; where none is found the buffer has nothing of it.
+abbrev pub PartIn : List ℕ → List ℕ → Result PartRead NoPart → Type 0
+PartIn before after (Ok r) = PartFound before after r
+PartIn before after (Err why) = Refuses before why × Filled before after 0
+
+-- How much of a file is read into a buffer of a size: all of it to its end, or as much as the buffer takes.
 pub record Reads (size : ℕ) (r : FileRead) : Type 0 where
   pub within : r.length ≤ size
-  pub whole : r.ok ≡ true → r.ended ≡ false → r.length ≡ size
-  pub none : r.ok ≡ false → r.length ≡ 0
+  pub whole : r.ended ≡ false → r.length ≡ size
 
--- A file read into a buffer.
-pub record FileIn (before after : List ℕ) (r : FileRead) : Type 0 where
-  pub reads : Reads (length before) r
-  pub filled : Filled before after r.length
+-- A file read into a buffer; of one that cannot be read the buffer has nothing.
+abbrev pub FileIn : List ℕ → List ℕ → Option FileRead → Type 0
+FileIn before after (Some r) = Reads (length before) r × Filled before after r.length
+FileIn before after None = Filled before after 0

@@ -2,9 +2,9 @@
 // error. A read or a write that fails is told there in one line, and after it nothing more is written.
 #![tactic(auto)]
 
-ghost use Rattle.std.specs.Prelude.{◌≡◌, false, ◌+◌, ◌-◌, ◌^◌, ◌<◌, ◌≤◌, length, drop, IfOk};
+ghost use Rattle.std.specs.Prelude.{◌≡◌, false, ◌-◌, ◌^◌, ◌<◌, ◌≤◌, length, drop, IfOk, IfSome};
 ghost use Rattle.wire.specs.Bytes.{stored, repeated};
-ghost use Rattle.host.specs.Exchange.{Handed, has_arguments, NoneIsEmpty, Taken, PartIn, Reads, FileIn};
+ghost use Rattle.host.specs.Exchange.{Handed, nothing_exchanged, has_arguments, Taken, PartIn, Reads, FileIn};
 
 use block::limits::MAX_BYTES;
 use std::env::FillError;
@@ -17,6 +17,7 @@ mod told;
 
 // How the exchange stands: whether no read and no write failed, how many bytes came from standard input, and how many were handed to
 // standard output.
+// Stays: `ok`. `Registers` speaks of both counts after a failure too, so a Result would have the same struct on both sides.
 #[derive(Clone, Copy)]
 pub struct Exchange {
     pub ok: bool,
@@ -24,63 +25,60 @@ pub struct Exchange {
     pub sent: usize,
 }
 
-// How a file was read: whether it could be, how many bytes, and whether its end was met.
+impl Exchange {
+    // Nothing came yet, and nothing was handed over.
+    pub fn new() -> Exchange
+        ensures { result ≡ nothing_exchanged }
+    {
+        Exchange {
+            ok: true,
+            received: 0,
+            sent: 0,
+        }
+    }
+}
+
+// How much of a file was read: how many bytes, and whether its end was met.
 #[derive(Clone, Copy)]
 pub struct FileRead {
-    pub ok: bool,
     pub length: usize,
     pub ended: bool,
 }
 
-// A part of a stream: whether there was one, and its length.
+// A part that was read: the length that was told, and how many bytes of it came.
 #[derive(Clone, Copy)]
-pub struct Part {
-    pub found: bool,
+pub struct PartRead {
+    pub told: usize,
     pub length: usize,
 }
 
-// A part that was read: whether there was one that the buffer takes, the length that was told, and how many bytes of it came.
+// Why a part was not read: the stream has no further one, or it is longer than the buffer, with the length that was told.
 #[derive(Clone, Copy)]
-pub struct PartRead {
-    pub found: bool,
-    pub told: usize,
-    pub length: usize,
+pub enum NoPart {
+    Ended,
+    TooLong(usize),
 }
 
 // One byte more than a block may have is read, so that 1 is told.
 pub const FILE_BYTES: usize = MAX_BYTES + 1;
 
-// The largest number of bytes that can be counted.
-const MAX_SENT: usize = 18446744073709551615;
-
 // A text stored from a position of the transcript on, as far as it fits.
 fn keep(transcript: &mut [u8], from: usize, text: &[u8])
-    requires { from + length text.now < 2 ^ 64 }
     ensures { transcript.new ≡ stored transcript.old from text.now }
 {
-    let mut i = 0;
-    while i < text.len() {
-        let at = from + i;
-        if transcript.len() <= at {
-            return;
-        }
-        transcript[at] = text[i];
-        i += 1;
+    if transcript.len() <= from {
+        return;
     }
+    let n = text.len().min(transcript.len() - from);
+    transcript[from..from + n].copy_from_slice(&text[..n]);
 }
 
 // Tells on standard error, in one line, what failed and the system's words for it; after it nothing more is written.
 pub fn stop(rt: &impl Eprint, what: &str, why: io::Error, x: Exchange) -> Exchange
     ensures { result ≡ record { ok = false; received = x.received; sent = x.sent } }
 {
-    let received = x.received;
-    let sent = x.sent;
     fail(rt, what, why);
-    Exchange {
-        ok: false,
-        received,
-        sent,
-    }
+    Exchange { ok: false, ..x }
 }
 
 // Hands a text to standard output, whole, and keeps it in the transcript behind what was handed over before. A write that fails is told on
@@ -94,27 +92,17 @@ pub fn print(
     ensures text { Handed transcript.old x text.now transcript.new result }
     ensures received { result.received ≡ x.received }
 {
-    let received = x.received;
-    let sent = x.sent;
     if !x.ok {
         return x;
     }
-    if MAX_SENT - sent < text.len() {
-        return Exchange {
-            ok: false,
-            received,
-            sent,
-        };
-    }
+    let Some(sent) = x.sent.checked_add(text.len()) else {
+        return Exchange { ok: false, ..x };
+    };
     if let Err(why) = rt.write_all(text) {
         return stop(rt, "standard output", why, x);
     }
-    keep(transcript, sent, text);
-    Exchange {
-        ok: true,
-        received,
-        sent: sent + text.len(),
-    }
+    keep(transcript, x.sent, text);
+    Exchange { sent, ..x }
 }
 
 // Tells a text on standard error; after a failure nothing is told. Standard output is handed nothing.
@@ -160,84 +148,63 @@ fn clear_from(file: &mut [u8], from: usize)
     wire::clear(rest, 0);
 }
 
-// One read of the file into the buffer from a position on: how many bytes came, 0 at the file's end.
-fn read_from<F: Read>(input: &mut F, file: &mut [u8], from: usize) -> io::Result<usize>
-    requires { from ≤ length file.old }
-    ensures { IfOk result (λ count. from + count ≤ length file.old) }
-{
-    let rest = &mut file[from..];
-    input.read(rest)
-}
-
-// Tells on standard error that block.bin cannot be read.
-fn fail_file(rt: &impl Eprint, why: io::Error) -> FileRead
-    ensures { result ≡ record { ok = false; length = 0; ended = false } }
-{
-    fail(rt, "block.bin", why);
-    FileRead {
-        ok: false,
-        length: 0,
-        ended: false,
-    }
-}
-
 // Reads the file until the buffer is full or the file ends.
-fn read_all<F: Read>(rt: &impl Eprint, input: &mut F, file: &mut [u8]) -> FileRead
-    ensures { Reads (length file.old) result }
+// Stays: the count in the loop. A read brings as many bytes as it likes, and the library's `read_exact` does not tell how many came.
+fn read_all<F: Read>(input: &mut F, file: &mut [u8]) -> io::Result<FileRead>
+    ensures { IfOk result (Reads (length file.old)) }
 {
-    let mut done = 0;
-    while done < file.len() {
-        match read_from(input, file, done) {
-            Err(why) => return fail_file(rt, why),
-            Ok(0) => {
-                return FileRead {
-                    ok: true,
-                    length: done,
-                    ended: true,
-                };
-            }
-            Ok(count) => done += count,
+    let mut length = 0;
+    while length < file.len() {
+        let count = input.read(&mut file[length..])?;
+        if count == 0 {
+            return Ok(FileRead {
+                length,
+                ended: true,
+            });
         }
+        length += count;
     }
-    FileRead {
-        ok: true,
-        length: done,
+    Ok(FileRead {
+        length,
         ended: false,
-    }
+    })
 }
 
 // What an opened file holds; one that is missing is empty.
-fn read_opened<F: Read + Drop>(rt: &impl Eprint, opened: io::Result<F>, file: &mut [u8]) -> FileRead
-    ensures { Reads (length file.old) result }
+fn read_opened<F: Read + Drop>(opened: io::Result<F>, file: &mut [u8]) -> io::Result<FileRead>
+    ensures { IfOk result (Reads (length file.old)) }
 {
     match opened {
-        Ok(mut input) => read_all(rt, &mut input, file),
-        Err(why) => {
-            if why.kind() == ErrorKind::NotFound {
-                return FileRead {
-                    ok: true,
-                    length: 0,
-                    ended: true,
-                };
-            }
-            fail_file(rt, why)
-        }
+        Ok(mut input) => read_all(&mut input, file),
+        Err(why) if why.kind() == ErrorKind::NotFound => Ok(FileRead {
+            length: 0,
+            ended: true,
+        }),
+        Err(why) => Err(why),
     }
 }
 
 // The file block.bin of the current folder, as much as the buffer takes, with zeros behind it; a missing file is read as empty. A file that
-// cannot be read is told on standard error.
-pub fn read_block_file<R: Files + Eprint>(rt: &R, file: &mut [u8]) -> FileRead
+// cannot be read is told on standard error; there is none then, and zeros alone.
+pub fn read_block_file<R: Files + Eprint>(rt: &R, file: &mut [u8]) -> Option<FileRead>
     ensures { FileIn file.old file.new result }
 {
     let opened = fs::open(rt, "block.bin");
-    let r = read_opened(rt, opened, file);
-    let length = r.length;
-    clear_from(file, length);
-    r
+    match read_opened(opened, file) {
+        Ok(read) => {
+            clear_from(file, read.length);
+            Some(read)
+        }
+        Err(why) => {
+            fail(rt, "block.bin", why);
+            clear_from(file, 0);
+            None
+        }
+    }
 }
 
 // Reads standard input until the buffer is full, the input ends or a read fails. Answers how many bytes came.
+// Stays: the count in the loop, as in `read_all`; here the bytes before a failed read count.
 fn read_full(rt: &impl Input, buffer: &mut [u8]) -> usize
     ensures { result ≤ length buffer.new }
 {
@@ -266,16 +233,13 @@ pub fn read_bytes(rt: &impl Input, buffer: &mut [u8], n: usize) -> usize
     got
 }
 
-// A length has four bytes.
-const LENGTHS: u64 = 4294967296;
-
 // The next length of a stream on standard input, in four bytes, little-endian; none at the input's end.
-pub fn next_length(rt: &impl Input) -> Part
-    ensures length_bound { result.length < 2 ^ 32 }
-    ensures none_is_empty { NoneIsEmpty result.found result.length }
+pub fn next_length(rt: &impl Input) -> Option<usize>
+    ensures { IfSome result (λ n. n < 2 ^ 32) }
 {
     let mut head = [0u8; 4];
     if read_full(rt, &mut head) < 4 {
+<<<<<<< HEAD
         return Part {
             found: false,
             length: 0,
@@ -284,28 +248,26 @@ pub fn next_length(rt: &impl Input) -> Part
     Part {
         found: true,
         length: (wire::read_le::<4>(&head, 0) % LENGTHS) as usize,
+=======
+        return None;
+>>>>>>> ead1685ee29efc604ed7910480b06e21081f2e56
     }
+    Some(u32::from_le_bytes(head) as usize)
 }
 
 // The next part of a stream on standard input, behind its length, in the buffer's first bytes, with zeros behind them. Where the buffer has fewer
 // bytes than that length none is found.
-pub fn read_part(rt: &impl Input, buffer: &mut [u8]) -> PartRead
+pub fn read_part(rt: &impl Input, buffer: &mut [u8]) -> Result<PartRead, NoPart>
     ensures { PartIn buffer.old buffer.new result }
 {
-    let head = next_length(rt);
-    let told = head.length;
+    let Some(told) = next_length(rt) else {
+        clear_from(buffer, 0);
+        return Err(NoPart::Ended);
+    };
     if buffer.len() < told {
         clear_from(buffer, 0);
-        return PartRead {
-            found: false,
-            told,
-            length: 0,
-        };
+        return Err(NoPart::TooLong(told));
     }
     let length = read_bytes(rt, buffer, told);
-    PartRead {
-        found: head.found,
-        told,
-        length,
-    }
+    Ok(PartRead { told, length })
 }

@@ -12,10 +12,9 @@ use listing::MAX_LISTING;
 use machine::layout::{CELLS_SIZE, FRAMES_SIZE, KEYS_SIZE, PLAN_SIZE, SEATS_SIZE, STATUS_SIZE};
 use std::rt::Files;
 
-// block.bin, listed: whether it could be read and its end was met, and how the exchange stands.
+// block.bin, listed: whether its end was met, and how the exchange stands.
 #[derive(Clone, Copy)]
 pub struct Inspected {
-    pub file_ok: bool,
     pub file_ended: bool,
     pub exchange: Exchange,
 }
@@ -51,21 +50,14 @@ pub fn print_listing(
 }
 
 // Lists block.bin of the current folder. A missing file is read as empty; where a file cannot be read nothing is listed.
-pub fn inspect(rt: &(impl Files + Print + Eprint), transcript: &mut [u8]) -> Inspected
+pub fn inspect(rt: &(impl Files + Print + Eprint), transcript: &mut [u8]) -> Option<Inspected>
     ensures { Inspects transcript.old result transcript.new }
 {
     let mut file = [0u8; FILE_BYTES];
-    let f = read_block_file(rt, &mut file);
-    let length = f.length;
-    let x = Exchange {
-        ok: f.ok,
-        received: 0,
-        sent: 0,
-    };
-    let exchange = print_listing(rt, x, &file[..length], transcript);
-    Inspected {
-        file_ok: f.ok,
-        file_ended: f.ended,
+    let read = read_block_file(rt, &mut file)?;
+    let exchange = print_listing(rt, Exchange::new(), &file[..read.length], transcript);
+    Some(Inspected {
+        file_ended: read.ended,
         exchange,
-    }
+    })
 }

@@ -3,13 +3,14 @@ use Rattle.std.specs.Prelude.{Err, Ok, Result}
 use mathlib.Core.Path.{◌≡◌, refl, sym, ap, subst, ◌∙◌}
 use mathlib.Core.Bool.{Bool, true, false, true≢false, false≢true}
 use mathlib.Core.List.{List, [], ◌∷◌, ◌++◌, append-nil, flatten}
-use Prim.Native.Nat.{ℕ, zero, suc, ◌+◌, ◌*◌, ◌≤◌, ◌<◌}
+use Prim.Native.Nat.{ℕ, ◌+◌, ◌*◌, ◌≤◌, ◌<◌}
 use native.Mathlib.Nat.{add-zero, zero-add}
 use native.Mathlib.Omega.{arith}
 use lib.ListN.{length, take, length-append}
 use lib.Seq.{length-take-le, take_all}
+use Rattle.std.specs.Prelude.{Option, Some, None, is_some, unwrap_or}
 use Rattle.wire.specs.Bytes.{stored}
-use Rattle.block.specs.Limits.{max_bytes, max_workers}
+use Rattle.block.specs.Limits.{max_workers}
 use Rattle.block.specs.Refusal.{number_of, offset_of, is_accepted}
 use Rattle.block.specs.declared.Refusal.{Refusal}
 use Rattle.text.specs.Lines.{block_refused_text}
@@ -26,12 +27,11 @@ use Rattle.play.proofs.PiecesLaws.{end_said, register_in_pieces}
 use Rattle.play.proofs.TextLaws.{bytes_grow, end_grows}
 use Rattle.play.specs.declared.Session as play
 use Rattle.play.specs.Pieces.{pieces_text}
-use Rattle.host.specs.Exchange.{Handed, FileIn}
-use Rattle.host.proofs.Laws.{file_whole, front, handed_as, handed_empty, handed_more}
+use Rattle.host.specs.Exchange.{Handed}
+use Rattle.host.proofs.Laws.{front, handed_as, handed_empty, handed_more}
 use Rattle.host.specs.declared.Exchange.{Exchange}
-use Rattle.host.specs.declared.FileRead.{FileRead}
 use Rattle.printing.specs.Printing.{printed_lines, printed_close}
-use Rattle.register_run.specs.Runs.{chunk_size, printed_of, InputRead, PlaysBytes, PiecePlayed, InputPlayed, exchange_start, printed_end, printed_opened, RunsOn, Runs, Registers}
+use Rattle.register_run.specs.Runs.{chunk_size, printed_of, InputRead, PlaysBytes, PiecePlayed, InputPlayed, exchange_start, printed_end, printed_opened, RunsOn, Runs}
 use Rattle.printing.specs.declared.Output.{Output}
 use Rattle.printing.specs.declared.Output.TheVariants.{Text, Sheet}
 use Rattle.register_run.specs.declared.Piece.{Piece}
@@ -72,14 +72,6 @@ module _ {x y : Exchange} {n : ℕ} (r : InputRead x n y) where
         still = λ e. r.still (h.still e);
         nothing = λ e. h.nothing (gone y.ok refl e);
       }
-
--- No more comes than the part that is lent takes.
-pub read_within : (limit : ℕ) (chunk last : List ℕ) {n : ℕ} → n ≤ length last → length last ≡ length (take limit chunk) → limit ≤ length chunk → n ≤ limit
-read_within limit chunk last l e h = omega (arith, length-take-le limit chunk h)
-
-pub some_taken : (n : ℕ) → (n ≡ 0 → ⊥) → 0 < n
-some_taken zero f = absurd (f refl)
-some_taken (suc n) f = omega arith
 
 -- ---- pieces, one after another
 
@@ -241,14 +233,14 @@ module _ (block : List ℕ) (number : ℕ) (line : Line) (run : Run) (out : List
 module _ {output : Output} {block : List ℕ} {run left : Run} {x y : Exchange} {limit : ℕ} {before mid after : List ℕ} {i : Input} where
   pub runs_on : InputPlayed output block (fresh_session 1 Empty run) x limit before i left mid
       → Handed mid i.exchange (printed_end output block i.session.number i.session.line left) after y → y.received ≡ i.exchange.received → x.received ≡ 0
-      → RunsOn output block run x limit before (record { opened = true; ended = i.ended; exchange = y }) after
+      → RunsOn output block run x limit before (record { input_ended = Some i.ended; exchange = y }) after
   runs_on p h same none =
       let s : Session = play_bytes block (fresh_session 1 Empty run) p.bytes in
       record {
         opened = refl;
         input = p.bytes;
         within = p.within;
-        whole = λ ok more. p.whole (h.still ok) more;
+        whole = λ ok more. p.whole (h.still ok) (ap (λ (e : Option Bool). unwrap_or e true) more);
         received = same ∙ p.plays.received ∙ ap (λ (n : ℕ). n + length p.bytes) none ∙ zero-add (length p.bytes);
         text =
             handed_as
@@ -287,7 +279,7 @@ module _ {output : Output} {block : List ℕ} {x : Exchange} {limit : ℕ} {befo
         opened = p.opened ∙ sym (ap is_accepted accepted);
         input = p.input;
         within = p.within;
-        whole = λ ok o more. p.whole ok more;
+        whole = p.whole;
         received = p.received;
         text =
             handed_as
@@ -298,7 +290,7 @@ module _ {output : Output} {block : List ℕ} {x : Exchange} {limit : ℕ} {befo
 
   pub runs_refused : (why : Refusal) → v ≡ Err why → {y : Exchange}
       → Handed before (exchange_start x) (printed_lines output (block_refused_text (number_of why) (offset_of why))) after y
-      → y.received ≡ 0 → Runs output block x limit before (record { opened = false; ended = false; exchange = y }) after
+      → y.received ≡ 0 → Runs output block x limit before (record { input_ended = None; exchange = y }) after
   unfolding is_accepted
   runs_refused why e {y} h none =
       let refused : (opening_of fixed_sizes block max_workers).answer ≡ Err why = sym (ap (λ (o : Opened). o.answer) is) ∙ e in
@@ -306,24 +298,7 @@ module _ {output : Output} {block : List ℕ} {x : Exchange} {limit : ℕ} {befo
         opened = sym (ap is_accepted refused);
         input = [];
         within = omega arith;
-        whole = λ ok o more. absurd (false≢true o);
+        whole = λ ok more. absurd (false≢true (ap is_some more));
         received = none;
         text = handed_as (sym (refused_of output block [] why refused)) h;
-      }
-
--- The file that was read, run as REGISTER does.
-module _ {output : Output} (buffer file : List ℕ) {f : FileRead} {before after : List ℕ} {r : Ran} (i : FileIn buffer file f) (same : length file ≡ length buffer)
-    (long : length buffer ≡ max_bytes + 1) where
-  pub registers_of : Runs output (take f.length file) (record { ok = f.ok; received = 0; sent = 0 }) max_input before r after
-      → Registers output before (record { file_ok = f.ok; file_ended = f.ended; opened = r.opened; input_ended = r.ended; exchange = r.exchange }) after
-  registers_of p =
-      record {
-        file = take f.length file;
-        input = p.input;
-        file_whole = λ ok more. file_whole buffer file i same long (p.text.still ok) more;
-        opened = p.opened;
-        input_within = p.within;
-        input_whole = p.whole;
-        received = p.received;
-        text = p.text;
       }

@@ -2,7 +2,7 @@
 -- that there are bytes, as many as the reads gave, with which the session, the run and the text handed over are the definition's. What is
 -- handed over is known from the transcript: the contracts hold for every one that is lent, however long. They hold for both outputs: REGISTER's
 -- text, and the sheet's bytes alone.
-use Rattle.std.specs.Prelude.{◌≡◌, Bool, true, false, List, ◌++◌, ℕ, ◌+◌, ◌≤◌, ◌<◌, length}
+use Rattle.std.specs.Prelude.{◌≡◌, Bool, true, false, List, ◌++◌, ℕ, ◌+◌, ◌≤◌, ◌<◌, length, Option, Some, None, is_some}
 use Rattle.block.specs.Refusal.{is_accepted}
 use Rattle.block.specs.Limits.{max_bytes, max_workers}
 use Rattle.machine.specs.Run.{Run, fixed_sizes}
@@ -13,7 +13,7 @@ use Rattle.console.specs.declared.Line.{Line}
 use Rattle.console.specs.declared.Line.TheVariants.{Empty}
 use Rattle.play.specs.Shown.{fresh_session}
 use Rattle.play.specs.declared.Session as play
-use Rattle.host.specs.Exchange.{Handed}
+use Rattle.host.specs.Exchange.{Handed, nothing_exchanged}
 use Rattle.host.specs.declared.Exchange.{Exchange}
 use Rattle.printing.specs.Printing.{printed_lines, printed_close}
 use Rattle.printing.specs.declared.Output.{Output}
@@ -85,36 +85,40 @@ printed_opened output block run bytes =
 -- read to its end or its limit, unless something failed.
 pub record RunsOn (output : Output) (block : List ℕ) (run : Run) (x : Exchange) (limit : ℕ) (before : List ℕ) (r : Ran)
     (after : List ℕ) : Type 0 where
-  pub opened : r.opened ≡ true
+  pub opened : is_some r.input_ended ≡ true
   pub input : List ℕ
   pub within : length input ≤ limit
-  pub whole : r.exchange.ok ≡ true → r.ended ≡ false → length input ≡ limit
+  pub whole : r.exchange.ok ≡ true → r.input_ended ≡ Some false → length input ≡ limit
   pub received : r.exchange.received ≡ length input
   pub text : Handed before x (printed_opened output block run input) after r.exchange
 
 -- A block run with at most `limit` bytes of input: for some input, as many bytes as came, all that is printed is handed over. The input of
 -- an accepted block is read to its end or its limit, unless something failed; of a refused block none is read.
 pub record Runs (output : Output) (block : List ℕ) (x : Exchange) (limit : ℕ) (before : List ℕ) (r : Ran) (after : List ℕ) : Type 0 where
-  pub opened : r.opened ≡ opens_file block
+  pub opened : is_some r.input_ended ≡ opens_file block
   pub input : List ℕ
   pub within : length input ≤ limit
-  pub whole : r.exchange.ok ≡ true → r.opened ≡ true → r.ended ≡ false → length input ≡ limit
+  pub whole : r.exchange.ok ≡ true → r.input_ended ≡ Some false → length input ≡ limit
   pub received : r.exchange.received ≡ length input
   pub text : Handed before (exchange_start x) (printed_of output block input) after r.exchange
 
--- REGISTER as a whole, and the program that writes the sheet's bytes: for some bytes of the file and of the input, what is handed over, one text
--- after another, is all that the definition prints. The file is read to its end, or more of it than a block may have; the input to its end, or
--- as much of it as counts.
+-- A file, run: for some bytes of the file and of the input, what is handed over, one text after another, is all that the definition prints. The file is
+-- read to its end, or more of it than a block may have; the input of an accepted block to its end, or as much of it as counts, unless something failed.
+pub record RegistersFile (output : Output) (before : List ℕ) (r : Registered) (after : List ℕ) : Type 0 where
+  pub file : List ℕ
+  pub input : List ℕ
+  pub file_whole : r.file_ended ≡ false → max_bytes < length file
+  pub opened : is_some r.input_ended ≡ opens_file file
+  pub input_within : length input ≤ max_input
+  pub input_whole : r.exchange.ok ≡ true → r.input_ended ≡ Some false → length input ≡ max_input
+  pub received : r.exchange.received ≡ length input
+  pub text : Handed before nothing_exchanged (printed_of output file input) after r.exchange
+
+-- REGISTER as a whole, and the program that writes the sheet's bytes: the file that was read is run, and where it cannot be read nothing is handed over.
 -- It rests on this of C. `read` puts the bytes of the file, and those of standard input, one after another into the buffer that it is handed, as
 -- many as it answers; it answers 0 at their end alone, and below 0 where it fails. `write` writes the bytes that it is handed, as many as it
 -- answers. `open` fails with ENOENT where the file is missing alone. Then `file` and `input` are the bytes that were read, and standard output has what
 -- was handed over.
-pub record Registers (output : Output) (before : List ℕ) (r : Registered) (after : List ℕ) : Type 0 where
-  pub file : List ℕ
-  pub input : List ℕ
-  pub file_whole : r.exchange.ok ≡ true → r.file_ended ≡ false → max_bytes < length file
-  pub opened : r.opened ≡ opens_file file
-  pub input_within : length input ≤ max_input
-  pub input_whole : r.exchange.ok ≡ true → r.opened ≡ true → r.input_ended ≡ false → length input ≡ max_input
-  pub received : r.exchange.received ≡ length input
-  pub text : Handed before (record { ok = r.file_ok; received = 0; sent = 0 }) (printed_of output file input) after r.exchange
+abbrev pub Registers : Output → List ℕ → Option Registered → List ℕ → Type 0
+Registers output before (Some r) after = RegistersFile output before r after
+Registers output before None after = after ≡ before

@@ -31,7 +31,7 @@ const CHUNK: usize = 512;
 const ANSWERS: usize = MAX_ANSWER * CHUNK;
 
 // "Standard input counts as ended after 2^32 - 1 bytes."
-const MAX_INPUT: u32 = 4294967295;
+const MAX_INPUT: u32 = u32::MAX;
 
 // A read of standard input: how the exchange stands behind it, and how many bytes came, 0 at the input's end.
 #[derive(Clone, Copy)]
@@ -56,22 +56,18 @@ pub struct Input {
     pub ended: bool,
 }
 
-// A block, run: whether it was opened, whether the input's end was met, and how the exchange stands.
+// A block, run: whether the input's end was met, which no refused block reads, and how the exchange stands.
 #[derive(Clone, Copy)]
 pub struct Ran {
-    pub opened: bool,
-    pub ended: bool,
+    pub input_ended: Option<bool>,
     pub exchange: Exchange,
 }
 
-// REGISTER, done: whether block.bin could be read and its end was met, whether it was opened, whether the input's end was met, and how the
-// exchange stands.
+// REGISTER, done: whether the end of block.bin was met, whether that of the input was, which no refused block reads, and how the exchange stands.
 #[derive(Clone, Copy)]
 pub struct Registered {
-    pub file_ok: bool,
     pub file_ended: bool,
-    pub opened: bool,
-    pub input_ended: bool,
+    pub input_ended: Option<bool>,
     pub exchange: Exchange,
 }
 
@@ -85,8 +81,6 @@ fn read_some(rt: &(impl io::Input + Eprint), x: Exchange, chunk: &mut [u8], limi
 {
     let part = &mut chunk[..limit];
     let mut input = rt.reader();
-    let received = x.received;
-    let sent = x.sent;
     match input.read(part) {
         Err(why) => Got {
             exchange: host::stop(rt, "standard input", why, x),
@@ -94,9 +88,8 @@ fn read_some(rt: &(impl io::Input + Eprint), x: Exchange, chunk: &mut [u8], limi
         },
         Ok(n) => Got {
             exchange: Exchange {
-                ok: x.ok,
-                received: received + n as u64,
-                sent,
+                received: x.received + n as u64,
+                ..x
             },
             count: n as u16,
         },
@@ -135,30 +128,15 @@ fn play_some(
         transcript.new }
 {
     let got = read_some(rt, x, chunk, limit);
-    let taken = got.count;
     let p = play_chunk(
-        s, block, plan, keys, cells, status, seats, frames, chunk, taken, answers,
+        s, block, plan, keys, cells, status, seats, frames, chunk, got.count, answers,
     );
-    let n = p.length;
-    let before = got.exchange;
-    let exchange = say(rt, output, before, &answers[..n], transcript);
-    let session = p.session;
+    let exchange = say(rt, output, got.exchange, &answers[..p.length], transcript);
     Piece {
-        session,
+        session: p.session,
         exchange,
-        taken,
+        taken: got.count,
     }
-}
-
-// How many bytes the next piece may have.
-fn piece_limit(left: u32) -> usize
-    ensures upper_bound { result ≤ chunk_size }
-    ensures upper_bound_2 { result ≤ left }
-{
-    if left as usize <= CHUNK {
-        return left as usize;
-    }
-    CHUNK
 }
 
 // Plays the input to its end, `limit` bytes at most, or until something fails.
@@ -198,8 +176,9 @@ fn play_input(
     };
     let mut exchange = x;
     let mut left = limit;
-    while 0 < left {
-        let most = piece_limit(left);
+    // Stays: the count. A turn takes as many bytes of the limit as came, so their number is no number of turns.
+    while 0 < left && exchange.ok {
+        let most = CHUNK.min(left as usize);
         let piece = play_some(
             rt, output, s, block, plan, keys, cells, status, seats, frames, exchange, most, chunk,
             answers, transcript,
@@ -211,13 +190,6 @@ fn play_input(
                 session: s,
                 exchange,
                 ended: true,
-            };
-        }
-        if !exchange.ok {
-            return Input {
-                session: s,
-                exchange,
-                ended: false,
             };
         }
         left -= piece.taken as u32;
@@ -263,12 +235,19 @@ fn finish(
         frames,
         &mut answers,
     );
-    let n = p.length;
-    let after = say(rt, output, x, &answers[..n], transcript);
-    let session = p.session;
-    let head = session.head;
+    let after = say(rt, output, x, &answers[..p.length], transcript);
     close(
-        rt, output, head, plan, keys, cells, status, seats, frames, after, transcript,
+        rt,
+        output,
+        p.session.head,
+        plan,
+        keys,
+        cells,
+        status,
+        seats,
+        frames,
+        after,
+        transcript,
     )
 }
 
@@ -313,14 +292,12 @@ fn run_opened(
         &mut answers,
         transcript,
     );
-    let s = i.session;
-    let behind = i.exchange;
     let exchange = finish(
-        rt, output, s, block, plan, keys, cells, status, seats, frames, behind, transcript,
+        rt, output, i.session, block, plan, keys, cells, status, seats, frames, i.exchange,
+        transcript,
     );
     Ran {
-        opened: true,
-        ended: i.ended,
+        input_ended: Some(i.ended),
         exchange,
     }
 }
@@ -342,11 +319,7 @@ pub fn run(
     let mut status = [0u64; STATUS_SIZE];
     let mut seats = [0u64; SEATS_SIZE];
     let mut frames = [0i64; FRAMES_SIZE];
-    let start = Exchange {
-        ok: x.ok,
-        received: 0,
-        sent: x.sent,
-    };
+    let start = Exchange { received: 0, ..x };
     let o = opening::open(
         block,
         MAX_WORKERS,
@@ -357,21 +330,25 @@ pub fn run(
         &mut seats,
         &mut frames,
     );
+<<<<<<< HEAD
     let verdict = o.verdict;
     let head = o.head;
     match verdict {
         Err(why) => {
+=======
+    match o.verdict {
+        Err(why) => {
+>>>>>>> ead1685ee29efc604ed7910480b06e21081f2e56
             let exchange = refuse_block(rt, output, why, start, transcript);
             Ran {
-                opened: false,
-                ended: false,
+                input_ended: None,
                 exchange,
             }
         }
         Ok(()) => run_opened(
             rt,
             output,
-            head,
+            o.head,
             block,
             &plan,
             &keys,
@@ -392,30 +369,31 @@ fn run_file(
     rt: &(impl Files + io::Input + Print + Eprint),
     output: Output,
     transcript: &mut [u8],
-) -> Registered
+) -> Option<Registered>
     ensures { Registers output transcript.old result transcript.new }
 {
     let mut file = [0u8; FILE_BYTES];
-    let f = host::read_block_file(rt, &mut file);
-    let length = f.length;
-    let x = Exchange {
-        ok: f.ok,
-        received: 0,
-        sent: 0,
-    };
-    let r = run(rt, output, &file[..length], x, MAX_INPUT, transcript);
-    let exchange = r.exchange;
-    Registered {
-        file_ok: f.ok,
-        file_ended: f.ended,
-        opened: r.opened,
-        input_ended: r.ended,
-        exchange,
-    }
+    let read = host::read_block_file(rt, &mut file)?;
+    let r = run(
+        rt,
+        output,
+        &file[..read.length],
+        Exchange::new(),
+        MAX_INPUT,
+        transcript,
+    );
+    Some(Registered {
+        file_ended: read.ended,
+        input_ended: r.input_ended,
+        exchange: r.exchange,
+    })
 }
 
 // REGISTER: block.bin and standard input, and as text the answers of refused lines and the closing sheet.
-pub fn register(rt: &(impl Files + io::Input + Print + Eprint), transcript: &mut [u8]) -> Registered
+pub fn register(
+    rt: &(impl Files + io::Input + Print + Eprint),
+    transcript: &mut [u8],
+) -> Option<Registered>
     ensures { Registers Text transcript.old result transcript.new }
 {
     run_file(rt, Output::Text, transcript)
@@ -425,7 +403,7 @@ pub fn register(rt: &(impl Files + io::Input + Print + Eprint), transcript: &mut
 pub fn write_sheet(
     rt: &(impl Files + io::Input + Print + Eprint),
     transcript: &mut [u8],
-) -> Registered
+) -> Option<Registered>
     ensures { Registers Sheet transcript.old result transcript.new }
 {
     run_file(rt, Output::Sheet, transcript)

@@ -13,70 +13,59 @@ const MOVES_BYTES: usize = 131072;
 // More blocks than any input here has.
 const MAX_BLOCKS: usize = 1000;
 
-// Prints the next title; where there was none the exchange is not ok.
-fn print_title(rt: &(impl Input + Print + Eprint), x: Exchange, title: &mut [u8]) -> Exchange {
+// Prints the next title; none where there was none.
+fn print_title(rt: &(impl Input + Print + Eprint), title: &mut [u8]) -> Option<Exchange> {
     let mut transcript = [0u8; 0];
-    let part = host::read_part(rt, title);
-    let length = part.length;
-    let next = Exchange {
-        ok: x.ok & part.found,
-        received: 0,
-        sent: 0,
-    };
-    let marked = host::print(rt, next, b"# ", &mut transcript);
-    let titled = host::print(rt, marked, &title[..length], &mut transcript);
-    host::print(rt, titled, b"\n", &mut transcript)
+    let part = host::read_part(rt, title).ok()?;
+    let marked = host::print(rt, Exchange::new(), b"# ", &mut transcript);
+    let titled = host::print(rt, marked, &title[..part.length], &mut transcript);
+    Some(host::print(rt, titled, b"\n", &mut transcript))
 }
 
-// Passes over the moves of a block that was not opened.
-fn pass_moves(rt: &impl Input, opened: bool, moves: &mut [u8], length: usize) {
-    if opened {
-        return;
-    }
-    host::read_bytes(rt, moves, length);
-}
-
-// Lists and runs the next block, with its moves.
+// Lists and runs the next block, with its moves. Answers whether there was one and nothing failed.
 fn run_in(
     rt: &(impl Input + Print + Eprint),
     x: Exchange,
     file: &mut [u8],
     moves: &mut [u8],
-) -> Exchange {
+) -> bool {
     let mut transcript = [0u8; 0];
-    let part = host::read_part(rt, file);
-    let length = part.length;
-    let input = host::next_length(rt);
-    let listed = inspect_run::print_listing(rt, x, &file[..length], &mut transcript);
+    let Ok(part) = host::read_part(rt, file) else {
+        return false;
+    };
+    let Some(length) = host::next_length(rt) else {
+        return false;
+    };
+    let block = &file[..part.length];
+    let listed = inspect_run::print_listing(rt, x, block, &mut transcript);
     let ran = register_run::run(
         rt,
         Output::Text,
-        &file[..length],
+        block,
         listed,
-        input.length as u32,
+        length as u32,
         &mut transcript,
     );
-    pass_moves(rt, ran.opened, moves, input.length);
-    ran.exchange
+    if ran.input_ended.is_none() {
+        host::read_bytes(rt, moves, length);
+    }
+    ran.exchange.ok
 }
 
-fn run_next(rt: &(impl Input + Print + Eprint), x: Exchange) -> Exchange {
+fn run_next(rt: &(impl Input + Print + Eprint)) -> bool {
     let mut title = [0u8; TITLE_BYTES];
     let mut file = [0u8; FILE_BYTES];
     let mut moves = [0u8; MOVES_BYTES];
-    let titled = print_title(rt, x, &mut title);
-    run_in(rt, titled, &mut file, &mut moves)
+    match print_title(rt, &mut title) {
+        Some(titled) => run_in(rt, titled, &mut file, &mut moves),
+        None => false,
+    }
 }
 
 fn main(rt: HostRuntime) {
-    let mut x = Exchange {
-        ok: true,
-        received: 0,
-        sent: 0,
-    };
-    let mut left = MAX_BLOCKS;
-    while left > 0 && x.ok {
-        x = run_next(&rt, x);
-        left -= 1;
+    for _ in 0..MAX_BLOCKS {
+        if !run_next(&rt) {
+            return;
+        }
     }
 }

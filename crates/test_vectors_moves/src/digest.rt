@@ -3,8 +3,6 @@ use machine::Head;
 
 const BASIS: u64 = 14695981039346656037;
 
-const WORKERS: usize = 8;
-
 // The product with 2^40 + 435 modulo 2^64, as a sum of shifts: 435 is 256 + 128 + 32 + 16 + 2 + 1.
 fn times(x: u64) -> u64 {
     let low = x.wrapping_add(x << 1);
@@ -20,17 +18,12 @@ fn mix(hash: u64, word: u64) -> u64 {
 }
 
 fn words(start: u64, s: &[u64]) -> u64 {
-    let mut hash = start;
-    let mut i = 0;
-    while i < s.len() {
-        hash = mix(hash, s[i]);
-        i += 1;
-    }
-    hash
+    s.iter().fold(start, |hash, x| mix(hash, *x))
 }
 
 // The bytes of an output, each as a word.
 pub(crate) fn bytes(s: &[u8]) -> u64 {
+<<<<<<< HEAD
     let mut hash = BASIS;
     let mut i = 0;
     while i < s.len() {
@@ -39,29 +32,20 @@ pub(crate) fn bytes(s: &[u8]) -> u64 {
         i += 1;
     }
     hash
+=======
+    s.iter().fold(BASIS, |hash, x| mix(hash, u64::from(*x)))
+>>>>>>> ead1685ee29efc604ed7910480b06e21081f2e56
 }
 
 // Values by their 64 bits.
 fn values(start: u64, s: &[i64]) -> u64 {
-    let mut hash = start;
-    let mut i = 0;
-    while i < s.len() {
-        hash = mix(hash, arith::unsigned64(s[i]));
-        i += 1;
-    }
-    hash
+    s.iter()
+        .fold(start, |hash, x| mix(hash, arith::unsigned64(*x)))
 }
 
 // What the workers hold.
 fn helds(start: u64, held: [u16; 8]) -> u64 {
-    let mut hash = start;
-    let mut w = 0;
-    while w < WORKERS {
-        let h = held[w];
-        hash = mix(hash, h as u64);
-        w += 1;
-    }
-    hash
+    held.iter().fold(start, |hash, x| mix(hash, u64::from(*x)))
 }
 
 fn head_words(head: Head) -> u64 {
@@ -69,8 +53,7 @@ fn head_words(head: Head) -> u64 {
     let calls = mix(workers, head.calls as u64);
     let cells = mix(calls, head.cells as u64);
     let first = mix(cells, head.first_call as u64);
-    let held = head.held;
-    helds(first, held)
+    helds(first, head.held)
 }
 
 // The head's workers, calls, cells, first, and what each worker holds; then plan, keys, cells, status, seats and frames.

@@ -54,7 +54,7 @@ fn turn(
     )
 }
 
-// Every record of the input, of which there are at most as many as the counter says.
+// Every record of the input, of which there are at most as many as the loop counts.
 fn run(
     rt: &(impl Input + Print),
     block: &mut [u8],
@@ -66,8 +66,7 @@ fn run(
     frames: &mut [i64],
 ) {
     let mut lent = change::nothing_lent();
-    let mut left = u64::MAX;
-    while 0 < left {
+    for _ in 0..u64::MAX {
         let mut record = [0u8; RECORD_BYTES];
         let n = host::read_bytes(rt, &mut record, RECORD_BYTES);
         if n < RECORD_BYTES {
@@ -76,7 +75,6 @@ fn run(
         lent = turn(
             rt, lent, &record, block, plan, keys, cells, status, seats, frames,
         );
-        left -= 1;
     }
 }
 

@@ -6,33 +6,24 @@ use host::{Exchange, FILE_BYTES};
 // More blocks than any input here has.
 const MAX_BLOCKS: usize = 1000000;
 
-// Reads and lists the next block in this buffer; where there was none, or a write failed, the exchange is not ok.
-fn list_in(rt: &(impl Input + Print + Eprint), x: Exchange, file: &mut [u8]) -> Exchange {
+// Reads and lists the next block in this buffer. Answers whether there was one and nothing failed.
+fn list_in(rt: &(impl Input + Print + Eprint), file: &mut [u8]) -> bool {
     let mut transcript = [0u8; 0];
-    let part = host::read_part(rt, file);
-    let length = part.length;
-    let next = Exchange {
-        ok: x.ok & part.found,
-        received: 0,
-        sent: 0,
+    let Ok(part) = host::read_part(rt, file) else {
+        return false;
     };
-    inspect_run::print_listing(rt, next, &file[..length], &mut transcript)
+    inspect_run::print_listing(rt, Exchange::new(), &file[..part.length], &mut transcript).ok
 }
 
-fn list_next(rt: &(impl Input + Print + Eprint), x: Exchange) -> Exchange {
+fn list_next(rt: &(impl Input + Print + Eprint)) -> bool {
     let mut file = [0u8; FILE_BYTES];
-    list_in(rt, x, &mut file)
+    list_in(rt, &mut file)
 }
 
 fn main(rt: HostRuntime) {
-    let mut x = Exchange {
-        ok: true,
-        received: 0,
-        sent: 0,
-    };
-    let mut left = MAX_BLOCKS;
-    while left > 0 && x.ok {
-        x = list_next(&rt, x);
-        left -= 1;
+    for _ in 0..MAX_BLOCKS {
+        if !list_next(&rt) {
+            return;
+        }
     }
 }

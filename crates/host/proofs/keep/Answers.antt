@@ -1,31 +1,16 @@
--- `host::keep` meets its contract: each turn stores one byte more, up to the transcript's end or the text's.
+-- `host::keep` meets its contract: as many bytes are stored as fit, and past the transcript's end none.
+use mathlib.Core.Path.{sym, ap, ◌∙◌}
+use Prim.Native.Nat.{◌+◌, ◌-◌}
 use native.Mathlib.Omega.{arith}
-use Rattle.host.proofs.Laws.{keeping_start, keeping_on, keeping_past, keeping_end}
+use borrow.Rule.Slice.PartMut.{put_mid}
+use Rattle.wire.proofs.BytesLaws.{stored_past}
+use Rattle.host.proofs.Laws.{stored_part}
 use Rattle.host.proofs.keep.Goals as goal
 
-pub loop-i-init : goal.loop-i-init
-loop-i-init c = keeping_start _ _ _
-
-pub overflow_add-at : goal.overflow_add-at
-overflow_add-at c = omega arith
-
-pub returns-then-transcript-at : goal.returns-then-transcript-at
-returns-then-transcript-at c = keeping_past c.loop-i.invariant (omega arith)
-
-pub bounds-text-i : goal.bounds-text-i
-bounds-text-i c = omega arith
-
-pub bounds-transcript-at : goal.bounds-transcript-at
-bounds-transcript-at c = omega arith
-
-pub overflow_add-i : goal.overflow_add-i
-overflow_add-i c = omega arith
-
-pub loop-i-smaller : goal.loop-i-smaller
-loop-i-smaller c = omega arith
-
-pub loop-i-preserved : goal.loop-i-preserved
-loop-i-preserved c = keeping_on c.loop-i.invariant (omega arith)
+pub returns-then-transcript-from : goal.returns-then-transcript-from
+returns-then-transcript-from c = sym (stored_past _ _ _ (omega arith))
 
 pub returns : goal.returns
-returns c = keeping_end c.loop-i.invariant (omega arith)
+returns c =
+    ap (put_mid c.args.from ((c.args.from + c.min-n.result) - c.args.from) c.args.transcript.now) c.copy_from_slice.ensures.after
+    ∙ stored_part _ _ _ _ (omega (arith, c.min-n.ensures)) (omega (arith, c.min-n.ensures)) (λ h. omega (arith, c.min-n.ensures))

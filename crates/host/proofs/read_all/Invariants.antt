@@ -1,8 +1,8 @@
 use Rattle.std.proofs.Common.{◌≡◌, ◌-◌, ◌≤◌, length}
 use Rattle.host.proofs.read_all.Given as goal
 
-abbrev pub invariant-loop-done : goal.invariant-loop-done
-invariant-loop-done g l = (length l.file ≡ length l.initial.file) × (l.done ≤ length l.initial.file)
+abbrev pub invariant-loop-length : goal.invariant-loop-length
+invariant-loop-length g l = (length l.file ≡ length l.initial.file) × (l.length ≤ length l.initial.file)
 
-abbrev pub decreases-loop-done : goal.decreases-loop-done
-decreases-loop-done g l = length l.file - l.done
+abbrev pub decreases-loop-length : goal.decreases-loop-length
+decreases-loop-length g l = length l.file - l.length

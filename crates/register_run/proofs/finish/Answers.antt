@@ -1,5 +1,5 @@
 -- `register_run::finish` meets its contract: the answer of the last line is said, and the close behind it.
-use mathlib.Core.Path.{sym, ◌∙◌}
+use mathlib.Core.Path.{sym}
 use native.Mathlib.Omega.{arith}
 use lib.Seq.{length-take-le}
 use Rattle.moves.specs.Lent.{lent}
@@ -16,7 +16,7 @@ slice_bounds-say-end g c =
     let a = c.args in
     sym (length-take-le _ _ (omega (arith, end_fits a.block.now a.s.number a.s.line (lent a.s.head a.plan.now a.keys.now a.cells.now a.status.now a.seats.now a.frames.now) _ c.play_end-p.ensures)))
 
-pub returns : goal.returns
-returns g c =
+pub returns-clause-text : goal.returns-clause-text
+returns-clause-text g c =
     let a = c.args in
-    record { text = finish_handed a.block.now a.s.number a.s.line (lent a.s.head a.plan.now a.keys.now a.cells.now a.status.now a.seats.now a.frames.now) _ c.play_end-p.ensures a.output (omega (arith, end_fits a.block.now a.s.number a.s.line (lent a.s.head a.plan.now a.keys.now a.cells.now a.status.now a.seats.now a.frames.now) _ c.play_end-p.ensures)) c.say-after.ensures.text c.close.ensures.text; received = c.close.ensures.received ∙ c.say-after.ensures.received }
+    finish_handed a.block.now a.s.number a.s.line (lent a.s.head a.plan.now a.keys.now a.cells.now a.status.now a.seats.now a.frames.now) _ c.play_end-p.ensures a.output (omega (arith, end_fits a.block.now a.s.number a.s.line (lent a.s.head a.plan.now a.keys.now a.cells.now a.status.now a.seats.now a.frames.now) _ c.play_end-p.ensures)) c.say-after.ensures.text c.close.ensures.text

@@ -1,5 +1,3 @@
-use mathlib.Core.Path.{◌≡◌}
-use lib.ListN.{length}
 use Rattle.moves.specs.Lent.{lent}
 use Rattle.play.specs.Shown.{fresh_session}
 use Rattle.register_run.proofs.Laws.{InputPlaying}
@@ -7,9 +5,7 @@ use Rattle.register_run.proofs.play_input.Given as goal
 
 abbrev pub invariant-loop-left : goal.invariant-loop-left
 invariant-loop-left g l =
-    (length l.cells ≡ length l.initial.cells) × (length l.status ≡ length l.initial.status) × (length l.seats ≡ length l.initial.seats) × (length l.frames ≡ length l.initial.frames) × (length l.chunk ≡ length l.initial.chunk)
-    × (length l.answers ≡ length l.initial.answers) × (length l.transcript ≡ length l.initial.transcript)
-    × InputPlaying l.output l.block (fresh_session l.initial.s.number l.initial.s.line (lent l.initial.s.head l.plan l.keys l.initial.cells l.initial.status l.initial.seats l.initial.frames)) l.initial.exchange l.limit l.initial.transcript l.s (lent l.s.head l.plan l.keys l.cells l.status l.seats l.frames) l.exchange l.left l.transcript
+    InputPlaying l.output l.block (fresh_session l.initial.s.number l.initial.s.line (lent l.initial.s.head l.plan l.keys l.initial.cells l.initial.status l.initial.seats l.initial.frames)) l.initial.exchange l.limit l.initial.transcript l.s (lent l.s.head l.plan l.keys l.cells l.status l.seats l.frames) l.exchange l.left l.transcript
 
 abbrev pub decreases-loop-left : goal.decreases-loop-left
 decreases-loop-left g l =
