@@ -145,7 +145,7 @@ fn clear_from(file: &mut [u8], from: usize)
     ensures { drop from file.new ≡ repeated (length file.old - from) 0 }
 {
     let rest = &mut file[from..];
-    wire::clear(rest, 0);
+    wire::clear_bytes(rest);
 }
 
 // Reads the file until the buffer is full or the file ends.
@@ -239,18 +239,7 @@ pub fn next_length(rt: &impl Input) -> Option<usize>
 {
     let mut head = [0u8; 4];
     if read_full(rt, &mut head) < 4 {
-<<<<<<< HEAD
-        return Part {
-            found: false,
-            length: 0,
-        };
-    }
-    Part {
-        found: true,
-        length: (wire::read_le::<4>(&head, 0) % LENGTHS) as usize,
-=======
         return None;
->>>>>>> ead1685ee29efc604ed7910480b06e21081f2e56
     }
     Some(u32::from_le_bytes(head) as usize)
 }

@@ -13,6 +13,7 @@ ghost use Rattle.host.specs.Exchange.{Handed};
 ghost use Rattle.printing.specs.declared.Output.TheVariants.{Text, Sheet};
 ghost use Rattle.register_run.specs.Runs.{chunk_size, printed_end, InputRead, PiecePlayed, InputPlayed, RunsOn, Runs, Registers};
 
+use block::Verdict;
 use block::limits::MAX_WORKERS;
 use console::Line;
 use host::{Exchange, FILE_BYTES};
@@ -330,22 +331,15 @@ pub fn run(
         &mut seats,
         &mut frames,
     );
-<<<<<<< HEAD
-    let verdict = o.verdict;
-    let head = o.head;
-    match verdict {
-        Err(why) => {
-=======
     match o.verdict {
-        Err(why) => {
->>>>>>> ead1685ee29efc604ed7910480b06e21081f2e56
+        Verdict::Refused(why) => {
             let exchange = refuse_block(rt, output, why, start, transcript);
             Ran {
                 input_ended: None,
                 exchange,
             }
         }
-        Ok(()) => run_opened(
+        Verdict::Accepted => run_opened(
             rt,
             output,
             o.head,

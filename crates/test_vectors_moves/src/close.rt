@@ -4,15 +4,16 @@ use crate::change::part_1;
 use crate::digest::bytes;
 use machine::Head;
 use machine::numbers::answer_number;
+use sheet::Closing;
 
 // The number of a sheet's answer and its length, 0 if it is refused.
-fn answered(rt: &impl Print, answer: Result<usize, Answer>) {
+fn answered(rt: &impl Print, answer: Closing) {
     match answer {
-        Ok(n) => {
+        Closing::Written(n) => {
             text(rt, " 0");
             number(rt, n as u64);
         }
-        Err(why) => {
+        Closing::Refused(why) => {
             number(rt, answer_number(why));
             text(rt, " 0");
         }

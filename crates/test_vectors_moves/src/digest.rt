@@ -23,18 +23,7 @@ fn words(start: u64, s: &[u64]) -> u64 {
 
 // The bytes of an output, each as a word.
 pub(crate) fn bytes(s: &[u8]) -> u64 {
-<<<<<<< HEAD
-    let mut hash = BASIS;
-    let mut i = 0;
-    while i < s.len() {
-        let x = wire::get_or(s, i, 0);
-        hash = mix(hash, x as u64);
-        i += 1;
-    }
-    hash
-=======
     s.iter().fold(BASIS, |hash, x| mix(hash, u64::from(*x)))
->>>>>>> ead1685ee29efc604ed7910480b06e21081f2e56
 }
 
 // Values by their 64 bits.
