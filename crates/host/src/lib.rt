@@ -145,7 +145,7 @@ fn clear_from(file: &mut [u8], from: usize)
     ensures { drop from file.new ≡ repeated (length file.old - from) 0 }
 {
     let rest = &mut file[from..];
-    wire::clear_bytes(rest);
+    wire::clear(rest, 0);
 }
 
 // Reads the file until the buffer is full or the file ends.

@@ -7,13 +7,11 @@ use native.Mathlib.Nat.{add-zero, zero-add}
 use native.Mathlib.Omega.{arith}
 use lib.ListN.{length, take, length-append}
 use lib.Seq.{length-take-le, take_all}
-use Rattle.std.specs.Prelude.{Option, Some, None, is_some, unwrap_or}
+use Rattle.std.specs.Prelude.{Option, Some, None, is_some, unwrap_or, Err, Ok, Result}
 use Rattle.wire.specs.Bytes.{stored}
 use Rattle.block.specs.Limits.{max_workers}
 use Rattle.block.specs.Refusal.{number_of, offset_of, is_accepted}
 use Rattle.block.specs.declared.Refusal.{Refusal}
-use Rattle.block.specs.declared.Verdict.{Verdict}
-use Rattle.block.specs.declared.Verdict.TheVariants as verdict
 use Rattle.text.specs.Lines.{block_refused_text}
 use Rattle.machine.specs.Run.{Run, fixed_sizes}
 use Rattle.machine.specs.Opening.{Opened, opening_of}
@@ -250,7 +248,7 @@ module _ {output : Output} {block : List ℕ} {run left : Run} {x y : Exchange} 
       }
 
 -- What is printed of an accepted block, and of a refused one.
-opened_is : (output : Output) (block input : List ℕ) → length input ≤ max_input → (opening_of fixed_sizes block max_workers).answer ≡ verdict.Accepted
+opened_is : (output : Output) (block input : List ℕ) → length input ≤ max_input → (opening_of fixed_sizes block max_workers).answer ≡ (Ok tt)
     → printed_of output block input ≡ printed_opened output block (opening_of fixed_sizes block max_workers).run input
 unfolding printed_of printed_lines printed_close flatten pieces_text written_sheet sheet_opened play_input
 opened_is Text block input short accepted =
@@ -263,18 +261,18 @@ opened_is Sheet block input short accepted =
     ∙ ap (λ (xs : List ℕ). close_bytes (play_end block (play_bytes block (fresh_session 1 Empty run) xs)).run) (take_all max_input input short)
     ∙ ap (λ (e : Session). close_bytes e.run) (end_said block s.output s.number s.line s.run)
 
-refused_of : (output : Output) (block input : List ℕ) (why : Refusal) → (opening_of fixed_sizes block max_workers).answer ≡ verdict.Refused why
+refused_of : (output : Output) (block input : List ℕ) (why : Refusal) → (opening_of fixed_sizes block max_workers).answer ≡ Err why
     → printed_of output block input ≡ printed_lines output (block_refused_text (number_of why) (offset_of why))
 unfolding printed_of printed_lines register_of register_opened written_sheet sheet_opened
 refused_of Text block input why e = ap (register_opened block input (opening_of fixed_sizes block max_workers).run) e
 refused_of Sheet block input why e = ap (sheet_opened block input (opening_of fixed_sizes block max_workers).run) e
 
-module _ {output : Output} {block : List ℕ} {x : Exchange} {limit : ℕ} {before after : List ℕ} {v : Verdict} {opened : Run} (small : limit < 4294967296)
+module _ {output : Output} {block : List ℕ} {x : Exchange} {limit : ℕ} {before after : List ℕ} {v : Result (Unit {0}) Refusal} {opened : Run} (small : limit < 4294967296)
     (is : ◌≡◌ {A = Opened} (record { answer = v; run = opened }) (opening_of fixed_sizes block max_workers)) where
-  pub runs_accepted : {r : Ran} → v ≡ verdict.Accepted → RunsOn output block opened (exchange_start x) limit before r after → Runs output block x limit before r after
+  pub runs_accepted : {r : Ran} → v ≡ (Ok tt) → RunsOn output block opened (exchange_start x) limit before r after → Runs output block x limit before r after
   unfolding is_accepted
   runs_accepted {r} e p =
-      let accepted : (opening_of fixed_sizes block max_workers).answer ≡ verdict.Accepted = sym (ap (λ (o : Opened). o.answer) is) ∙ e in
+      let accepted : (opening_of fixed_sizes block max_workers).answer ≡ (Ok tt) = sym (ap (λ (o : Opened). o.answer) is) ∙ e in
       let run_is : opened ≡ (opening_of fixed_sizes block max_workers).run = ap (λ (o : Opened). o.run) is in
       record {
         opened = p.opened ∙ sym (ap is_accepted accepted);
@@ -289,12 +287,12 @@ module _ {output : Output} {block : List ℕ} {x : Exchange} {limit : ℕ} {befo
             p.text;
       }
 
-  pub runs_refused : (why : Refusal) → v ≡ verdict.Refused why → {y : Exchange}
+  pub runs_refused : (why : Refusal) → v ≡ Err why → {y : Exchange}
       → Handed before (exchange_start x) (printed_lines output (block_refused_text (number_of why) (offset_of why))) after y
       → y.received ≡ 0 → Runs output block x limit before (record { input_ended = None; exchange = y }) after
   unfolding is_accepted
   runs_refused why e {y} h none =
-      let refused : (opening_of fixed_sizes block max_workers).answer ≡ verdict.Refused why = sym (ap (λ (o : Opened). o.answer) is) ∙ e in
+      let refused : (opening_of fixed_sizes block max_workers).answer ≡ Err why = sym (ap (λ (o : Opened). o.answer) is) ∙ e in
       record {
         opened = sym (ap is_accepted refused);
         input = [];

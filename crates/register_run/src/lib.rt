@@ -13,7 +13,6 @@ ghost use Rattle.host.specs.Exchange.{Handed};
 ghost use Rattle.printing.specs.declared.Output.TheVariants.{Text, Sheet};
 ghost use Rattle.register_run.specs.Runs.{chunk_size, printed_end, InputRead, PiecePlayed, InputPlayed, RunsOn, Runs, Registers};
 
-use block::Verdict;
 use block::limits::MAX_WORKERS;
 use console::Line;
 use host::{Exchange, FILE_BYTES};
@@ -332,14 +331,14 @@ pub fn run(
         &mut frames,
     );
     match o.verdict {
-        Verdict::Refused(why) => {
+        Err(why) => {
             let exchange = refuse_block(rt, output, why, start, transcript);
             Ran {
                 input_ended: None,
                 exchange,
             }
         }
-        Verdict::Accepted => run_opened(
+        Ok(()) => run_opened(
             rt,
             output,
             o.head,

@@ -1,5 +1,4 @@
 // Lines of output.
-use block::Verdict;
 use decoder::numbers::{number_of, offset_of};
 
 pub(crate) fn text(rt: &impl Print, s: &str) {
@@ -12,10 +11,10 @@ pub(crate) fn number(rt: &impl Print, n: u64) {
 }
 
 // The number and the offset of an opening's answer, 0 and 0 if it is accepted.
-pub(crate) fn verdict(rt: &impl Print, answer: Verdict) {
+pub(crate) fn verdict(rt: &impl Print, answer: Result<(), Refusal>) {
     match answer {
-        Verdict::Accepted => text(rt, " 0 0"),
-        Verdict::Refused(why) => {
+        Ok(()) => text(rt, " 0 0"),
+        Err(why) => {
             number(rt, number_of(why));
             number(rt, offset_of(why));
         }

@@ -48,15 +48,15 @@ pub(crate) fn nothing_lent() -> Lent {
 
 // The parts of a record, from 1 to 3.
 pub(crate) fn part_1(record: &[u8]) -> u64 {
-    wire::get64(record, 8)
+    wire::read_le::<8>(record, 8)
 }
 
 pub(crate) fn part_2(record: &[u8]) -> u64 {
-    wire::get64(record, 16)
+    wire::read_le::<8>(record, 16)
 }
 
 pub(crate) fn part_3(record: &[u8]) -> u64 {
-    wire::get64(record, 24)
+    wire::read_le::<8>(record, 24)
 }
 
 pub(crate) fn with_head(mut lent: Lent, head: Head) -> Lent {
@@ -70,11 +70,11 @@ pub(crate) fn put_bytes(record: &[u8], block: &mut [u8]) {
     if block.len() <= at {
         return;
     }
-    wire::put64(block, at, part_2(record));
+    wire::write_le::<8>(block, at, part_2(record));
     if block.len() - at <= 8 {
         return;
     }
-    wire::put64(block, at + 8, part_3(record));
+    wire::write_le::<8>(block, at + 8, part_3(record));
 }
 
 // A word of a buffer, by the buffer's number: plan, keys, cells, status, seats, frames.
@@ -91,18 +91,18 @@ pub(crate) fn put_word(
     let i = part_2(record) as usize;
     let v = part_3(record);
     match buffer {
-        0 => wire::put_word(plan, i, v),
-        1 => wire::put_word(keys, i, v),
-        2 => wire::put_value(cells, i, arith::signed64(v)),
-        3 => wire::put_word(status, i, v),
-        4 => wire::put_word(seats, i, v),
-        _ => wire::put_value(frames, i, arith::signed64(v)),
+        0 => wire::put(plan, i, v),
+        1 => wire::put(keys, i, v),
+        2 => wire::put(cells, i, arith::signed64(v)),
+        3 => wire::put(status, i, v),
+        4 => wire::put(seats, i, v),
+        _ => wire::put(frames, i, arith::signed64(v)),
     }
 }
 
 // The lengths that are lent from now on: the block's, those of plan, keys and cells, or those of status, seats and frames.
 pub(crate) fn lend(mut lent: Lent, record: &[u8]) -> Lent {
-    let kind = wire::get64(record, 0);
+    let kind = wire::read_le::<8>(record, 0);
     let first = part_1(record) as usize;
     let second = part_2(record) as usize;
     if kind == BLOCK {

@@ -4,16 +4,15 @@ use crate::change::part_1;
 use crate::digest::bytes;
 use machine::Head;
 use machine::numbers::answer_number;
-use sheet::Closing;
 
 // The number of a sheet's answer and its length, 0 if it is refused.
-fn answered(rt: &impl Print, answer: Closing) {
+fn answered(rt: &impl Print, answer: Result<usize, Answer>) {
     match answer {
-        Closing::Written(n) => {
+        Ok(n) => {
             text(rt, " 0");
             number(rt, n as u64);
         }
-        Closing::Refused(why) => {
+        Err(why) => {
             number(rt, answer_number(why));
             text(rt, " 0");
         }

@@ -34,7 +34,7 @@ fn turn(
     seats: &mut [u64],
     frames: &mut [i64],
 ) -> Lent {
-    let kind = wire::get64(record, 0);
+    let kind = wire::read_le::<8>(record, 0);
     if kind == BYTES {
         change::put_bytes(record, block);
         return lent;

@@ -31,7 +31,7 @@ fn make(
     seats: &mut [u64],
     frames: &mut [i64],
 ) -> Reply {
-    let kind = wire::get64(record, 0);
+    let kind = wire::read_le::<8>(record, 0);
     let worker = part_1(record) as usize;
     if kind == BEGIN {
         let call = part_2(record) as usize;
@@ -137,14 +137,14 @@ fn act(
     seats: &mut [u64],
     frames: &mut [i64],
 ) -> Head {
-    if wire::get64(record, 0) == OPEN {
+    if wire::read_le::<8>(record, 0) == OPEN {
         return open(rt, record, block, plan, keys, cells, status, seats, frames);
     }
-    if wire::get64(record, 0) == SHEET {
+    if wire::read_le::<8>(record, 0) == SHEET {
         close(rt, head, record, plan, keys, cells, status, seats, frames);
         return head;
     }
-    if wire::get64(record, 0) == SERIAL {
+    if wire::read_le::<8>(record, 0) == SERIAL {
         return run_serially(rt, head, block, plan, keys, cells, status, seats, frames);
     }
     move_on(
