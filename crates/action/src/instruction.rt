@@ -208,11 +208,11 @@ fn jump(place: u32, regs: [i64; REGISTERS], to: u16, test: bool) -> Action
 pub(crate) fn jeq(place: u32, regs: [i64; REGISTERS], x: usize, y: usize, to: u16) -> Action
     ensures { result ≡ jump place regs to (eq_z (get_or regs x (pos 0)) (get_or regs y (pos 0))) }
 {
-    jump(place, regs, to, arith::same(register(regs, x), register(regs, y)))
+    jump(place, regs, to, register(regs, x) == register(regs, y))
 }
 
 pub(crate) fn jlt(place: u32, regs: [i64; REGISTERS], x: usize, y: usize, to: u16) -> Action
     ensures { result ≡ jump place regs to (lt_z (get_or regs x (pos 0)) (get_or regs y (pos 0))) }
 {
-    jump(place, regs, to, arith::less(register(regs, x), register(regs, y)))
+    jump(place, regs, to, register(regs, x) < register(regs, y))
 }
