@@ -11,13 +11,12 @@ ghost use Rattle.exports.specs.Words.{words};
 ghost use Rattle.exports.specs.Exports.{size_of, open_words, move_words, serial_move, sheet_words};
 
 use closing::sheet;
-use export_words::answers::{
-    closing_number, length_after, size_of, verdict_number, verdict_offset,
-};
+use decoder::numbers::{number_of, offset_of};
+use export_words::answers::size_of;
 use export_words::words::{HEAD_WORDS, head_in, store_held, store_opened};
 use in_place::lender::{begin_lending, cancel_lending, step_lending};
 use machine::Answer;
-use machine::numbers::answer_number;
+use machine::numbers::refused_number;
 use run::{open_for, serial_move};
 
 // The fixed size, by number, of the head (0), the plan, the keys, the cells, the status, the seats and the frames (6), of the longest sheet (7)
@@ -50,7 +49,7 @@ pub fn zumbiqa_open(
         (sizes_for (length plan.old) (length keys.old) (length cells.old) (length status.old)
         (length seats.old) (length frames.old)) block.now workers }
 {
-    let opened = open_for(
+    match open_for(
         head.len(),
         block,
         workers,
@@ -60,12 +59,18 @@ pub fn zumbiqa_open(
         status,
         seats,
         frames,
-    );
-    let verdict = opened.verdict;
-    let start = opened.head;
-    store_opened(head, start);
-    *offset = verdict_offset(verdict);
-    verdict_number(verdict)
+    ) {
+        Ok(start) => {
+            store_opened(head, start);
+            *offset = 0;
+            0
+        }
+        Err(why) => {
+            wire::clear(head, 0);
+            *offset = offset_of(why);
+            number_of(why)
+        }
+    }
 }
 
 // BEGIN(worker, call): 0, or the number of its refusal.
@@ -89,9 +94,9 @@ pub fn zumbiqa_begin(
         frames.old) worker }
 {
     if head.len() < HEAD_WORDS {
-        return answer_number(Answer::Damaged);
+        return refused_number(Answer::Damaged);
     }
-    let reply = begin_lending(
+    match begin_lending(
         head_in(head),
         plan,
         keys,
@@ -101,11 +106,13 @@ pub fn zumbiqa_begin(
         frames,
         worker,
         call,
-    );
-    let after = reply.head;
-    let answer = reply.answer;
-    store_held(head, after, worker);
-    answer_number(answer)
+    ) {
+        Ok(after) => {
+            store_held(head, after, worker);
+            0
+        }
+        Err(why) => refused_number(why),
+    }
 }
 
 // STEP(worker): 0, or the number of its refusal.
@@ -129,9 +136,9 @@ pub fn zumbiqa_step(
         frames.old) worker }
 {
     if head.len() < HEAD_WORDS {
-        return answer_number(Answer::Damaged);
+        return refused_number(Answer::Damaged);
     }
-    let reply = step_lending(
+    match step_lending(
         head_in(head),
         block,
         plan,
@@ -141,11 +148,13 @@ pub fn zumbiqa_step(
         seats,
         frames,
         worker,
-    );
-    let after = reply.head;
-    let answer = reply.answer;
-    store_held(head, after, worker);
-    answer_number(answer)
+    ) {
+        Ok(after) => {
+            store_held(head, after, worker);
+            0
+        }
+        Err(why) => refused_number(why),
+    }
 }
 
 // CANCEL(worker): 0, or the number of its refusal.
@@ -168,9 +177,9 @@ pub fn zumbiqa_cancel(
         frames.now) worker }
 {
     if head.len() < HEAD_WORDS {
-        return answer_number(Answer::Damaged);
+        return refused_number(Answer::Damaged);
     }
-    let reply = cancel_lending(
+    match cancel_lending(
         head_in(head),
         plan,
         keys,
@@ -179,11 +188,13 @@ pub fn zumbiqa_cancel(
         seats,
         frames,
         worker,
-    );
-    let after = reply.head;
-    let answer = reply.answer;
-    store_held(head, after, worker);
-    answer_number(answer)
+    ) {
+        Ok(after) => {
+            store_held(head, after, worker);
+            0
+        }
+        Err(why) => refused_number(why),
+    }
 }
 
 // The serial run, calls 0, 1, .. each begun on worker 0 and stepped to its end: 0, or 20 for a slice that is too short.
@@ -206,9 +217,9 @@ pub fn zumbiqa_serial_run(
         frames.old) 0 }
 {
     if head.len() < HEAD_WORDS {
-        return answer_number(Answer::Damaged);
+        return refused_number(Answer::Damaged);
     }
-    let reply = serial_move(
+    match serial_move(
         head_in(head),
         block,
         plan,
@@ -217,11 +228,13 @@ pub fn zumbiqa_serial_run(
         status,
         seats,
         frames,
-    );
-    let after = reply.head;
-    let answer = reply.answer;
-    store_held(head, after, 0);
-    answer_number(answer)
+    ) {
+        Ok(after) => {
+            store_held(head, after, 0);
+            0
+        }
+        Err(why) => refused_number(why),
+    }
 }
 
 // The closing sheet: 0, or the number of its refusal. The length becomes that of the written sheet, the offset behind its last record; a refusal
@@ -243,9 +256,9 @@ pub fn zumbiqa_sheet(
         frames.now) output.old sheet_length.old }
 {
     if head.len() < HEAD_WORDS {
-        return answer_number(Answer::Damaged);
+        return refused_number(Answer::Damaged);
     }
-    let closing = sheet(
+    match sheet(
         head_in(head),
         plan,
         keys,
@@ -254,7 +267,11 @@ pub fn zumbiqa_sheet(
         seats,
         frames,
         output,
-    );
-    *sheet_length = length_after(closing, *sheet_length);
-    closing_number(closing)
+    ) {
+        Ok(length) => {
+            *sheet_length = length as u64;
+            0
+        }
+        Err(why) => refused_number(why),
+    }
 }

@@ -1,6 +1,6 @@
 // An opening that tests the length of the head too, and the serial run as a move.
 ghost use Rattle.std.specs.Prelude.{◌≡◌, length};
-ghost use Rattle.moves.specs.Lent.{lent, moved};
+ghost use Rattle.moves.specs.Lent.{lent, moved_by};
 ghost use Rattle.opening.specs.Opened.{sizes_for, OpenedAs};
 ghost use Rattle.exports.specs.Exports.{opening_for, serial_move};
 
@@ -8,8 +8,7 @@ use block::Refusal;
 use export_words::words::HEAD_WORDS;
 use machine::layout::large_enough;
 use machine::{Answer, Head};
-use moves::Reply;
-use opening::{Opened, clear_prepared, clear_states, open, refused};
+use opening::{clear_prepared, clear_states, open};
 use serial::serial_run;
 
 // The opening of a block, 20 if the head has too few words. The head and the buffers are zero if it is refused.
@@ -23,7 +22,7 @@ pub fn open_for(
     status: &mut [u64],
     seats: &mut [u64],
     frames: &mut [i64],
-) -> Opened
+) -> Result<Head, Refusal>
     ensures { OpenedAs result plan.new keys.new cells.new status.new seats.new
         frames.new
         (opening_for head_words
@@ -33,7 +32,7 @@ pub fn open_for(
     if head_words < HEAD_WORDS {
         clear_prepared(plan, keys, cells);
         clear_states(status, seats, frames);
-        return refused(Refusal::Buffers);
+        return Err(Refusal::Buffers);
     }
     open(file, workers, plan, keys, cells, status, seats, frames)
 }
@@ -48,9 +47,9 @@ pub fn serial_move(
     status: &mut [u64],
     seats: &mut [u64],
     frames: &mut [i64],
-) -> Reply
-    ensures { moved result.answer
-        (lent result.head plan.now keys.now cells.new status.new seats.new frames.new)
+) -> Result<Head, Answer>
+    ensures { moved_by head result
+        (λ h. lent h plan.now keys.now cells.new status.new seats.new frames.new)
         ≡ serial_move block.now
         (lent head plan.now keys.now cells.old status.old seats.old
         frames.old) }
@@ -64,14 +63,7 @@ pub fn serial_move(
         frames.len(),
     );
     if !large {
-        return Reply {
-            head,
-            answer: Answer::Damaged,
-        };
+        return Err(Answer::Damaged);
     }
-    let after = serial_run(head, block, plan, keys, cells, status, seats, frames);
-    Reply {
-        head: after,
-        answer: Ok(()),
-    }
+    Ok(serial_run(head, block, plan, keys, cells, status, seats, frames))
 }

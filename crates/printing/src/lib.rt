@@ -5,7 +5,7 @@
 ghost use Rattle.std.specs.Prelude.{◌≡◌, ◌≤◌, ◌<◌, length};
 ghost use Rattle.block.specs.Refusal.{number_of, offset_of};
 ghost use Rattle.text.specs.Lines.{refused_text, block_refused_text};
-ghost use Rattle.machine.specs.Answer.{answer_number};
+ghost use Rattle.machine.specs.Answer.{refused_number};
 ghost use Rattle.moves.specs.Lent.{lent};
 ghost use Rattle.console.specs.Text.{sheet_text};
 ghost use Rattle.play.specs.Printed.{max_close_text};
@@ -17,7 +17,7 @@ use block::Refusal;
 use closing::sheet;
 use decoder::numbers::{number_of, offset_of};
 use host::Exchange;
-use machine::numbers::answer_number;
+use machine::numbers::refused_number;
 use machine::{Answer, Head};
 use play::input::MAX_ANSWER;
 use play::records::{MAX_CLOSE_TEXT, sheet_text};
@@ -87,15 +87,15 @@ fn print_sheet(
 fn refuse_sheet(
     rt: &(impl Print + Eprint),
     output: Output,
-    answer: Answer,
+    why: Answer,
     x: Exchange,
     transcript: &mut [u8],
 ) -> Exchange
-    ensures text { Handed transcript.old x (printed_lines output (refused_text 0 (answer_number answer))) transcript.new result }
+    ensures text { Handed transcript.old x (printed_lines output (refused_text 0 (refused_number why))) transcript.new result }
     ensures received { result.received ≡ x.received }
 {
     let mut text = [0u8; MAX_ANSWER];
-    let n = text::refused_line(&mut text, 0, 0, answer_number(answer));
+    let n = text::refused_line(&mut text, 0, 0, refused_number(why));
     say(rt, output, x, &text[..n], transcript)
 }
 
@@ -123,7 +123,7 @@ pub fn close(
     let mut bytes = [0u8; MAX_SHEET];
     match sheet(head, plan, keys, cells, status, seats, frames, &mut bytes) {
         Ok(n) => print_sheet(rt, output, x, &bytes[..n], transcript),
-        Err(answer) => refuse_sheet(rt, output, answer, x, transcript),
+        Err(why) => refuse_sheet(rt, output, why, x, transcript),
     }
 }
 

@@ -320,7 +320,7 @@ pub fn run(
     let mut seats = [0u64; SEATS_SIZE];
     let mut frames = [0i64; FRAMES_SIZE];
     let start = Exchange { received: 0, ..x };
-    let o = opening::open(
+    match opening::open(
         block,
         MAX_WORKERS,
         &mut plan,
@@ -329,8 +329,7 @@ pub fn run(
         &mut status,
         &mut seats,
         &mut frames,
-    );
-    match o.verdict {
+    ) {
         Err(why) => {
             let exchange = refuse_block(rt, output, why, start, transcript);
             Ran {
@@ -338,10 +337,10 @@ pub fn run(
                 exchange,
             }
         }
-        Ok(()) => run_opened(
+        Ok(head) => run_opened(
             rt,
             output,
-            o.head,
+            head,
             block,
             &plan,
             &keys,

@@ -2,7 +2,8 @@
 // for each: `p`, the lengths, the verdict, the numbers of calls and of cells, the first call's offset, and the first words and value.
 #![tactic(auto)]
 
-use analysis::prepare;
+use analysis::{Prepared, prepare};
+use block::Refusal;
 use decoder::numbers::{number_of, offset_of};
 
 fn text(rt: &impl Print, s: &str) {
@@ -14,15 +15,19 @@ fn number(rt: &impl Print, n: u64) {
     let _ = rt.print(n);
 }
 
-fn verdict(rt: &impl Print, answer: Result<(), Refusal>) {
+fn verdict(rt: &impl Print, answer: Result<Prepared, Refusal>) {
     match answer {
-        Ok(()) => {
+        Ok(p) => {
             number(rt, 0);
             number(rt, 0);
+            number(rt, p.calls as u64);
+            number(rt, p.cells as u64);
+            number(rt, p.first_call as u64);
         }
         Err(why) => {
             number(rt, number_of(why));
             number(rt, offset_of(why));
+            text(rt, " 0 0 0");
         }
     }
 }
@@ -40,11 +45,7 @@ fn prepared(rt: &impl Print, plan: &mut [u64], keys: &mut [u64], values: &mut [i
     number(rt, plan.len() as u64);
     number(rt, keys.len() as u64);
     number(rt, values.len() as u64);
-    let answer = r.verdict;
-    verdict(rt, answer);
-    number(rt, r.calls as u64);
-    number(rt, r.cells as u64);
-    number(rt, r.first_call as u64);
+    verdict(rt, r);
     number(rt, wire::get_or(plan, 0, 0));
     number(rt, wire::get_or(keys, 0, 0));
     number(rt, arith::unsigned64(wire::get_or(values, 0, 0)));

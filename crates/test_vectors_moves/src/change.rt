@@ -26,16 +26,18 @@ pub struct Lent {
     pub frames: usize,
 }
 
+// The head of no run.
+pub(crate) const NO_HEAD: Head = Head {
+    workers: 0,
+    calls: 0,
+    cells: 0,
+    first_call: 0,
+    held: [0; WORKERS],
+};
+
 pub(crate) fn nothing_lent() -> Lent {
-    let head = Head {
-        workers: 0,
-        calls: 0,
-        cells: 0,
-        first_call: 0,
-        held: [0; 8],
-    };
     Lent {
-        head,
+        head: NO_HEAD,
         block: 0,
         plan: 0,
         keys: 0,

@@ -2,8 +2,8 @@
 use crate::answer::{number, text};
 use crate::change::part_1;
 use crate::digest::bytes;
-use machine::Head;
-use machine::numbers::answer_number;
+use machine::numbers::refused_number;
+use machine::{Answer, Head};
 
 // The number of a sheet's answer and its length, 0 if it is refused.
 fn answered(rt: &impl Print, answer: Result<usize, Answer>) {
@@ -13,7 +13,7 @@ fn answered(rt: &impl Print, answer: Result<usize, Answer>) {
             number(rt, n as u64);
         }
         Err(why) => {
-            number(rt, answer_number(why));
+            number(rt, refused_number(why));
             text(rt, " 0");
         }
     }

@@ -1,12 +1,11 @@
 // Openings, moves, serial runs and sheets on the lent parts of the buffers.
 use crate::answer::{number, text, verdict};
-use crate::change::{Lent, part_1, part_2, with_head};
+use crate::change::{Lent, NO_HEAD, part_1, part_2, with_head};
 use crate::close::close;
 use crate::digest::digest;
 use in_place::lender::{begin_lending, cancel_lending, step_lending};
-use machine::Head;
-use machine::numbers::answer_number;
-use moves::Reply;
+use machine::{Answer, Head};
+use machine::numbers::refused_number;
 
 // Kinds of records; the fourth is CANCEL.
 const OPEN: u64 = 4;
@@ -30,7 +29,7 @@ fn make(
     status: &mut [u64],
     seats: &mut [u64],
     frames: &mut [i64],
-) -> Reply {
+) -> Result<Head, Answer> {
     let kind = wire::read_le::<8>(record, 0);
     let worker = part_1(record) as usize;
     if kind == BEGIN {
@@ -74,10 +73,9 @@ fn open(
 ) -> Head {
     let workers = part_1(record) as usize;
     let opened = opening::open(block, workers, plan, keys, cells, status, seats, frames);
-    let found = opened.verdict;
-    let head = opened.head;
     text(rt, "o");
-    verdict(rt, found);
+    verdict(rt, opened);
+    let head = opened.unwrap_or(NO_HEAD);
     hashed(rt, head, plan, keys, cells, status, seats, frames);
     head
 }
@@ -95,13 +93,15 @@ fn move_on(
     seats: &mut [u64],
     frames: &mut [i64],
 ) -> Head {
-    let reply = make(
+    let made = make(
         head, record, block, plan, keys, cells, status, seats, frames,
     );
-    let answer = reply.answer;
-    let next = reply.head;
     text(rt, "m");
-    number(rt, answer_number(answer));
+    match made {
+        Ok(_) => number(rt, 0),
+        Err(why) => number(rt, refused_number(why)),
+    }
+    let next = made.unwrap_or(head);
     hashed(rt, next, plan, keys, cells, status, seats, frames);
     next
 }
