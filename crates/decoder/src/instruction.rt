@@ -70,11 +70,7 @@ fn source_of(n: u8, w: u32) -> Source
 fn allowed(rule: bool, i: Instr) -> Option<Instr>
     ensures { result ≡ allowed rule i }
 {
-    if rule {
-        Some(i)
-    } else {
-        None
-    }
+    if rule { Some(i) } else { None }
 }
 
 // The rules of parts, one for each kind of instruction, which is handed over with them.
