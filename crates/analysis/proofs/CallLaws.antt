@@ -1,5 +1,5 @@
 -- The mathematics of the proofs on the calls' keys, over plain variables: the keys of one set, and the table call by call.
-use mathlib.Core.Path.{◌≡◌, refl, sym, ap, ap₂, ◌∙◌}
+use mathlib.Core.Path.{◌≡◌, refl, sym, ap, ap₂, ◌∙◌, subst⁻¹}
 use mathlib.Core.Bool.{false}
 use mathlib.Core.List.{List, [], ◌∷◌, ◌++◌}
 use Prim.Native.Nat.{ℕ, ◌+◌, ◌*◌, ◌≤◌, ◌<◌}
@@ -9,7 +9,7 @@ use borrow.Author.Tests.{le-ltb, lt-ltb}
 use lib.Dec.{ltb}
 use lib.ListN.{length, get_or, take, drop, length-map, drop_of_length-le}
 use lib.Seq.{take-suc, drop-cons}
-use Rattle.std.specs.Prelude.{Option, Ok}
+use Rattle.std.specs.Prelude.{Option, Ok, Err, Result, IsErrAnd, ok_or}
 use Rattle.std.specs.declared.option.Option.TheVariants.{None, Some}
 use Rattle.wire.specs.Bytes.{padded}
 use Rattle.block.specs.Limits.{max_bytes, max_call_keys, max_keys}
@@ -22,7 +22,7 @@ use Rattle.footprint.specs.Plan.{table_words}
 use Rattle.footprint.specs.Sets.{sets_of}
 use Rattle.footprint.specs.Table.{analysed, refused, analyse, insert_key, insert_keys}
 use Rattle.reader.specs.declared.Layout.{Layout}
-use Rattle.analysis.specs.Collected.{leaving, collected_of}
+use Rattle.analysis.specs.Collected.{CollectedAs}
 use Rattle.footprint.proofs.AnalysedLaws.{analyse_over, analyse_full, analyse_next, opening_sound}
 use Rattle.analysis.specs.Filling.{KeysFilled, set_key, set_keys, insert_all, count_of}
 use Rattle.analysis.proofs.FillingLaws.{keys_left, keys_none, set_keys_lem, set_worded, insert_all_lem, fitting_all, count_none, count_some, filled_none, filled_full, filled_more}
@@ -39,7 +39,6 @@ use Rattle.footprint.proofs.TableLaws.{rising_inserts}
 use Rattle.footprint.proofs.TableWordLaws.{words_length, keys_length, keys_padded}
 use Rattle.analysis.proofs.TableWords.{tabled, inserted_tabled, inserted_length}
 use Rattle.wire.proofs.BytesLaws.{padded_length}
-use Rattle.analysis.specs.declared.Collected.{Collected}
 use Rattle.analysis.specs.declared.Sets.{Sets}
 
 -- ---- the keys of one set
@@ -200,20 +199,26 @@ module _ (file : List ℕ) (l : Layout) (laid : LayoutOfBlock file l) where
               }
 
     -- Behind the last call the analysis is done.
-    pub collecting_end : l.calls ≤ j
-        → leaving (record { verdict = (Ok tt); cells = n }) keys ≡ collected_of (length old) (analysis_of file (block_of file))
-    unfolding analyse collected_of
+    pub collecting_end : l.calls ≤ j → CollectedAs (length old) (Ok n) keys (analysis_of file (block_of file))
+    unfolding analyse CollectedAs
     collecting_end h =
         let calls : l.calls ≡ length block.calls = laid_calls file l laid in
         let done : analysis_of file block ≡ analysed (take j (all_sets file block)) (keys_in n keys) =
         g.same
         ∙ ap (λ (cs : List Call). analyse file block.functions cs (block.first_call + call_record_bytes * j) (take j (all_sets file block)) (keys_in n keys))
         (drop_of_length-le block.calls {i = j} (omega arith)) in
-        ap₂ (λ (m : ℕ) (t : List ℕ). leaving (record { verdict = (Ok tt); cells = m }) t)
-        (sym (keys_length n keys)) (g.tabled.same ∙ ap (λ (m : ℕ). padded m 0 (table_words (keys_in n keys))) g.kept)
-        ∙ ap (collected_of (length old)) (sym done)
+        subst⁻¹ (CollectedAs (length old) (Ok n) keys) done
+        (sym (keys_length n keys), g.tabled.same ∙ ap (λ (m : ℕ). padded m 0 (table_words (keys_in n keys))) g.kept)
 
-    -- A refused block, cleared.
-    pub going_refused : (why : Refusal) (r : Collected) (after last : List ℕ) → length after ≡ length old → analysis_of file (block_of file) ≡ refused why
-        → leaving r last ≡ collected_of (length after) (refused why) → leaving r last ≡ collected_of (length old) (analysis_of file (block_of file))
-    going_refused why r after last kept e f = f ∙ ap₂ collected_of kept (sym e)
+-- What is not there is told as a refusal.
+told_none : {A : Type 0} (o : Option A) {told why : Refusal} → ◌≡◌ {A = Result A Refusal} (Err told) (ok_or o why) → told ≡ why
+told_none None e = cc
+told_none (Some x) e = let z : ◌≡◌ {A = ℕ} 0 1 = cc in absurd (omega arith)
+
+-- A refusal is handed on.
+pub going_refused : (file : List ℕ) (room : ℕ) (keys : List ℕ) {A : Type 0} (r : Result ℕ Refusal) (o : Option A) {told why : Refusal}
+    → IsErrAnd r (λ e. e ≡ told) → ◌≡◌ {A = Result A Refusal} (Err told) (ok_or o why) → analysis_of file (block_of file) ≡ refused why
+    → CollectedAs room r keys (analysis_of file (block_of file))
+unfolding CollectedAs
+going_refused file room keys (Ok n) o h e f = absurd h
+going_refused file room keys (Err handed) o h e f = subst⁻¹ (CollectedAs room (Err handed) keys) f (h ∙ told_none o e)

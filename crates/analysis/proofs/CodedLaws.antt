@@ -13,13 +13,12 @@ use Rattle.wire.proofs.BytesLaws.{padded_at}
 use Rattle.std.specs.List.{position_or_len}
 use Rattle.std.specs.declared.option.Option.TheVariants.{None, Some}
 use Rattle.block.specs.Record.{Function, Block, function_id, call_id, code_at}
-use Rattle.block.specs.Reader.{accepted}
 use Rattle.block.specs.declared.Call.{Call}
 use Rattle.footprint.specs.Access.{entry_accesses}
 use Rattle.footprint.specs.Plan.{code_words}
 use Rattle.footprint.specs.Sets.{merge_all, code_accesses, function_sets}
 use Rattle.block.specs.Naming.{function_of}
-use Rattle.reader.specs.Layout.{table, layout_of}
+use Rattle.reader.specs.Layout.{table, layout_for}
 use Rattle.analysis.specs.declared.Code.{Code}
 use Rattle.analysis.specs.Coded.{words_of, noCode, id_place, code_at_place, code_in, code_sets}
 use Rattle.arith.proofs.ChoiceLaws.{if_true, if_false}
@@ -53,10 +52,10 @@ module _ (b : Block) (c : Call) where
       ∙ take-append_seam (map function_id b.functions) _)
 
   -- The code that the tables tell is that of the function that the call names.
-  pub code_found : words_of (code_in (layout_of (accepted b)) (call_id c)) ≡ code_words (function_of b.functions c)
-  unfolding code_in layout_of code_of
+  pub code_found : words_of (code_in (layout_for b) (call_id c)) ≡ code_words (function_of b.functions c)
+  unfolding code_in code_of
   code_found =
-      ap (λ at. words_of (code_at_place (layout_of (accepted b)) at)) place_found
+      ap (λ at. words_of (code_at_place (layout_for b) at)) place_found
       ∙ chosen
       ∙ code_by_place b.functions c
     where
@@ -66,10 +65,10 @@ module _ (b : Block) (c : Call) where
       ids : List ℕ
       ids = map function_id b.functions
 
-      chosen : words_of (code_at_place (layout_of (accepted b)) (cond (ltb at (length ids)) (Some at) None)) ≡ words_of (code_of b.functions at)
+      chosen : words_of (code_at_place (layout_for b) (cond (ltb at (length ids)) (Some at) None)) ≡ words_of (code_of b.functions at)
       chosen = rw (length-map b.functions function_id) (go (ltb at (length b.functions)))
         where
-          go : (b' : Bool) → words_of (code_at_place (layout_of (accepted b)) (cond b' (Some at) None))
+          go : (b' : Bool) → words_of (code_at_place (layout_for b) (cond b' (Some at) None))
               ≡ words_of (if b' then record { start = get_or (map (λ f. f.start) b.functions) at 0; length = get_or (map (λ f. f.size) b.functions) at 0 + 1 } else noCode)
           go true =
               ap₂ (λ (s n : ℕ). words_of (record { start = s; length = n + 1 }))

@@ -21,7 +21,6 @@ use Rattle.block.specs.declared.Refusal.TheVariants.{InputTooLong}
 use Rattle.footprint.specs.Plan.{code_words}
 use Rattle.footprint.specs.Sets.{sets_of}
 use Rattle.block.specs.Naming.{function_of}
-use Rattle.reader.specs.Layout.{layout_of}
 use Rattle.reader.specs.declared.Layout.{Layout}
 use Rattle.analysis.specs.Coded.{Narrow, words_of, code_in, code_sets}
 use Rattle.analysis.proofs.CodedLaws.{code_found, code_sets_lem}
@@ -68,7 +67,6 @@ module _ (file : List ℕ) (l : Layout) (laid : LayoutOfBlock file l) where
   laid_whole = accepted_laws file (block_of file) laid.read
 
   pub laid_narrow : Narrow l
-  unfolding layout_of
   laid_narrow =
       subst⁻¹ Narrow laid.layout
       (record {
@@ -77,19 +75,15 @@ module _ (file : List ℕ) (l : Layout) (laid : LayoutOfBlock file l) where
       })
 
   pub laid_first : l.first_call ≡ (block_of file).first_call
-  unfolding layout_of
   laid_first = ap (λ (m : Layout). m.first_call) laid.layout
 
   pub laid_opening : l.opening ≡ (block_of file).opening
-  unfolding layout_of
   laid_opening = ap (λ (m : Layout). m.opening) laid.layout
 
   pub laid_cells : l.cells ≡ length (block_of file).cells
-  unfolding layout_of
   laid_cells = ap (λ (m : Layout). m.cells) laid.layout
 
   pub laid_calls : l.calls ≡ length (block_of file).calls
-  unfolding layout_of
   laid_calls = ap (λ (m : Layout). m.calls) laid.layout
 
   module _ (i : ℕ) (h : i < length (block_of file).cells) where

@@ -1,9 +1,8 @@
 -- The mathematics of the proofs of `plan`, over plain variables: the words of a call, and the entries of a set.
 use mathlib.Core.Path.{◌≡◌, refl, sym, ap, ap₂, ◌∙◌, subst}
 use mathlib.Core.Bool.{Bool, true, false}
-use mathlib.Core.List.{List, [], ◌∷◌, ◌++◌, map, append_assoc}
-use Prim.Native.Nat.{ℕ, zero, suc, ◌+◌, ◌-◌, ◌*◌, ◌^◌, ◌≤◌, ◌<◌}
-use native.Mathlib.Nat.{mod-lt}
+use mathlib.Core.List.{List, [], ◌∷◌, ◌++◌, map}
+use Prim.Native.Nat.{ℕ, zero, suc, ◌+◌, ◌*◌, ◌^◌, ◌≤◌, ◌<◌}
 use native.Mathlib.Numerals.{add-one}
 use native.Mathlib.Omega.{arith}
 use lib.Dec.{lit<}
@@ -34,7 +33,7 @@ use Rattle.analysis.specs.Masks.{add_call_words, CellsInTable}
 use Rattle.footprint.specs.EntryUses.{entry_words}
 use Rattle.footprint.specs.Listed.{AllListed}
 use Rattle.analysis.proofs.MaskBuffers.{entries_taken, in_table}
-use Rattle.analysis.specs.Planned.{GatheredFits, words_of_call, call_words, column, use_flags}
+use Rattle.analysis.specs.Planned.{words_of_call, call_words, column, use_flags}
 use Rattle.analysis.proofs.RowLoops.{stored_on}
 use Rattle.analysis.proofs.PlanLaws.{stored_padded, complete, listed_set}
 use Rattle.analysis.specs.declared.Sets.{Sets}

@@ -1,7 +1,7 @@
 -- What `prepare` and its parts answer, over plain values: the buffers that stay zero, the layout of a file that is read, and the block behind
 -- its analysis.
-use Rattle.std.specs.Prelude.{Err, Ok}
-use mathlib.Core.Path.{◌≡◌, refl, sym, ap, ap₂, ◌∙◌}
+use Rattle.std.specs.Prelude.{Err, Ok, Result, IsErrAnd}
+use mathlib.Core.Path.{◌≡◌, refl, sym, ap, ◌∙◌}
 use mathlib.Core.Bool.{Bool, true, false, ◌&&◌}
 use mathlib.Core.List.{List, [], map}
 use Prim.Native.Nat.{ℕ, ◌*◌, ◌≤◌}
@@ -19,26 +19,25 @@ use Rattle.block.specs.declared.Refusal.TheVariants.{Buffers}
 use Rattle.footprint.specs.Plan as footprint
 use Rattle.footprint.specs.Plan.{Room, plan_words, table_words, plans, opening_value, room_enough, unprepared, prepare_analysed, prepare_read, prepared_of}
 use Rattle.footprint.specs.Table.{Analysis, analysed, refused}
-use Rattle.reader.specs.Layout.{layout_of}
+use Rattle.reader.specs.Layout.{layout_of, layout_for}
 use Rattle.reader.specs.declared.Layout.{Layout}
-use Rattle.analysis.specs.declared.Collected.{Collected}
 use Rattle.analysis.specs.declared.Prepared.{Prepared}
-use Rattle.analysis.specs.Collected.{CollectedLeft, leaving, collected_of}
-use Rattle.analysis.proofs.CollectedLaws.{Holding, collected_table, collected_refused}
+use Rattle.analysis.specs.Collected.{CollectedAs}
+use Rattle.analysis.proofs.CollectedLaws.{Holding, collected_table, collected_words, collected_refused}
 use Rattle.footprint.specs.KeyWords.{keys_in}
 use Rattle.reader.specs.LayoutOfBlock.{LayoutOfBlock}
 use Rattle.block.specs.BlockOfFile.{block_in, block_of, opening_keys}
 use Rattle.footprint.specs.BlockSets.{all_sets, analysis_of}
 use Rattle.analysis.proofs.LayoutLaws.{laid_calls, laid_first}
-use Rattle.analysis.specs.Preparing.{room_of, preparing, prepared_none, Blank}
+use Rattle.analysis.specs.Preparing.{room_of, preparing, Blank}
 
 -- ---- a refusal in buffers that are zero
 
-pub refused_left : (p : Prepared) (why : Refusal) (n m k : ℕ) (plan keys : List ℕ) (values : List ℤ) → p ≡ prepared_none why
+pub refused_left : (why : Refusal) (n m k : ℕ) (plan keys : List ℕ) (values : List ℤ)
     → plan ≡ repeated n 0 → keys ≡ repeated m 0 → values ≡ repeated k (pos 0)
-    → preparing p plan keys values ≡ unprepared (room_of n m k) why
-unfolding unprepared
-refused_left p why n m k plan keys values e f g h = rw (e, f, g, h)
+    → preparing (Err why) plan keys values ≡ unprepared (room_of n m k) why
+unfolding unprepared preparing
+refused_left why n m k plan keys values f g h = rw (f, g, h)
 
 -- ---- room
 
@@ -70,15 +69,15 @@ room_same : (n m k : ℕ) (plan keys : List ℕ) (values : List ℤ) → length 
 room_same n m k plan keys values p q r = rw (p, q, r)
 
 -- 20, and what is read where there is room.
-pub prepared_short : (file : List ℕ) (n m k : ℕ) (plan keys : List ℕ) (values : List ℤ) (p : Prepared) (enough : Bool)
+pub prepared_short : (file : List ℕ) (n m k : ℕ) (plan keys : List ℕ) (values : List ℤ) (enough : Bool)
     → length plan ≡ n → length keys ≡ m → length values ≡ k
     → plan ≡ repeated n 0 → keys ≡ repeated m 0 → values ≡ repeated k (pos 0)
-    → enough ≡ room_enough (room_of (length plan) (length keys) (length values)) → enough ≡ false → p ≡ prepared_none Buffers
-    → preparing p plan keys values ≡ prepared_of (room_of n m k) file
+    → enough ≡ room_enough (room_of (length plan) (length keys) (length values)) → enough ≡ false
+    → preparing (Err Buffers) plan keys values ≡ prepared_of (room_of n m k) file
 unfolding prepared_of
-prepared_short file n m k plan keys values p enough a b c e f g w t made =
+prepared_short file n m k plan keys values enough a b c e f g w t =
     let tested : room_enough (room_of n m k) ≡ false = ap room_enough (sym (room_same n m k plan keys values a b c)) ∙ sym w ∙ t in
-    rw tested (refused_left p Buffers n m k plan keys values made e f g)
+    rw tested (refused_left Buffers n m k plan keys values e f g)
 
 pub prepared_read : (file : List ℕ) (n m k : ℕ) (plan keys : List ℕ) (values : List ℤ) (enough : Bool) (x : footprint.Prepared)
     → length plan ≡ n → length keys ≡ m → length values ≡ k
@@ -93,36 +92,33 @@ prepared_read file n m k plan keys values enough x a b c w t made =
 
 -- ---- the reader's answer
 
-read_refused : (r : Read) (l : Layout) (why : Refusal) → l ≡ layout_of r → l.verdict ≡ Err why → r ≡ reading.refused why
-unfolding layout_of
-read_refused (reading.refused other) l why e v =
-    let same : Err other ≡ Err why = sym (ap (λ (m : Layout). m.verdict) e) ∙ v in
-    ap reading.refused (cc)
-read_refused (reading.accepted b) l why e v =
-    let same : (Ok tt) ≡ Err why = sym (ap (λ (m : Layout). m.verdict) e) ∙ v in
-    let z : ◌≡◌ {A = ℕ} 0 1 = cc in absurd (omega arith)
-
-read_accepted : (r : Read) (l : Layout) → l ≡ layout_of r → l.verdict ≡ (Ok tt) → r ≡ reading.accepted (block_in r)
-unfolding layout_of block_in
-read_accepted (reading.refused why) l e v =
-    let same : Err why ≡ (Ok tt) = sym (ap (λ (m : Layout). m.verdict) e) ∙ v in
-    let z : ◌≡◌ {A = ℕ} 0 1 = cc in absurd (omega arith)
-read_accepted (reading.accepted b) l e v = refl
-
 -- The layout of an accepted file.
-pub read_laid : (file : List ℕ) (l : Layout) → l ≡ layout_of (read_block file) → l.verdict ≡ (Ok tt) → LayoutOfBlock file l
-read_laid file l e v =
-    let read : read_block file ≡ reading.accepted (block_of file) = read_accepted (read_block file) l e v in
-    record { read = read; layout = e ∙ ap layout_of read }
+pub read_laid : (file : List ℕ) (l : Layout) → Ok l ≡ layout_of (read_block file) → LayoutOfBlock file l
+unfolding layout_of block_in
+read_laid file l e = go (read_block file) refl e
+  where
+    go : (r : Read) → read_block file ≡ r → Ok l ≡ layout_of r → LayoutOfBlock file l
+    go (reading.refused why) f e = let z : ◌≡◌ {A = ℕ} 0 1 = cc in absurd (omega arith)
+    go (reading.accepted b) f e =
+        let same : block_of file ≡ b = ap block_in f in
+        let told : l ≡ layout_for b = cc in
+        record { read = f ∙ ap reading.accepted (sym same); layout = told ∙ ap layout_for (sym same) }
 
--- 1 to 10.
-pub read_left : (file : List ℕ) (l : Layout) (why : Refusal) (plan keys : List ℕ) (values : List ℤ) (p : Prepared)
-    → Blank plan keys values → l ≡ layout_of (read_block file) → l.verdict ≡ Err why → p ≡ prepared_none why
+-- 1 to 10, handed on.
+pub read_left : (file : List ℕ) (p : Result Prepared Refusal) {why : Refusal} (plan keys : List ℕ) (values : List ℤ)
+    → Blank plan keys values → IsErrAnd p (λ e. e ≡ why) → Err why ≡ layout_of (read_block file)
     → preparing p plan keys values ≡ prepare_read (room_of (length plan) (length keys) (length values)) file (read_block file)
-unfolding prepare_read
-read_left file l why plan keys values p b e v made =
-    refused_left p why (length plan) (length keys) (length values) plan keys values made b.plan_zero b.keys_zero b.values_zero
-    ∙ ap (prepare_read (room_of (length plan) (length keys) (length values)) file) (sym (read_refused (read_block file) l why e v))
+unfolding prepare_read layout_of
+read_left file (Ok p) plan keys values b h e = absurd h
+read_left file (Err handed) {why} plan keys values b h e = go (read_block file) e
+  where
+    go : (r : Read) → Err why ≡ layout_of r
+        → preparing (Err handed) plan keys values ≡ prepare_read (room_of (length plan) (length keys) (length values)) file r
+    go (reading.refused told) e =
+        let same : why ≡ told = cc in
+        refused_left handed (length plan) (length keys) (length values) plan keys values b.plan_zero b.keys_zero b.values_zero
+        ∙ ap (unprepared (room_of (length plan) (length keys) (length values))) (h ∙ same)
+    go (reading.accepted block) e = let z : ◌≡◌ {A = ℕ} 0 1 = cc in absurd (omega arith)
 
 -- ---- behind the analysis
 
@@ -134,53 +130,46 @@ opened_keys file keys after l laid b kept e =
     (laid, (omega (arith, b.keys_room), e ∙ ap (λ (n : ℕ). padded n 0 (table_words (opening_keys (block_of file)))) (sym kept)))
 
 module _ (file : List ℕ) (l : Layout) (laid : LayoutOfBlock file l) (plan keys : List ℕ) (values : List ℤ) (b : Blank plan keys values)
-    (mid : List ℕ) (kept : length mid ≡ length keys) (r : Collected) (after : List ℕ)
-    (e : leaving r after ≡ collected_of (length mid) (analysis_of file (block_of file))) where
+    (mid : List ℕ) (kept : length mid ≡ length keys) (after : List ℕ) where
+  abbrev room : Room
+  room = room_of (length plan) (length keys) (length values)
+
   analysed_to : (a : Analysis) → analysis_of file (block_of file) ≡ a
-      → prepare_read (room_of (length plan) (length keys) (length values)) file (read_block file)
-      ≡ prepare_analysed (room_of (length plan) (length keys) (length values)) (block_of file) a
+      → prepare_read room file (read_block file) ≡ prepare_analysed room (block_of file) a
   unfolding prepare_read
-  analysed_to a f =
-      ap (prepare_read (room_of (length plan) (length keys) (length values)) file) laid.read
-      ∙ ap (prepare_analysed (room_of (length plan) (length keys) (length values)) (block_of file)) f
+  analysed_to a f = ap (prepare_read room file) laid.read ∙ ap (prepare_analysed room (block_of file)) f
 
-  -- What was left, in the room that was lent.
-  left_by : (a : Analysis) → analysis_of file (block_of file) ≡ a → leaving r after ≡ collected_of (length keys) a
-  left_by a f = e ∙ ap₂ collected_of kept f
+  -- 11 and 12, with the keys cleared.
+  pub laid_refused : (why : Refusal) (zero : List ℕ) → CollectedAs (length mid) (Err why) after (analysis_of file (block_of file))
+      → zero ≡ repeated (length keys) 0 → preparing (Err why) plan zero values ≡ prepare_read room file (read_block file)
+  unfolding prepare_analysed
+  laid_refused why zero e cleared =
+      refused_left why (length plan) (length keys) (length values) plan zero values b.plan_zero cleared b.values_zero
+      ∙ sym (analysed_to (refused why) (collected_refused file (length mid) after why e))
 
-  -- The table that the plan and the values are made by.
-  pub laid_holding : r.verdict ≡ (Ok tt) → Holding file r after
-  laid_holding v =
-      let space : 2 * max_keys ≤ length mid = omega (arith, b.keys_room) in
-      collected_table file (length mid) r after e laid.read space v
+  module _ (n : ℕ) (e : CollectedAs (length mid) (Ok n) after (analysis_of file (block_of file))) where
+    -- The table that the plan and the values are made by.
+    pub laid_holding : Holding file n after
+    laid_holding =
+        let space : 2 * max_keys ≤ length mid = omega (arith, b.keys_room) in
+        collected_table file (length mid) after n e laid.read space
 
-  -- 11 and 12.
-  pub laid_refused : (why : Refusal) (p : Prepared) → r.verdict ≡ Err why → p ≡ prepared_none why
-      → preparing p plan after values ≡ prepare_read (room_of (length plan) (length keys) (length values)) file (read_block file)
-  unfolding collected_of prepare_analysed
-  laid_refused why p v made =
-      let f : analysis_of file (block_of file) ≡ refused why = collected_refused file (length mid) r after e why v in
-      let zero : after ≡ repeated (length keys) 0 = ap (λ (x : CollectedLeft). x.keys) (left_by (refused why) f) in
-      refused_left p why (length plan) (length keys) (length values) plan after values made b.plan_zero zero b.values_zero
-      ∙ sym (analysed_to (refused why) f)
-
-  pub laid_accepted : (plan' : List ℕ) (values' : List ℤ) → r.verdict ≡ (Ok tt)
-      → plan' ≡ padded (length plan) 0 (plans (block_of file).functions (keys_in r.cells after) [] (block_of file).calls (all_sets file (block_of file)))
-      → values' ≡ padded (length values) (pos 0) (map (opening_value (block_of file).cells) (keys_in r.cells after))
-      → preparing (record { verdict = (Ok tt); calls = l.calls; cells = r.cells; first_call = l.first_call }) plan' after values'
-      ≡ prepare_read (room_of (length plan) (length keys) (length values)) file (read_block file)
-  unfolding collected_of prepare_analysed
-  laid_accepted plan' values' v g h =
-      let table : List ℕ = keys_in r.cells after in
-      let f : analysis_of file (block_of file) ≡ analysed (all_sets file (block_of file)) table = (laid_holding v).table.analysis in
-      let left = left_by (analysed (all_sets file (block_of file)) table) f in
-      let cells : r.cells ≡ length table = ap (λ (x : CollectedLeft). x.answer.cells) left in
-      let words : after ≡ padded (length keys) 0 (table_words table) = ap (λ (x : CollectedLeft). x.keys) left in
-      whole l.calls (length (block_of file).calls) r.cells (length table) l.first_call (block_of file).first_call plan' _ after _ values' _
-      (laid_calls file l laid) cells (laid_first file l laid) g words h
-      ∙ sym (analysed_to (analysed (all_sets file (block_of file)) table) f)
-    where
-      whole : (c c' n n' f f' : ℕ) (x x' y y' : List ℕ) (z z' : List ℤ) → c ≡ c' → n ≡ n' → f ≡ f' → x ≡ x' → y ≡ y' → z ≡ z'
-          → preparing (record { verdict = (Ok tt); calls = c; cells = n; first_call = f }) x y z
-          ≡ preparing (record { verdict = (Ok tt); calls = c'; cells = n'; first_call = f' }) x' y' z'
-      whole c c' n n' f f' x x' y y' z z' p q s t u w = rw (p, q, s, t, u, w)
+    pub laid_accepted : (plan' : List ℕ) (values' : List ℤ)
+        → plan' ≡ padded (length plan) 0 (plans (block_of file).functions (keys_in n after) [] (block_of file).calls (all_sets file (block_of file)))
+        → values' ≡ padded (length values) (pos 0) (map (opening_value (block_of file).cells) (keys_in n after))
+        → preparing (Ok (record { calls = l.calls; cells = n; first_call = l.first_call })) plan' after values'
+        ≡ prepare_read room file (read_block file)
+    unfolding prepare_analysed preparing
+    laid_accepted plan' values' g h =
+        let table : List ℕ = keys_in n after in
+        let held : Holding file n after = laid_holding in
+        let words = collected_words file (length mid) after n e held.table in
+        whole l.calls (length (block_of file).calls) n (length table) l.first_call (block_of file).first_call plan' _ after _ values' _
+        (laid_calls file l laid) words.0 (laid_first file l laid) g
+        (words.1 ∙ ap (λ (m : ℕ). padded m 0 (table_words table)) kept) h
+        ∙ sym (analysed_to (analysed (all_sets file (block_of file)) table) held.table.analysis)
+      where
+        whole : (c c' m m' f f' : ℕ) (x x' y y' : List ℕ) (z z' : List ℤ) → c ≡ c' → m ≡ m' → f ≡ f' → x ≡ x' → y ≡ y' → z ≡ z'
+            → preparing (Ok (record { calls = c; cells = m; first_call = f })) x y z
+            ≡ preparing (Ok (record { calls = c'; cells = m'; first_call = f' })) x' y' z'
+        whole c c' m m' f f' x x' y y' z z' p q s t u w = rw (p, q, s, t, u, w)

@@ -1,20 +1,13 @@
 -- What the analysis of a block answers and leaves in the buffer of the keys.
-use Rattle.std.specs.Prelude.{List, ℕ, length, Err, Ok}
-use Rattle.wire.specs.Bytes.{repeated, padded}
+use Rattle.std.specs.Prelude.{◌≡◌, List, ℕ, length, Err, Ok, Result}
+use Rattle.wire.specs.Bytes.{padded}
+use Rattle.block.specs.declared.Refusal.{Refusal}
 use Rattle.footprint.specs.Plan.{table_words}
 use Rattle.footprint.specs.Table.{Analysis, analysed, refused}
-use Rattle.analysis.specs.declared.Collected.{Collected}
 
--- An answer with the buffer.
-pub record CollectedLeft : Type 0 where
-  pub answer : Collected
-  pub keys : List ℕ
-
-abbrev pub leaving : Collected → List ℕ → CollectedLeft
-leaving r keys = record { answer = r; keys = keys }
-
--- The words of the table with zeros behind them; all zero where the block is refused.
-unfoldable pub collected_of : ℕ → Analysis → CollectedLeft
-collected_of room (analysed sets table) =
-    leaving (record { verdict = (Ok tt); cells = length table }) (padded room 0 (table_words table))
-collected_of room (refused why) = leaving (record { verdict = Err why; cells = 0 }) (repeated room 0)
+-- The number of the keys, with the words of their table and zeros behind them in a buffer of this length; or the refusal.
+unfoldable pub CollectedAs : (room : ℕ) → Result ℕ Refusal → List ℕ → Analysis → Type 0
+CollectedAs room (Ok n) keys (analysed sets table) = (n ≡ length table) × (keys ≡ padded room 0 (table_words table))
+CollectedAs room (Ok n) keys (refused why) = ⊥
+CollectedAs room (Err why) keys (analysed sets table) = ⊥
+CollectedAs room (Err why) keys (refused told) = why ≡ told

@@ -1,5 +1,5 @@
 -- What `prepare` answers, put together with the buffers that it leaves.
-use Rattle.std.specs.Prelude.{◌≡◌, List, ℕ, ◌*◌, ◌≤◌, ℤ, pos, length, Err}
+use Rattle.std.specs.Prelude.{◌≡◌, List, ℕ, ◌*◌, ◌≤◌, ℤ, pos, length, Err, Ok, Result}
 use Rattle.wire.specs.Bytes.{repeated}
 use Rattle.block.specs.Limits.{max_calls, max_keys}
 use Rattle.block.specs.declared.Refusal.{Refusal}
@@ -10,22 +10,28 @@ use Rattle.analysis.specs.declared.Prepared.{Prepared}
 abbrev pub room_of : (plan keys cells : ℕ) → Room
 room_of plan keys cells = record { plan = plan; keys = keys; cells = cells }
 
--- An answer with the buffers.
-abbrev pub preparing : Prepared → List ℕ → List ℕ → List ℤ → plan.Prepared
-preparing r plan keys values =
+-- An answer with the buffers; of a refusal the counts are 0.
+unfoldable pub preparing : Result Prepared Refusal → List ℕ → List ℕ → List ℤ → plan.Prepared
+preparing (Ok p) plan keys values =
     record {
-      verdict = r.verdict;
-      calls = r.calls;
-      cells = r.cells;
-      first_call = r.first_call;
+      verdict = Ok tt;
+      calls = p.calls;
+      cells = p.cells;
+      first_call = p.first_call;
       plan = plan;
       keys = keys;
       values = values;
     }
-
--- The answer of a refusal.
-abbrev pub prepared_none : Refusal → Prepared
-prepared_none why = record { verdict = Err why; calls = 0; cells = 0; first_call = 0 }
+preparing (Err why) plan keys values =
+    record {
+      verdict = Err why;
+      calls = 0;
+      cells = 0;
+      first_call = 0;
+      plan = plan;
+      keys = keys;
+      values = values;
+    }
 
 -- Three buffers that are zero and hold what the limits allow.
 pub record Blank (plan keys : List ℕ) (values : List ℤ) : Type 0 where

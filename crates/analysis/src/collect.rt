@@ -4,9 +4,8 @@ ghost use Rattle.wire.specs.Bytes.{repeated, padded};
 ghost use Rattle.block.specs.Limits.{max_bytes, max_code, max_keys};
 ghost use Rattle.block.specs.Record.{call_id, cell_of, head_bytes, call_record_bytes};
 ghost use Rattle.footprint.specs.Plan.{code_words, high_word, low_word, table_words};
-ghost use Rattle.footprint.specs.Table.{refused};
 ghost use Rattle.analysis.specs.Coded.{Narrow, code_in, code_sets, id_place, words_of};
-ghost use Rattle.analysis.specs.Collected.{collected_of, leaving};
+ghost use Rattle.analysis.specs.Collected.{CollectedAs};
 ghost use Rattle.analysis.specs.Filling.{KeysFilled, set_keys};
 ghost use Rattle.analysis.specs.Gathered.{Gathered, Worded};
 ghost use Rattle.analysis.specs.KeyTable.{Tabled};
@@ -16,7 +15,7 @@ ghost use Rattle.block.specs.BlockOfFile.{block_of, function_at, opening_keys};
 
 use crate::gather::{function_sets, no_keys};
 use crate::table::key_insert;
-use crate::{Code, Collected, Sets};
+use crate::{Code, Sets};
 use block::address::address_of;
 use block::format::{CALL_RECORD_BYTES, CELL_BYTES, HEAD_BYTES};
 use block::limits::MAX_KEYS;
@@ -143,39 +142,19 @@ fn insert_sets(keys: &mut [u64], n: usize, s: &Sets) -> Option<usize>
     Some(count)
 }
 
-// What is answered of a refused block, with the keys cleared.
-fn refuse_keys(keys: &mut [u64], why: Refusal) -> Collected
-    ensures { leaving result keys.new ≡ collected_of (length keys.old) (refused why) }
-{
-    wire::clear(keys, 0);
-    Collected {
-        verdict: Err(why),
-        cells: 0,
-    }
-}
-
-// The keys of the calls, call by call, behind those of the opening: 11 for a call of too many keys, 12 for one that passes the limit of
-// all keys.
-pub(crate) fn call_keys(file: &[u8], l: Layout, keys: &mut [u64]) -> Collected
+// The keys of the calls, call by call, behind those of the opening: the number of all keys, or 11 for a call of too many keys, 12 for one
+// that passes the limit of all keys.
+pub(crate) fn call_keys(file: &[u8], l: Layout, keys: &mut [u64]) -> Result<usize, Refusal>
     requires layout_of_block { LayoutOfBlock file.now l }
     requires max_keys_in_bounds { 2 * max_keys ≤ length keys.old }
     requires keys_value { keys.old ≡ padded (length keys.old) 0 (table_words (opening_keys (block_of file.now))) }
-    ensures { leaving result keys.new
-        ≡ collected_of (length keys.old) (analysis_of file.now (block_of file.now)) }
+    ensures { CollectedAs (length keys.old) result keys.new (analysis_of file.now (block_of file.now)) }
 {
     let mut n = l.cells;
     for call in 0..l.calls {
         let at = l.first_call + CALL_RECORD_BYTES * call;
-        let Some(s) = call_sets(file, l, call) else {
-            return refuse_keys(keys, Refusal::CallKeys(at));
-        };
-        let Some(count) = insert_sets(keys, n, &s) else {
-            return refuse_keys(keys, Refusal::AllKeys(at));
-        };
-        n = count;
+        let s = call_sets(file, l, call).ok_or(Refusal::CallKeys(at))?;
+        n = insert_sets(keys, n, &s).ok_or(Refusal::AllKeys(at))?;
     }
-    Collected {
-        verdict: Ok(()),
-        cells: n,
-    }
+    Ok(n)
 }

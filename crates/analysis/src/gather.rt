@@ -9,9 +9,9 @@ ghost use Rattle.footprint.specs.Sets.{code_accesses, decoded_accesses, merge, m
 ghost use Rattle.key_uses.specs.Uses.{use_of, uses_of};
 
 use crate::Sets;
+use block::Call;
 use block::format::INSTR_BYTES;
 use block::limits::MAX_CALL_KEYS;
-use block::Call;
 use decoder::instruction::decode;
 use key_uses::{KeyUse, Uses, entry_uses, instr_uses, no_uses};
 

@@ -12,10 +12,10 @@ ghost use Rattle.block.specs.Limits.{max_call_keys};
 ghost use Rattle.block.specs.Reader.{read_block};
 ghost use Rattle.footprint.specs.Plan.{room_enough, prepare_read, prepared_of};
 ghost use Rattle.reader.specs.LayoutOfBlock.{LayoutOfBlock};
-ghost use Rattle.analysis.specs.Preparing.{room_of, preparing, prepared_none, Blank};
+ghost use Rattle.analysis.specs.Preparing.{room_of, preparing, Blank};
 
-use block::limits::{MAX_CALL_KEYS, MAX_CALLS, MAX_KEYS};
 use block::Refusal;
+use block::limits::{MAX_CALL_KEYS, MAX_CALLS, MAX_KEYS};
 use collect::{call_keys, opening_keys};
 use footprint::layout::{KEY_WORDS, PLAN_WORDS};
 use key_uses::KeyUse;
@@ -38,33 +38,12 @@ pub struct Code {
     pub length: u64,
 }
 
-// What the analysis answers of a block: its verdict, and the number of keys in the table, 0 if it is refused.
-#[derive(Clone, Copy)]
-pub struct Collected {
-    pub verdict: Result<(), Refusal>,
-    pub cells: usize,
-}
-
-// What a block is prepared to: its verdict, the numbers of its calls and of its cells, and the offset of its first call record, all 0 if
-// it is refused.
+// What a block is prepared to: the numbers of its calls and of its cells, and the offset of its first call record.
 #[derive(Clone, Copy)]
 pub struct Prepared {
-    pub verdict: Result<(), Refusal>,
     pub calls: usize,
     pub cells: usize,
     pub first_call: usize,
-}
-
-// What is answered of a refused block.
-fn refused(why: Refusal) -> Prepared
-    ensures { result ≡ prepared_none why }
-{
-    Prepared {
-        verdict: Err(why),
-        calls: 0,
-        cells: 0,
-        first_call: 0,
-    }
 }
 
 // Whether buffers of these lengths hold the plan, the keys and the values of every block that keeps the limits.
@@ -87,7 +66,7 @@ fn prepare_laid(
     plan: &mut [u64],
     keys: &mut [u64],
     values: &mut [i64],
-) -> Prepared
+) -> Result<Prepared, Refusal>
     requires layout_of_block { LayoutOfBlock file.now l }
     requires blank { Blank plan.old keys.old values.old }
     ensures { preparing result plan.new keys.new values.new
@@ -95,42 +74,47 @@ fn prepare_laid(
         file.now (read_block file.now) }
 {
     opening_keys(file, l, keys);
-    let collected = call_keys(file, l, keys);
-    let verdict = collected.verdict;
-    let cells = collected.cells;
-    match verdict {
-        Err(why) => refused(why),
-        Ok(()) => {
+    match call_keys(file, l, keys) {
+        Err(why) => {
+            wire::clear(keys, 0);
+            Err(why)
+        }
+        Ok(cells) => {
             opening_values(file, l, keys, cells, values);
             plan_calls(file, l, keys, cells, plan);
-            Prepared {
-                verdict: Ok(()),
+            Ok(Prepared {
                 calls: l.calls,
                 cells,
                 first_call: l.first_call,
-            }
+            })
         }
     }
 }
 
 // A file read and prepared, in cleared buffers: 1 to 12.
-fn prepare_read(file: &[u8], plan: &mut [u64], keys: &mut [u64], values: &mut [i64]) -> Prepared
+fn prepare_read(
+    file: &[u8],
+    plan: &mut [u64],
+    keys: &mut [u64],
+    values: &mut [i64],
+) -> Result<Prepared, Refusal>
     requires { Blank plan.old keys.old values.old }
     ensures { preparing result plan.new keys.new values.new
         ≡ prepare_read (room_of (length plan.old) (length keys.old) (length values.old))
         file.now (read_block file.now) }
 {
-    let l = reader::read_block(file);
-    let verdict = l.verdict;
-    match verdict {
-        Err(why) => refused(why),
-        Ok(()) => prepare_laid(file, l, plan, keys, values),
-    }
+    let l = reader::read_block(file)?;
+    prepare_laid(file, l, plan, keys, values)
 }
 
-// A block's verdict and counts, with its plan, its key table and its opening values in the lent buffers: 20 if one is too short, then 1
-// to 12. The buffers are zero if it is refused.
-pub fn prepare(file: &[u8], plan: &mut [u64], keys: &mut [u64], values: &mut [i64]) -> Prepared
+// A block's counts, with its plan, its key table and its opening values in the lent buffers; or its refusal: 20 if one is too short,
+// then 1 to 12. The buffers are zero if it is refused.
+pub fn prepare(
+    file: &[u8],
+    plan: &mut [u64],
+    keys: &mut [u64],
+    values: &mut [i64],
+) -> Result<Prepared, Refusal>
     ensures { preparing result plan.new keys.new values.new
         ≡ prepared_of (room_of (length plan.old) (length keys.old) (length values.old))
         file.now }
@@ -139,7 +123,7 @@ pub fn prepare(file: &[u8], plan: &mut [u64], keys: &mut [u64], values: &mut [i6
     wire::clear(keys, 0);
     wire::clear(values, 0);
     if !room_enough(plan.len(), keys.len(), values.len()) {
-        return refused(Refusal::Buffers);
+        return Err(Refusal::Buffers);
     }
     prepare_read(file, plan, keys, values)
 }

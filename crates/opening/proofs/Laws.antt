@@ -8,7 +8,7 @@ use borrow.Author.Tests.{leb-true}
 use lib.Dec.{eqb, leb, ltb}
 use lib.IntN.{ℤ, pos}
 use lib.ListN.{length}
-use Rattle.std.specs.Prelude.{if◌then◌else◌, Err, Ok, Result}
+use Rattle.std.specs.Prelude.{if◌then◌else◌, Err, Ok, Result, IsErrAnd}
 use Rattle.arith.proofs.ChoiceLaws.{both, if_all}
 use Rattle.wire.specs.Bytes.{repeated}
 use Rattle.block.specs.Limits.{max_calls, max_workers}
@@ -28,8 +28,8 @@ use Rattle.machine.specs.Opening as machine
 use Rattle.machine.specs.Opening.{head_of, refused_run, open_prepared, opening_of}
 use Rattle.machine.specs.Run.{Sizes, fixed_sizes, room_in, large_enough}
 use Rattle.machine.specs.Waits.{each_wait, waits_set}
-use Rattle.opening.specs.declared.Opened.{Opened}
-use Rattle.opening.specs.Opened.{sizes_for, opening_with, tested_for, opened_by, opened_none, OpenedAs}
+use Rattle.machine.specs.declared.Head.{Head}
+use Rattle.opening.specs.Opened.{sizes_for, opening_with, tested_for, OpenedAs}
 
 -- ---- the tests before the block is read
 
@@ -47,6 +47,11 @@ tests_pass : (a b : Bool) (s : Sizes) (x : machine.Opened) → by_tests a b ≡ 
 tests_pass true true s x e = let z : ◌≡◌ {A = ℕ} 0 1 = cc in absurd (omega arith)
 tests_pass true false s x e = refl
 tests_pass false b s x e = let z : ◌≡◌ {A = ℕ} 0 1 = cc in absurd (omega arith)
+
+-- What is no refusal passes.
+pub not_err : (v : Result (Unit {0}) Refusal) → ((why : Refusal) → v ≡ Err why → ⊥) → v ≡ (Ok tt)
+not_err (Ok tt) n = refl
+not_err (Err why) n = absurd (n why refl)
 
 -- The block as it is prepared in the room of these sizes.
 abbrev prepared_in : Sizes → List ℕ → footprint.Prepared
@@ -108,7 +113,9 @@ prepared_few : (r : Room) (file : List ℕ) → (prepared_of r file).calls ≤ m
 unfolding prepared_of
 prepared_few r file = if_all Few (room_enough r) (λ t. read_few r file (read_block file) refl) (λ t. unprepared_few r Buffers)
 
-pub calls_few : (p : Prepared) (plan keys : List ℕ) (cells : List ℤ) (r : Room) (file : List ℕ) → preparing p plan keys cells ≡ prepared_of r file → p.calls ≤ max_calls
+pub calls_few : (p : Prepared) (plan keys : List ℕ) (cells : List ℤ) (r : Room) (file : List ℕ) → preparing (Ok p) plan keys cells ≡ prepared_of r file
+    → p.calls ≤ max_calls
+unfolding preparing
 calls_few p plan keys cells r file e = subst⁻¹ Few e (prepared_few r file)
 
 -- In buffers that are large enough the sizes are not what a block is refused by.
@@ -132,10 +139,10 @@ large_plan s large =
     leb-true fixed_sizes.plan s.plan (both _ _ (both _ (leb fixed_sizes.cells s.cells) (large_room s large)).0).0
 
 -- A head and six lists that are equal, part by part.
-same_run : (v : Result (Unit {0}) Refusal) (w c n f c' n' f' : ℕ) (x x' y y' : List ℕ) (z z' : List ℤ) (t t' u u' : List ℕ) (o o' : List ℤ)
+same_run : (w c n f c' n' f' : ℕ) (x x' y y' : List ℕ) (z z' : List ℤ) (t t' u u' : List ℕ) (o o' : List ℤ)
     → c ≡ c' → n ≡ n' → f ≡ f' → x ≡ x' → y ≡ y' → z ≡ z' → t ≡ t' → u ≡ u' → o ≡ o'
-    → opening_with (record { verdict = v; head = head_of w c n f }) x y z t u o ≡ opening_with (record { verdict = v; head = head_of w c' n' f' }) x' y' z' t' u' o'
-same_run v w c n f c' n' f' x x' y y' z z' t t' u u' o o' e₁ e₂ e₃ e₄ e₅ e₆ e₇ e₈ e₉ = rw (e₁, e₂, e₃, e₄, e₅, e₆, e₇, e₈, e₉)
+    → opening_with (Ok (head_of w c n f)) x y z t u o ≡ opening_with (Ok (head_of w c' n' f')) x' y' z' t' u' o'
+same_run w c n f c' n' f' x x' y y' z z' t t' u u' o o' e₁ e₂ e₃ e₄ e₅ e₆ e₇ e₈ e₉ = rw (e₁, e₂, e₃, e₄, e₅, e₆, e₇, e₈, e₉)
 
 -- The states of the calls, the seats and the frames keep their lengths and are zero.
 pub record StatesCleared (s : Sizes) (status seats : List ℕ) (frames : List ℤ) : Type 0 where
@@ -149,13 +156,21 @@ pub record StatesCleared (s : Sizes) (status seats : List ℕ) (frames : List �
 pub still_zero : (s : Sizes) (status seats : List ℕ) (frames : List ℤ) → StatesCleared s status seats frames → status ≡ repeated (length status) 0
 still_zero s status seats frames z = z.status_zero ∙ ap (λ (n : ℕ). repeated n 0) (sym z.status_kept)
 
-module _ (s : Sizes) (workers : ℕ) (p : Prepared) (plan keys : List ℕ) (cells : List ℤ) (status seats : List ℕ) (frames : List ℤ)
-    (q : footprint.Prepared) (e : preparing p plan keys cells ≡ q) (zero : Zeroed (room_of s.plan s.keys s.cells) q)
-    (z : StatesCleared s status seats frames) (waits : List ℕ) (w : waits ≡ waits_set plan p.calls status) where
-  by_verdict : (v : Result (Unit {0}) Refusal) → p.verdict ≡ v → opening_with (opened_by p workers v) plan keys cells waits seats frames ≡ open_prepared s workers q v
-  unfolding opened_by open_prepared refused_run unprepared each_wait
-  by_verdict (Ok tt) h =
-      same_run (Ok tt) workers p.calls p.cells p.first_call q.calls q.cells q.first_call plan q.plan keys q.keys cells q.values
+-- A refusal in buffers that are zero.
+refused_left : (s : Sizes) (why : Refusal) {plan keys : List ℕ} {cells : List ℤ} {status seats : List ℕ} {frames : List ℤ}
+    → plan ≡ repeated s.plan 0 → keys ≡ repeated s.keys 0 → cells ≡ repeated s.cells (pos 0) → StatesCleared s status seats frames
+    → opening_with (Err why) plan keys cells status seats frames ≡ refused_run s why
+unfolding refused_run
+refused_left s why e f g z = rw (e, f, g, z.status_zero, z.seats_zero, z.frames_zero)
+
+module _ (s : Sizes) (workers : ℕ) (plan keys : List ℕ) (cells : List ℤ) (status seats : List ℕ) (frames : List ℤ)
+    (q : footprint.Prepared) (z : StatesCleared s status seats frames) where
+  -- A block that is prepared is opened.
+  prepared_run : (p : Prepared) (waits : List ℕ) → preparing (Ok p) plan keys cells ≡ q → waits ≡ waits_set plan p.calls status
+      → opening_with (Ok (head_of workers p.calls p.cells p.first_call)) plan keys cells waits seats frames ≡ open_prepared s workers q q.verdict
+  unfolding open_prepared each_wait preparing
+  prepared_run p waits e w =
+      same_run workers p.calls p.cells p.first_call q.calls q.cells q.first_call plan q.plan keys q.keys cells q.values
       waits (waits_set q.plan q.calls (repeated s.status 0)) seats (repeated s.seats 0) frames (repeated s.frames (pos 0))
       (ap (λ (x : footprint.Prepared). x.calls) e)
       (ap (λ (x : footprint.Prepared). x.cells) e)
@@ -166,22 +181,20 @@ module _ (s : Sizes) (workers : ℕ) (p : Prepared) (plan keys : List ℕ) (cell
       (w ∙ ap (λ (x : footprint.Prepared). waits_set x.plan x.calls status) e ∙ ap (waits_set q.plan q.calls) z.status_zero)
       z.seats_zero
       z.frames_zero
-  by_verdict (Err why) h =
-      let none = e ∙ zero why (sym (ap (λ (x : footprint.Prepared). x.verdict) e) ∙ h) in
-      same_run (Err why) 0 0 0 0 0 0 0 plan (repeated s.plan 0) keys (repeated s.keys 0) cells (repeated s.cells (pos 0))
-      waits (repeated s.status 0) seats (repeated s.seats 0) frames (repeated s.frames (pos 0))
-      refl
-      refl
-      refl
+      ∙ ap (open_prepared s workers q) (ap (λ (x : footprint.Prepared). x.verdict) e)
+
+  -- One that is not prepared leaves its buffers zero.
+  unprepared_run : (why : Refusal) → preparing (Err why) plan keys cells ≡ q → Zeroed (room_of s.plan s.keys s.cells) q
+      → opening_with (Err why) plan keys cells status seats frames ≡ open_prepared s workers q q.verdict
+  unfolding open_prepared unprepared preparing
+  unprepared_run why e zero =
+      let none = e ∙ zero why (sym (ap (λ (x : footprint.Prepared). x.verdict) e)) in
+      refused_left s why
       (ap (λ (x : footprint.Prepared). x.plan) none)
       (ap (λ (x : footprint.Prepared). x.keys) none)
       (ap (λ (x : footprint.Prepared). x.values) none)
-      (w ∙ ap (λ (x : footprint.Prepared). waits_set plan x.calls status) none ∙ z.status_zero)
-      z.seats_zero
-      z.frames_zero
-
-  prepared_run : opening_with (opened_by p workers p.verdict) plan keys cells waits seats frames ≡ open_prepared s workers q q.verdict
-  prepared_run = by_verdict p.verdict refl ∙ ap (open_prepared s workers q) (ap (λ (x : footprint.Prepared). x.verdict) e)
+      z
+      ∙ ap (open_prepared s workers q) (ap (λ (x : footprint.Prepared). x.verdict) e)
 
 -- ---- the answer, where the states, the seats and the frames are cleared
 
@@ -199,14 +212,11 @@ module _ (n m k t u o : ℕ) (file : List ℕ) (workers : ℕ) (status seats : L
       same t u o t' u' o' a b c = rw (a, b, c)
 
   -- 20 and 13.
-  pub open_refused : (why : Refusal) (r : Opened) {plan keys : List ℕ} {cells : List ℤ} → v ≡ Err why → r ≡ opened_none why
+  pub open_refused : (why : Refusal) {plan keys : List ℕ} {cells : List ℤ} → v ≡ Err why
       → plan ≡ repeated n 0 → keys ≡ repeated m 0 → cells ≡ repeated k (pos 0)
-      → opening_with r plan keys cells status seats frames ≡ opening_of (sizes_for n m k t u o) file workers
-  unfolding refused_run
-  open_refused why r {plan} {keys} {cells} h made planned keyed celled =
-      ap (λ (x : Opened). opening_with x plan keys cells status seats frames) made
-      ∙ same_run (Err why) 0 0 0 0 0 0 0 plan (repeated n 0) keys (repeated m 0) cells (repeated k (pos 0)) status (repeated t 0) seats (repeated u 0)
-      frames (repeated o (pos 0)) refl refl refl planned keyed celled z.status_zero z.seats_zero z.frames_zero
+      → opening_with (Err why) plan keys cells status seats frames ≡ opening_of (sizes_for n m k t u o) file workers
+  open_refused why h planned keyed celled =
+      refused_left (sizes_for n m k t u o) why planned keyed celled z
       ∙ sym (opening_refused (sizes_for n m k t u o) file workers why (sym tested_as ∙ h))
 
   -- Where these tests pass, the buffers are large enough.
@@ -220,18 +230,29 @@ module _ (n m k t u o : ℕ) (file : List ℕ) (workers : ℕ) (status seats : L
     pub plan_large : {size : ℕ} → size ≡ n → fixed_sizes.plan ≤ size
     plan_large kept = rw kept (large_plan (sizes_for n m k t u o) large_is)
 
-    -- 1 to 12, and the accepted block.
-    pub open_passed : (p : Prepared) (plan' keys' : List ℕ) (cells' : List ℤ) (waits : List ℕ) (r : Opened)
-        → preparing p plan' keys' cells' ≡ prepared_of (room_of n m k) file
-        → waits ≡ waits_set plan' p.calls status
-        → r ≡ opened_by p workers p.verdict
-        → opening_with r plan' keys' cells' waits seats frames ≡ opening_of (sizes_for n m k t u o) file workers
-    open_passed p plan' keys' cells' waits r e w made =
-        ap (λ (x : Opened). opening_with x plan' keys' cells' waits seats frames) made
-        ∙ prepared_run (sizes_for n m k t u o) workers p plan' keys' cells' status seats frames (prepared_in (sizes_for n m k t u o) file)
-        (e ∙ prepared_large (sizes_for n m k t u o) file large_is)
-        (read_zero (room_of n m k) file (read_block file)) z waits w
-        ∙ sym (opening_passed (sizes_for n m k t u o) file workers passed)
+    module _ (plan' keys' : List ℕ) (cells' : List ℤ) where
+      -- 1 to 12, handed on.
+      pub open_unread : (r : Result Head Refusal) (why : Refusal) → IsErrAnd r (λ e. e ≡ why)
+          → preparing (Err why) plan' keys' cells' ≡ prepared_of (room_of n m k) file
+          → opening_with r plan' keys' cells' status seats frames ≡ opening_of (sizes_for n m k t u o) file workers
+      open_unread (Ok head) why told e = absurd told
+      open_unread (Err handed) why told e =
+          unprepared_run (sizes_for n m k t u o) workers plan' keys' cells' status seats frames (prepared_in (sizes_for n m k t u o) file) z handed
+          (ap (λ (x : Refusal). preparing (Err x) plan' keys' cells') told ∙ e ∙ prepared_large (sizes_for n m k t u o) file large_is)
+          (read_zero (room_of n m k) file (read_block file))
+          ∙ sym (opening_passed (sizes_for n m k t u o) file workers passed)
+
+      -- The accepted block.
+      pub open_passed : (p : Prepared) (waits : List ℕ) {head : Head}
+          → preparing (Ok p) plan' keys' cells' ≡ prepared_of (room_of n m k) file
+          → waits ≡ waits_set plan' p.calls status
+          → head ≡ head_of workers p.calls p.cells p.first_call
+          → opening_with (Ok head) plan' keys' cells' waits seats frames ≡ opening_of (sizes_for n m k t u o) file workers
+      open_passed p waits e w made =
+          ap (λ (h : Head). opening_with (Ok h) plan' keys' cells' waits seats frames) made
+          ∙ prepared_run (sizes_for n m k t u o) workers plan' keys' cells' status seats frames (prepared_in (sizes_for n m k t u o) file) z p waits
+          (e ∙ prepared_large (sizes_for n m k t u o) file large_is) w
+          ∙ sym (opening_passed (sizes_for n m k t u o) file workers passed)
 
 -- An accepted block is opened in buffers that are large enough.
 large_answer : (a b : Bool) (s : Sizes) (x : machine.Opened)
@@ -248,7 +269,7 @@ accepted_large s file workers e =
     (open_prepared s workers (prepared_in s file) (prepared_in s file).verdict) e)
 
 -- Equal answers have equal numbers and offsets.
-pub opened_as : {r : Opened} {plan keys : List ℕ} {cells : List ℤ} {status seats : List ℕ} {frames : List ℤ} {o : machine.Opened}
+pub opened_as : {r : Result Head Refusal} {plan keys : List ℕ} {cells : List ℤ} {status seats : List ℕ} {frames : List ℤ} {o : machine.Opened}
     → opening_with r plan keys cells status seats frames ≡ o → OpenedAs r plan keys cells status seats frames o
 opened_as e =
     record {

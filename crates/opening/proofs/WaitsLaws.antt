@@ -2,17 +2,22 @@
 use mathlib.Core.Path.{◌≡◌, refl, sym, ap, ap₂, ◌∙◌}
 use mathlib.Core.Bool.{Bool, true, false, cond, ◌&&◌, not}
 use mathlib.Core.List.{List}
-use Prim.Native.Nat.{ℕ, zero, suc, ◌+◌, ◌*◌}
+use Prim.Native.Nat.{ℕ, zero, suc, ◌+◌, ◌*◌, ◌≤◌, ◌<◌}
 use native.Mathlib.Numerals.{add-one}
 use native.Mathlib.Omega.{arith}
 use lib.Dec.{eqb}
-use lib.ListN.{length, set}
+use lib.ListN.{length, set, take, length-take}
+use lib.Seq.{take_all}
+use native.Mathlib.Decide.{dec_le}
+use Rattle.wire.specs.RowOps.{row_from}
+use Rattle.wire.proofs.RowLaws.{row_part, row_stands}
+use Rattle.block.specs.Limits.{max_calls}
 use Rattle.wire.specs.Bytes.{repeated}
 use Rattle.wire.specs.Rows.{bit, in_row}
 use Rattle.wire.specs.RowOps.{count_of}
 use Rattle.wire.proofs.BytesLaws.{repeated_at}
 use Rattle.schedule.specs.Tally.{unfinished_earlier}
-use Rattle.machine.specs.Run.{status_words, state_word, state_of, wait_word, finished, row_in, with_wait}
+use Rattle.machine.specs.Run.{status_words, state_word, state_of, wait_word, finished, fixed_sizes, row_in, with_wait}
 use Rattle.machine.specs.Waits.{named_in, finished_in, counted_waits, each_wait, waits_set}
 
 -- Where none is done, each earlier conflicting call counts.
@@ -27,6 +32,20 @@ unfolding count_of unfinished_earlier
 count_undone before done none call zero = refl
 count_undone before done none call (suc m) =
     ap₂ (λ (a b : ℕ). a + b) (one_more (before m call) (done m) (none m)) (count_undone before done none call m)
+
+-- A row is read from its words, whatever stands behind them.
+pub row_front : (ws : List ℕ) → row_from (take 4 ws) ≡ row_from ws
+row_front ws = go (dec_le 4 (length ws))
+  where
+    go : Dec (4 ≤ length ws) → row_from (take 4 ws) ≡ row_from ws
+    go (yes h) =
+        let long : 4 ≡ length (take 4 ws) = simp length-take (omega arith) in
+        row_stands (take 4 ws) (omega (arith, long)) ∙ take_all 4 (take 4 ws) (omega (arith, long)) ∙ sym (row_stands ws h)
+    go (no h) = ap row_from (take_all 4 ws (omega arith))
+
+-- A plan that is long enough has the rows of all calls.
+pub row_there : (plan : List ℕ) (call : ℕ) → fixed_sizes.plan ≤ length plan → call < max_calls → row_from (row_in plan call) ≡ row_in plan call
+row_there plan call h l = row_part plan (32 * call + 27) 4 refl (omega arith)
 
 module _ (plan status : List ℕ) (z : status ≡ repeated (length status) 0) where
   none_finished : (i : ℕ) → finished_in status i ≡ false

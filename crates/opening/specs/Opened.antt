@@ -5,33 +5,30 @@ use Rattle.block.specs.Limits.{max_workers}
 use Rattle.block.specs.Refusal.{verdict_number, verdict_offset}
 use Rattle.block.specs.declared.Refusal.{Refusal}
 use Rattle.block.specs.declared.Refusal.TheVariants.{Workers, Buffers}
-use Rattle.analysis.specs.declared.Prepared.{Prepared}
-use Rattle.machine.specs.Opening as machine
-use Rattle.machine.specs.Opening.{head_of}
+use Rattle.machine.specs.Opening.{Opened, head_of}
+use Rattle.machine.specs.declared.Head.{Head}
 use Rattle.machine.specs.Run.{Sizes}
-use Rattle.opening.specs.declared.Opened.{Opened}
 
 abbrev pub sizes_for : (plan keys cells status seats frames : ℕ) → Sizes
 sizes_for plan keys cells status seats frames =
     record { plan = plan; keys = keys; cells = cells; status = status; seats = seats; frames = frames }
 
+-- The verdict of an answer, and the head of its run, all zero if it is refused.
+abbrev pub verdict_of : Result Head Refusal → Result (Unit {0}) Refusal
+verdict_of (Ok head) = Ok tt
+verdict_of (Err why) = Err why
+
+abbrev pub head_with : Result Head Refusal → Head
+head_with (Ok head) = head
+head_with (Err why) = head_of 0 0 0 0
+
 -- An answer with the buffers.
-abbrev pub opening_with : Opened → List ℕ → List ℕ → List ℤ → List ℕ → List ℕ → List ℤ → machine.Opened
+abbrev pub opening_with : Result Head Refusal → List ℕ → List ℕ → List ℤ → List ℕ → List ℕ → List ℤ → Opened
 opening_with r plan keys cells status seats frames =
     record {
-      answer = r.verdict;
-      run = record { head = r.head; plan = plan; keys = keys; cells = cells; status = status; seats = seats; frames = frames };
+      answer = verdict_of r;
+      run = record { head = head_with r; plan = plan; keys = keys; cells = cells; status = status; seats = seats; frames = frames };
     }
-
--- The answer of a refusal.
-abbrev pub opened_none : Refusal → Opened
-opened_none why = record { verdict = Err why; head = head_of 0 0 0 0 }
-
--- The answer of a block that is prepared.
-unfoldable pub opened_by : Prepared → ℕ → Result (Unit {0}) Refusal → Opened
-opened_by p workers (Err why) = opened_none why
-opened_by p workers (Ok tt) =
-    record { verdict = (Ok tt); head = head_of workers p.calls p.cells p.first_call }
 
 -- "20 (below; here with offset 0 and buffers zero), 13": what is tested before the block is read.
 unfoldable pub tested_for : (large : Bool) → (workers : ℕ) → Result (Unit {0}) Refusal
@@ -43,7 +40,7 @@ tested_for large workers =
     else (Ok tt)
 
 -- The answer and the buffers are the definition's, and so are the verdict's number and offset.
-pub record OpenedAs (r : Opened) (plan keys : List ℕ) (cells : List ℤ) (status seats : List ℕ) (frames : List ℤ) (o : machine.Opened) : Type 0 where
+pub record OpenedAs (r : Result Head Refusal) (plan keys : List ℕ) (cells : List ℤ) (status seats : List ℕ) (frames : List ℤ) (o : Opened) : Type 0 where
   pub same : opening_with r plan keys cells status seats frames ≡ o
-  pub number : verdict_number r.verdict ≡ verdict_number o.answer
-  pub offset : verdict_offset r.verdict ≡ verdict_offset o.answer
+  pub number : verdict_number (verdict_of r) ≡ verdict_number o.answer
+  pub offset : verdict_offset (verdict_of r) ≡ verdict_offset o.answer

@@ -3,26 +3,19 @@
 
 ghost use Rattle.std.specs.Prelude.{◌≡◌, ◌≤◌, ◌<◌, pos, length};
 ghost use Rattle.wire.specs.Bytes.{repeated};
+ghost use Rattle.wire.specs.RowOps.{row_from};
 ghost use Rattle.block.specs.Limits.{max_calls};
 ghost use Rattle.machine.specs.Run.{fixed_sizes, row_in};
 ghost use Rattle.machine.specs.Waits.{waits_set};
 ghost use Rattle.machine.specs.Opening.{head_of, opening_of};
-ghost use Rattle.opening.specs.Opened.{sizes_for, OpenedAs, tested_for, opened_by, opened_none};
+ghost use Rattle.opening.specs.Opened.{sizes_for, OpenedAs, tested_for};
 
-use analysis::Prepared;
-use block::limits::MAX_WORKERS;
 use block::Refusal;
+use block::limits::MAX_WORKERS;
 use footprint::layout::{FIRST_ROW_WORD, PLAN_WORDS};
 use machine::Head;
 use machine::layout::{STATUS_WORDS, WAIT_WORD, large_enough};
 use wire::ROW_WORDS;
-
-// What a block is opened to: its verdict, and the head of its run, all zero if it is refused.
-#[derive(Clone, Copy)]
-pub struct Opened {
-    pub verdict: Result<(), Refusal>,
-    pub head: Head,
-}
 
 // A head whose workers hold no call.
 fn idle_head(workers: usize, calls: usize, cells: usize, start: usize) -> Head
@@ -34,29 +27,6 @@ fn idle_head(workers: usize, calls: usize, cells: usize, start: usize) -> Head
         cells,
         first_call: start,
         held: [0; MAX_WORKERS],
-    }
-}
-
-// What is answered of a refused block.
-pub fn refused(why: Refusal) -> Opened
-    ensures { result ≡ opened_none why }
-{
-    Opened {
-        verdict: Err(why),
-        head: idle_head(0, 0, 0, 0),
-    }
-}
-
-// What is answered of a block that is prepared.
-fn answered(p: Prepared, workers: usize) -> Opened
-    ensures { result ≡ opened_by p workers p.verdict }
-{
-    match p.verdict {
-        Err(why) => refused(why),
-        Ok(()) => Opened {
-            verdict: Ok(()),
-            head: idle_head(workers, p.calls, p.cells, p.first_call),
-        },
     }
 }
 
@@ -95,14 +65,12 @@ pub fn clear_prepared(plan: &mut [u64], keys: &mut [u64], cells: &mut [i64])
     wire::clear(cells, 0);
 }
 
-// The row of a call's earlier conflicting calls.
-pub fn row_of(plan: &[u64], call: usize) -> [u64; ROW_WORDS]
-    requires call_lt_max_calls { call < max_calls }
-    requires plan_in_bounds { fixed_sizes.plan ≤ length plan.now }
-    ensures { result ≡ row_in plan.now call }
+// The row of a call's earlier conflicting calls; zero in a plan that is too short for it.
+pub fn row_of(plan: &[u64], call: u8) -> [u64; ROW_WORDS]
+    ensures { result ≡ row_from (row_in plan.now call) }
 {
-    let at = PLAN_WORDS * call + FIRST_ROW_WORD;
-    wire::row_from(&plan[at..at + ROW_WORDS])
+    let at = PLAN_WORDS * call as usize + FIRST_ROW_WORD;
+    wire::row_from(&plan[at.min(plan.len())..])
 }
 
 // Each call carries the number of its earlier conflicting calls; none is finished.
@@ -113,13 +81,13 @@ fn set_waits(plan: &[u64], calls: usize, status: &mut [u64])
     ensures { status.new ≡ waits_set plan.now calls status.old }
 {
     for call in 0..calls {
-        let count = wire::row_count(row_of(plan, call), call);
+        let count = wire::row_count(row_of(plan, call as u8), call);
         wire::put(status, STATUS_WORDS * call + WAIT_WORD, count);
     }
 }
 
-// The run of a block for 1 to 8 workers, every call waiting: 20 if a buffer is too short, then 13, then 1 to 12. The head and the buffers
-// are zero if it is refused.
+// The head of a block's run for 1 to 8 workers, every call waiting; or its refusal: 20 if a buffer is too short, then 13, then 1 to 12. The
+// buffers are zero if it is refused.
 pub fn open(
     file: &[u8],
     workers: usize,
@@ -129,7 +97,7 @@ pub fn open(
     status: &mut [u64],
     seats: &mut [u64],
     frames: &mut [i64],
-) -> Opened
+) -> Result<Head, Refusal>
     ensures { OpenedAs result plan.new keys.new cells.new status.new seats.new
         frames.new
         (opening_of
@@ -145,15 +113,11 @@ pub fn open(
         seats.len(),
         frames.len(),
     );
-    match tested(large, workers) {
-        Err(why) => {
-            clear_prepared(plan, keys, cells);
-            refused(why)
-        }
-        Ok(()) => {
-            let p = analysis::prepare(file, plan, keys, cells);
-            set_waits(plan, p.calls, status);
-            answered(p, workers)
-        }
+    if let Err(why) = tested(large, workers) {
+        clear_prepared(plan, keys, cells);
+        return Err(why);
     }
+    let p = analysis::prepare(file, plan, keys, cells)?;
+    set_waits(plan, p.calls, status);
+    Ok(idle_head(workers, p.calls, p.cells, p.first_call))
 }

@@ -4,21 +4,21 @@ use Rattle.analysis.proofs.prepare.Goals as goal
 
 pub returns-then-not-room_enough : goal.returns-then-not-room_enough
 returns-then-not-room_enough c =
-    let p = c.clear_words in
-    let k = c.clear_words-2 in
-    let v = c.clear_values in
-    prepared_short c.args.file.now _ _ _ p.new.words k.new.words v.new.values _ _ p.auto.words k.auto.words v.auto.values p.ensures k.ensures v.ensures c.room_enough.ensures c.if-not-room_enough.true c.refused.ensures
+    let p = c.clear in
+    let k = c.clear-2 in
+    let v = c.clear-3 in
+    prepared_short c.args.file.now _ _ _ p.new.s k.new.s v.new.s _ p.auto.s k.auto.s v.auto.s p.ensures k.ensures v.ensures c.room_enough.ensures c.if-not-room_enough.true
 
 pub prepare_read-requires : goal.prepare_read-requires
 prepare_read-requires c =
-    let p = c.clear_words in
-    let k = c.clear_words-2 in
-    let v = c.clear_values in
-    room_blank _ _ _ p.new.words k.new.words v.new.values _ p.auto.words k.auto.words v.auto.values p.ensures k.ensures v.ensures c.room_enough.ensures c.if-not-room_enough.false
+    let p = c.clear in
+    let k = c.clear-2 in
+    let v = c.clear-3 in
+    room_blank _ _ _ p.new.s k.new.s v.new.s _ p.auto.s k.auto.s v.auto.s p.ensures k.ensures v.ensures c.room_enough.ensures c.if-not-room_enough.false
 
 pub returns : goal.returns
 returns c =
-    let p = c.clear_words in
-    let k = c.clear_words-2 in
-    let v = c.clear_values in
-    prepared_read c.args.file.now _ _ _ p.new.words k.new.words v.new.values _ _ p.auto.words k.auto.words v.auto.values c.room_enough.ensures c.if-not-room_enough.false c.prepare_read.ensures
+    let p = c.clear in
+    let k = c.clear-2 in
+    let v = c.clear-3 in
+    prepared_read c.args.file.now _ _ _ p.new.s k.new.s v.new.s _ _ p.auto.s k.auto.s v.auto.s c.room_enough.ensures c.if-not-room_enough.false c.prepare_read.ensures

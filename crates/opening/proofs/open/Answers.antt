@@ -1,9 +1,8 @@
 -- `opening::open` meets its contract: status, seats and frames are zero before anything is tested; a refusal clears the rest, and else the block is prepared in it
 -- and the calls' numbers are set.
-use mathlib.Core.Path.{◌∙◌}
 use lib.ListN.{length}
 use Rattle.opening.specs.Opened.{sizes_for}
-use Rattle.opening.proofs.Laws.{StatesCleared, calls_few, still_zero, open_refused, plan_large, open_passed, opened_as}
+use Rattle.opening.proofs.Laws.{StatesCleared, calls_few, still_zero, open_refused, plan_large, open_unread, open_passed, opened_as, not_err}
 use Rattle.opening.proofs.open.Goals.{After-clear_states}
 use Rattle.opening.proofs.open.Goals as goal
 
@@ -25,26 +24,32 @@ states c =
 pub set_waits-requires : goal.set_waits-requires
 set_waits-requires c =
     let a = c.args in
-    let large =
-    plan_large _ _ _ _ _ _ a.file.now a.workers _ _ _ (states (goal.at.set_waits-requires c).After-clear_states) _ c.large_enough-large.ensures _ c.tested.ensures c.in-Ok.is
-    c.prepare-p.auto.plan in
-    record { calls_le_max_calls = calls_few _ _ _ _ _ _ c.prepare-p.ensures; plan_in_bounds = large; status_value = still_zero _ _ _ _ (states (goal.at.set_waits-requires c).After-clear_states) }
+    let z = states (goal.at.set_waits-requires c).After-clear_states in
+    record {
+      calls_le_max_calls = calls_few _ _ _ _ _ _ c.in_ok-p.ensures;
+      plan_in_bounds = plan_large _ _ _ _ _ _ a.file.now a.workers _ _ _ z _ c.large_enough-large.ensures _ c.tested.ensures (not_err _ c.in_default.not-Err) c.prepare.auto.plan;
+      status_value = still_zero _ _ _ _ z;
+    }
 
 pub returns-in-Err : goal.returns-in-Err
 returns-in-Err c =
     let a = c.args in
-    opened_as
-    (open_refused _ _ _ _ _ _ a.file.now a.workers _ _ _
-    (states (goal.at.returns-in-Err c).After-clear_states)
-    _ c.large_enough-large.ensures _ c.tested.ensures _ _ c.in-Err.is c.refused.ensures c.clear_prepared.ensures.plan_after c.clear_prepared.ensures.keys_after c.clear_prepared.ensures.cells_after)
+    let z = states (goal.at.returns-in-Err c).After-clear_states in
+    let e = c.clear_prepared.ensures in
+    opened_as (open_refused _ _ _ _ _ _ a.file.now a.workers _ _ _ z _ c.large_enough-large.ensures _ c.tested.ensures _ c.in-Err.is e.plan_after e.keys_after e.cells_after)
 
-pub shape_of-status-in-Ok : goal.shape_of-status-in-Ok
-shape_of-status-in-Ok c =
-    c.set_waits.auto.status ∙ c.clear_states.auto.status
-
-pub returns-in-Ok : goal.returns-in-Ok
-returns-in-Ok c =
+pub returns-in_err-p : goal.returns-in_err-p
+returns-in_err-p c =
     let a = c.args in
+    let z = states (goal.at.returns-in_err-p c).After-clear_states in
     opened_as
-    (open_passed _ _ _ _ _ _ a.file.now a.workers _ _ _ (states (goal.at.returns-in-Ok c).After-clear_states)
-    _ c.large_enough-large.ensures _ c.tested.ensures c.in-Ok.is _ _ _ _ _ _ c.prepare-p.ensures c.set_waits.ensures c.answered.ensures)
+    (open_unread _ _ _ _ _ _ a.file.now a.workers _ _ _ z _ c.large_enough-large.ensures _ c.tested.ensures (not_err _ c.in_default.not-Err) _ _ _
+    c.from_residual.result _ c.from_residual.ensures.1 c.in_err-p.ensures)
+
+pub returns : goal.returns
+returns c =
+    let a = c.args in
+    let z = states (goal.at.returns c).After-clear_states in
+    opened_as
+    (open_passed _ _ _ _ _ _ a.file.now a.workers _ _ _ z _ c.large_enough-large.ensures _ c.tested.ensures (not_err _ c.in_default.not-Err) _ _ _
+    c.in_ok-p.p _ c.in_ok-p.ensures c.set_waits.ensures c.idle_head.ensures)

@@ -1,11 +1,16 @@
--- `opening::row_of` meets its contract: the row stands in the plan.
-use mathlib.Core.Path.{◌∙◌}
-use Prim.Native.Nat.{◌+◌, ◌-◌, ◌*◌}
-use native.Mathlib.Omega.{arith}
-use Rattle.wire.proofs.RowLaws.{row_part}
+-- `opening::row_of` meets its contract: the first words of the rest of the plan are the row.
+use mathlib.Core.Path.{ap, sym, ◌∙◌}
+use lib.ListN.{drop}
+use Prim.Native.Nat.{ℕ, ◌+◌, ◌*◌}
+use Rattle.std.proofs.lemmas.List.{drop_min}
+use Rattle.wire.specs.RowOps.{row_from}
+use Rattle.wire.proofs.ListLaws.{to_the_end}
+use Rattle.opening.proofs.WaitsLaws.{row_front}
 use Rattle.opening.proofs.row_of.Goals as goal
 
 pub returns : goal.returns
 returns c =
     let at = 32 * c.args.call + 27 in
-    c.row_from.ensures ∙ row_part c.args.plan.now at (at + 4 - at) (omega arith) (omega (arith, c.requires.call_lt_max_calls, c.requires.plan_in_bounds))
+    let plan = c.args.plan.now in
+    c.row_from.ensures
+    ∙ ap row_from (to_the_end plan c.min.result ∙ ap (λ (n : ℕ). drop n plan) c.min.ensures ∙ drop_min at plan) ∙ sym (row_front (drop at plan))
