@@ -4,4 +4,4 @@ use Rattle.closing.proofs.records.put_key.Goals as goal
 
 pub returns : goal.returns
 returns c =
-    key_behind c.args.output.now c.args.at c.args.high c.args.low c.write_le.ensures c.write_le-2.ensures c.write_le.ensures c.write_le-2.ensures
+    key_behind c.args.output.now c.args.at c.args.high c.args.low c.write_le.ensures c.write_le-2.ensures c.write_le-3.ensures c.write_le-4.ensures
