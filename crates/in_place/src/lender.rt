@@ -1,11 +1,10 @@
 // BEGIN, STEP and CANCEL by value, made on a head of their own that they lend: the contracts are those of `moves`.
 ghost use Rattle.std.specs.Prelude.{◌≡◌};
 ghost use Rattle.machine.specs.Moves.{begin_of, cancel_of, step_of};
-ghost use Rattle.moves.specs.Lent.{lent, moved};
+ghost use Rattle.moves.specs.Lent.{lent, moved_by};
 
 use crate::{begin_in, cancel_in, step_in};
-use machine::Head;
-use moves::Reply;
+use machine::{Answer, Head};
 
 // BEGIN(worker, call), by `begin_in`.
 pub fn begin_lending(
@@ -18,17 +17,17 @@ pub fn begin_lending(
     frames: &mut [i64],
     worker: usize,
     call: usize,
-) -> Reply
-    ensures { moved result.answer
-        (lent result.head plan.now keys.now cells.now status.new seats.new frames.new)
+) -> Result<Head, Answer>
+    ensures { moved_by head result
+        (λ h. lent h plan.now keys.now cells.now status.new seats.new frames.new)
         ≡ begin_of
         (lent head plan.now keys.now cells.now status.old seats.old
         frames.old) worker call }
 {
-    let answer = begin_in(
+    begin_in(
         &mut head, plan, keys, cells, status, seats, frames, worker, call,
-    );
-    Reply { head, answer }
+    )?;
+    Ok(head)
 }
 
 // STEP(worker), by `step_in`.
@@ -42,17 +41,17 @@ pub fn step_lending(
     seats: &mut [u64],
     frames: &mut [i64],
     worker: usize,
-) -> Reply
-    ensures { moved result.answer
-        (lent result.head plan.now keys.now cells.new status.new seats.new frames.new)
+) -> Result<Head, Answer>
+    ensures { moved_by head result
+        (λ h. lent h plan.now keys.now cells.new status.new seats.new frames.new)
         ≡ step_of block.now
         (lent head plan.now keys.now cells.old status.old seats.old
         frames.old) worker }
 {
-    let answer = step_in(
+    step_in(
         &mut head, block, plan, keys, cells, status, seats, frames, worker,
-    );
-    Reply { head, answer }
+    )?;
+    Ok(head)
 }
 
 // CANCEL(worker), by `cancel_in`.
@@ -65,13 +64,13 @@ pub fn cancel_lending(
     seats: &[u64],
     frames: &[i64],
     worker: usize,
-) -> Reply
-    ensures { moved result.answer
-        (lent result.head plan.now keys.now cells.new status.new seats.now frames.now)
+) -> Result<Head, Answer>
+    ensures { moved_by head result
+        (λ h. lent h plan.now keys.now cells.new status.new seats.now frames.now)
         ≡ cancel_of
         (lent head plan.now keys.now cells.old status.old seats.now
         frames.now) worker }
 {
-    let answer = cancel_in(&mut head, plan, keys, cells, status, seats, frames, worker);
-    Reply { head, answer }
+    cancel_in(&mut head, plan, keys, cells, status, seats, frames, worker)?;
+    Ok(head)
 }

@@ -4,7 +4,7 @@
 
 pub mod lender;
 
-ghost use Rattle.std.specs.Prelude.{◌≡◌};
+ghost use Rattle.std.specs.Prelude.{◌≡◌, OnErr};
 ghost use Rattle.machine.specs.Moves.{begin_of, cancel_of, step_of};
 ghost use Rattle.moves.specs.Lent.{lent, moved};
 
@@ -24,20 +24,20 @@ pub fn begin_in(
     frames: &mut [i64],
     worker: usize,
     call: usize,
-) -> Answer
-    ensures { moved result
+) -> Result<(), Answer>
+    ensures made { moved result
         (lent head.new plan.now keys.now cells.now status.new seats.new
         frames.new)
         ≡ begin_of
         (lent head.old plan.now keys.now cells.now status.old seats.old
         frames.old)
         worker call }
+    ensures kept { OnErr result (head.new ≡ head.old) }
 {
-    let begun = begin(
+    *head = begin(
         *head, plan, keys, cells, status, seats, frames, worker, call,
-    );
-    *head = begun.head;
-    begun.answer
+    )?;
+    Ok(())
 }
 
 // STEP(worker): the answer; the head, the cells, the status, the seats and the frames are changed in place, and nothing on refusal.
@@ -51,20 +51,20 @@ pub fn step_in(
     seats: &mut [u64],
     frames: &mut [i64],
     worker: usize,
-) -> Answer
-    ensures { moved result
+) -> Result<(), Answer>
+    ensures made { moved result
         (lent head.new plan.now keys.now cells.new status.new seats.new
         frames.new)
         ≡ step_of block.now
         (lent head.old plan.now keys.now cells.old status.old seats.old
         frames.old)
         worker }
+    ensures kept { OnErr result (head.new ≡ head.old) }
 {
-    let stepped = step(
+    *head = step(
         *head, block, plan, keys, cells, status, seats, frames, worker,
-    );
-    *head = stepped.head;
-    stepped.answer
+    )?;
+    Ok(())
 }
 
 // CANCEL(worker): the answer; the head, the cells and the status are changed in place, and nothing on refusal.
@@ -77,16 +77,16 @@ pub fn cancel_in(
     seats: &[u64],
     frames: &[i64],
     worker: usize,
-) -> Answer
-    ensures { moved result
+) -> Result<(), Answer>
+    ensures made { moved result
         (lent head.new plan.now keys.now cells.new status.new seats.now
         frames.now)
         ≡ cancel_of
         (lent head.old plan.now keys.now cells.old status.old seats.now
         frames.now)
         worker }
+    ensures kept { OnErr result (head.new ≡ head.old) }
 {
-    let cancelled = cancel(*head, plan, keys, cells, status, seats, frames, worker);
-    *head = cancelled.head;
-    cancelled.answer
+    *head = cancel(*head, plan, keys, cells, status, seats, frames, worker)?;
+    Ok(())
 }

@@ -1,4 +1,5 @@
 -- A step's actions against what the code holds: the accesses as words of keys, and what an action looks at of the view.
+use Rattle.arith.specs.declared.NoResult.TheVariants.{Overflow, ZeroDivisor}
 use Rattle.arith.specs.declared.NoResult.{NoResult}
 use Rattle.block.specs.declared.address.Account.{Account}
 use mathlib.Core.Path.{◌≡◌, refl}

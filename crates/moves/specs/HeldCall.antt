@@ -3,30 +3,29 @@ use Rattle.std.specs.Prelude.{Bool, ◌≡◌, ◌||◌, ℕ, ◌+◌, ◌-◌, 
 use Rattle.std.specs.Prelude.{if◌then◌else◌}
 use Rattle.block.specs.Limits.{max_calls}
 use Rattle.machine.specs.Run.{held_at}
-use Rattle.machine.specs.Moves as definition
 use Rattle.machine.specs.declared.Head.{Head}
 use Rattle.machine.specs.declared.Answer.{Answer}
 use Rattle.machine.specs.declared.Answer.TheVariants.{Damaged, WorkerIdle}
 use Rattle.moves.specs.Tests.{unless_refused, worker_tested}
 use Rattle.moves.specs.declared.Hold.{Hold}
 
-abbrev pub as_held : Result Hold Answer → definition.Held
-as_held (Ok h) = definition.holds h.call
-as_held (Err a) = definition.answered a
+abbrev pub as_held : Result Hold Answer → Result ℕ Answer
+as_held (Ok h) = Ok h.call
+as_held (Err a) = Err a
 
 -- What is held, from the number of calls and what the head has for the worker.
-abbrev pub held_from : ℕ → ℕ → definition.Held
+abbrev pub held_from : ℕ → ℕ → Result ℕ Answer
 held_from calls call =
     if eqb call 0
-    then definition.answered WorkerIdle
+    then Err WorkerIdle
     else if ltb max_calls calls || ltb calls call
-    then definition.answered Damaged
-    else definition.holds (call - 1)
+    then Err Damaged
+    else Ok (call - 1)
 
 -- What is held, behind the tests of the worker.
-abbrev pub held_tested : Bool → Head → (worker : ℕ) → definition.Held
+abbrev pub held_tested : Bool → Head → (worker : ℕ) → Result ℕ Answer
 held_tested large head worker =
-    unless_refused (worker_tested large head.workers worker) definition.answered (held_from head.calls (held_at head worker))
+    unless_refused (worker_tested large head.workers worker) Err (held_from head.calls (held_at head worker))
 
 -- A hold is what this head has for its worker.
 pub record HoldOf (head : Head) (h : Hold) : Type 0 where

@@ -1,18 +1,17 @@
 // BEGIN by value: the tests of the worker, of the call and of the number that it carries, and the change.
-ghost use Rattle.std.specs.Prelude.{◌≡◌, List, ℕ, ◌≤◌, ◌<◌, ℤ, length, IsTrue, OnOk};
+ghost use Rattle.std.specs.Prelude.{◌≡◌, List, ℕ, ◌≤◌, ◌<◌, ℤ, length, IsTrue, Ok, OnOk};
 ghost use Rattle.block.specs.Limits.{max_calls, max_workers};
 ghost use Rattle.machine.specs.Run.{fixed_sizes, state_of};
 ghost use Rattle.machine.specs.Moves.{begin_call, begin_of, call_key_count, stay};
 ghost use Rattle.machine.specs.declared.Head.{Head};
-ghost use Rattle.machine.specs.declared.Answer.TheVariants.{Accepted};
-ghost use Rattle.moves.specs.Lent.{answer_left, head_left, lent, moved};
+ghost use Rattle.moves.specs.Lent.{head_left, lent, moved, moved_by};
 ghost use Rattle.moves.specs.Tests.{unless_refused, head_tested, begin_tested, begin_by_count, FewKeys};
 
+use crate::Hold;
 use crate::entries::{key_count, restorable, save};
-use crate::held::{reply, worker_tested};
+use crate::held::worker_tested;
 use crate::seat::{put_regs, put_seat};
 use crate::waits::wait_of;
-use crate::{Hold, Reply};
 use block::limits::MAX_CALLS;
 use machine::layout::{FINISHED, REGISTERS, RUNNING, STATUS_WORDS, WAITING, large_enough};
 use machine::{Answer, Head};
@@ -63,7 +62,7 @@ fn call_tested(plan: &[u64], status: &[u64], call: usize) -> Result<(), Answer>
     requires plan_in_bounds { fixed_sizes.plan ≤ length plan.now }
     ensures call_value { (head : Head) (keys : List ℕ) (cells : List ℤ) (seats : List ℕ) (frames : List ℤ) (worker : ℕ)
         → unless_refused result (stay (lent head plan.now keys cells status.now seats frames))
-        (moved Accepted (begin_call (lent head plan.now keys cells status.now seats frames) worker call))
+        (moved (Ok tt) (begin_call (lent head plan.now keys cells status.now seats frames) worker call))
         ≡ begin_by_count (lent head plan.now keys cells status.now seats frames) worker call }
     ensures few_keys { FewKeys result (call_key_count plan.now call) }
 {
@@ -102,9 +101,8 @@ fn begin_call(
     requires plan_in_bounds { fixed_sizes.plan ≤ length plan.now }
     requires frames_in_bounds { fixed_sizes.frames ≤ length frames.old }
     ensures { (head : Head) (keys : List ℕ)
-        → moved (answer_left result)
-        (lent (head_left head hold.worker result) plan.now keys cells.now status.new seats.new
-        frames.new)
+        → moved_by head (head_left head hold.worker result)
+        (λ h. lent h plan.now keys cells.now status.new seats.new frames.new)
         ≡ begin_by_count
         (lent head plan.now keys cells.now status.old seats.old frames.old) hold.worker
         hold.call }
@@ -131,10 +129,9 @@ pub fn begin(
     frames: &mut [i64],
     worker: usize,
     call: usize,
-) -> Reply
-    ensures { moved result.answer
-        (lent result.head plan.now keys.now cells.now status.new seats.new
-        frames.new)
+) -> Result<Head, Answer>
+    ensures { moved_by head result
+        (λ h. lent h plan.now keys.now cells.now status.new seats.new frames.new)
         ≡ begin_of
         (lent head plan.now keys.now cells.now status.old seats.old
         frames.old) worker call }
@@ -147,14 +144,12 @@ pub fn begin(
         seats.len(),
         frames.len(),
     );
-    if let Err(answer) = begin_tested(&head, large, worker, call) {
-        return Reply { head, answer };
-    }
+    begin_tested(&head, large, worker, call)?;
     let hold = Hold {
         worker,
         call,
         calls: head.calls,
     };
-    let left = begin_call(hold, plan, cells, status, seats, frames);
-    reply(head, hold, left)
+    let held = begin_call(hold, plan, cells, status, seats, frames)?;
+    Ok(hold.head_left(head, held))
 }

@@ -3,10 +3,10 @@ ghost use Rattle.std.specs.Prelude.{◌≡◌, List, ℕ, ◌≤◌, length};
 ghost use Rattle.machine.specs.Run.{fixed_sizes};
 ghost use Rattle.machine.specs.Moves.{cancel_held, cancel_of};
 ghost use Rattle.machine.specs.declared.Head.{Head};
-ghost use Rattle.moves.specs.Lent.{answer_left, head_left, lent, moved};
+ghost use Rattle.moves.specs.Lent.{head_left, lent, moved_by};
 
-use crate::held::{give_back, held_call, reply};
-use crate::{Hold, Reply};
+use crate::Hold;
+use crate::held::{give_back, held_call};
 use machine::layout::{STATUS_WORDS, WAITING, large_enough};
 use machine::{Answer, Head};
 
@@ -22,8 +22,8 @@ fn cancel_held(
     requires plan_in_bounds { fixed_sizes.plan ≤ length plan.now }
     requires frames_in_bounds { fixed_sizes.frames ≤ length frames.now }
     ensures { (head : Head) (keys seats : List ℕ)
-        → moved (answer_left result)
-        (lent (head_left head hold.worker result) plan.now keys cells.new status.new seats frames.now)
+        → moved_by head (head_left head hold.worker result)
+        (λ h. lent h plan.now keys cells.new status.new seats frames.now)
         ≡ cancel_held (lent head plan.now keys cells.old status.old seats frames.now) hold.worker
         hold.call }
 {
@@ -43,10 +43,9 @@ pub fn cancel(
     seats: &[u64],
     frames: &[i64],
     worker: usize,
-) -> Reply
-    ensures { moved result.answer
-        (lent result.head plan.now keys.now cells.new status.new seats.now
-        frames.now)
+) -> Result<Head, Answer>
+    ensures { moved_by head result
+        (λ h. lent h plan.now keys.now cells.new status.new seats.now frames.now)
         ≡ cancel_of
         (lent head plan.now keys.now cells.old status.old seats.now
         frames.now) worker }
@@ -59,11 +58,7 @@ pub fn cancel(
         seats.len(),
         frames.len(),
     );
-    match held_call(&head, large, worker) {
-        Ok(hold) => {
-            let left = cancel_held(hold, plan, cells, status, frames);
-            reply(head, hold, left)
-        }
-        Err(answer) => Reply { head, answer },
-    }
+    let hold = held_call(&head, large, worker)?;
+    let held = cancel_held(hold, plan, cells, status, frames)?;
+    Ok(hold.head_left(head, held))
 }

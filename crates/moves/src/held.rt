@@ -1,16 +1,15 @@
-// What the moves test first, and the reply that they end with.
+// What the moves test first, and the head that they end with.
 ghost use Rattle.std.specs.Prelude.{◌≡◌, ◌+◌, ◌≤◌, ◌<◌, length, IsTrue, IfOk, OnOk, OnErr};
 ghost use Rattle.block.specs.Limits.{max_workers};
-ghost use Rattle.machine.specs.Run.{fixed_sizes};
+ghost use Rattle.machine.specs.Run.{fixed_sizes, with_held};
 ghost use Rattle.machine.specs.Step.{restored};
 ghost use Rattle.machine.specs.Moves.{own_entries};
 ghost use Rattle.moves.specs.HeldCall.{as_held, held_tested, HoldOf};
-ghost use Rattle.moves.specs.Lent.{answer_left, head_left};
 ghost use Rattle.moves.specs.Tests.{worker_tested, entries_tested};
 ghost use Rattle.moves.specs.Turn.{worker_saved};
 
+use crate::Hold;
 use crate::entries::{key_count, restorable, restore};
-use crate::{Hold, Reply};
 use block::limits::{MAX_CALLS, MAX_WORKERS};
 use machine::{Answer, Head};
 
@@ -20,6 +19,15 @@ impl Hold {
         ensures { result ≡ self.call + 1 }
     {
         self.call as u16 + 1
+    }
+
+    // The head, with what its worker then holds.
+    pub(crate) fn head_left(self, head: Head, held: u16) -> Head
+        ensures { result ≡ with_held head self.worker held }
+    {
+        let mut left = head;
+        left.held[self.worker] = held;
+        left
     }
 }
 
@@ -82,22 +90,4 @@ pub(crate) fn give_back(
     }
     restore(plan, call, n, frames, worker, cells);
     Ok(())
-}
-
-// The reply of a move behind the tests of the head: accepted, with what its worker then holds, or refused, with the head as it was.
-pub(crate) fn reply(head: Head, hold: Hold, left: Result<u16, Answer>) -> Reply
-    ensures answer { result.answer ≡ answer_left left }
-    ensures head_value { result.head ≡ head_left head hold.worker left }
-{
-    match left {
-        Ok(held) => {
-            let mut next = head;
-            next.held[hold.worker] = held;
-            Reply {
-                head: next,
-                answer: Ok(()),
-            }
-        }
-        Err(answer) => Reply { head, answer },
-    }
 }

@@ -16,15 +16,8 @@ pub mod step;
 mod waits;
 
 use key_uses::Uses;
+use machine::Action;
 use machine::layout::REGISTERS;
-use machine::{Action, Answer, Head};
-
-// What a move answers, and the head behind it.
-#[derive(Clone, Copy)]
-pub struct Reply {
-    pub head: Head,
-    pub answer: Answer,
-}
 
 // A worker and the call that it holds, or that BEGIN gives it, in a run of so many calls: what the tests of a move find.
 #[derive(Clone, Copy)]

@@ -45,11 +45,7 @@ fn kept(e: u64, u: KeyUse) -> Option<usize>
     ensures { result
         ≡ (if (not u.reads || entry_reads e) && (not u.writes || entry_writes e) then Some (entry_cell e) else None) }
 {
-    if has_flags(e, u) {
-        Some(cell_of(e))
-    } else {
-        None
-    }
+    has_flags(e, u).then_some(cell_of(e))
 }
 
 // The cell that the entries of a call keep for the key of a use, with the flags that it wants; an entry that is looked at has a cell

@@ -56,9 +56,7 @@ fn load(
         (load_cell site.place site.count regs x (access_of u) cells.now
         (lookup_in plan.now keys.now site.call (access_of u))) }
 {
-    let Some(n) = lookup(plan, keys, site.call, u) else {
-        return None;
-    };
+    let n = lookup(plan, keys, site.call, u)?;
     let v = wire::get_or(cells, n, 0);
     let balance = is_balance(u);
     if balance & (v < 0) {
@@ -86,9 +84,7 @@ fn store(
         (store_cell site.place site.count regs v cells.old
         (lookup_in plan.now keys.now site.call (access_of u))) }
 {
-    let Some(n) = lookup(plan, keys, site.call, u) else {
-        return None;
-    };
+    let n = lookup(plan, keys, site.call, u)?;
     wire::put(cells, n, v);
     Some(site.next(regs))
 }
@@ -144,9 +140,7 @@ fn deposit(
         (deposit_cell site.place site.count regs amount n cells.old
         (lookup_in plan.now keys.now site.call (access_of u))) }
 {
-    let Some(m) = lookup(plan, keys, site.call, u) else {
-        return None;
-    };
+    let m = lookup(plan, keys, site.call, u)?;
     pay_into(cells, site, regs, amount, n, m)
 }
 
@@ -174,9 +168,7 @@ fn transfer(
         (lookup_in plan.now keys.now site.call (access_of uses.first))) }
 {
     let to = uses.second;
-    let Some(n) = lookup(plan, keys, site.call, uses.first) else {
-        return None;
-    };
+    let n = lookup(plan, keys, site.call, uses.first)?;
     let held = wire::get_or(cells, n, 0);
     if held < 0 {
         return None;

@@ -92,9 +92,7 @@ fn due_decoded(
 {
     let index = site.place - 1;
     let acted = act_at(code, INSTR_BYTES * index, index as u16, size, body, regs);
-    let Some(i) = acted.decoded else {
-        return None;
-    };
+    let i = acted.decoded?;
     Some(Due {
         count: site.count + 1,
         uses: step_uses(body, i),

@@ -8,20 +8,20 @@ ghost use Rattle.machine.specs.Step.{finish, step_place};
 ghost use Rattle.machine.specs.Moves.{step_held, step_of, stepped};
 ghost use Rattle.machine.specs.declared.Head.{Head};
 ghost use Rattle.moves.specs.HeldCall.{HoldOf};
-ghost use Rattle.moves.specs.Lent.{answer_left, head_left, lent, moved};
+ghost use Rattle.moves.specs.Lent.{head_left, lent, moved_by};
 ghost use Rattle.moves.specs.Turn.{cell_view, turn_settled, turned, view_in, worker_saved, EntriesReady, SiteInRange};
 
-use crate::held::{give_back, held_call, reply};
+use crate::held::{give_back, held_call};
 use crate::lookup::plan_word;
 use crate::perform::perform;
 use crate::place::due;
 use crate::seat::{count_of, place_of, put_regs, put_seat, regs_of};
 use crate::waits::{can_lower, lower};
-use crate::{Hold, Reply, Site, Turn};
+use crate::{Hold, Site, Turn};
+use block::Call;
 use block::format::{CALL_RECORD_BYTES, HEAD_BYTES};
 use block::limits::MAX_CODE;
 use block::outcomes::THROWN;
-use block::Call;
 use decoder::record::call_at;
 use footprint::layout::CODE_LENGTH;
 use machine::layout::{FINISHED, REGISTERS, STATUS_WORDS, large_enough};
@@ -110,9 +110,7 @@ fn step_held(
     if !in_range(plan, site) {
         return None;
     }
-    let Some(body) = record_of(block, start, call) else {
-        return None;
-    };
+    let body = record_of(block, start, call)?;
     let regs = regs_of(frames, worker);
     step_place(block, plan, keys, cells, site, regs, body)
 }
@@ -143,8 +141,8 @@ fn finish(
     requires plan_in_bounds { fixed_sizes.plan ≤ length plan.now }
     requires frames_in_bounds { fixed_sizes.frames ≤ length frames.now }
     ensures { (head : Head) (keys seats : List ℕ) → hold.calls ≡ head.calls
-        → moved (answer_left result)
-        (lent (head_left head hold.worker result) plan.now keys cells.new status.new seats frames.now)
+        → moved_by head (head_left head hold.worker result)
+        (λ h. lent h plan.now keys cells.new status.new seats frames.now)
         ≡ stepped (lent head plan.now keys cells.old status.old seats frames.now) hold.worker hold.call
         (finish (cell_view plan.now keys hold.call) (worker_saved plan.now frames.now hold.worker hold.call) outcome count
         cells.old) }
@@ -175,9 +173,8 @@ fn settle(
     requires plan_in_bounds { fixed_sizes.plan ≤ length plan.now }
     requires frames_in_bounds { fixed_sizes.frames ≤ length frames.old }
     ensures { (head : Head) (keys : List ℕ) → HoldOf head hold
-        → moved (answer_left result)
-        (lent (head_left head hold.worker result) plan.now keys cells.new status.new seats.new
-        frames.new)
+        → moved_by head (head_left head hold.worker result)
+        (λ h. lent h plan.now keys cells.new status.new seats.new frames.new)
         ≡ turn_settled head plan.now keys cells.old status.old seats.old frames.old
         hold.worker hold.call turn }
 {
@@ -206,10 +203,9 @@ pub fn step(
     seats: &mut [u64],
     frames: &mut [i64],
     worker: usize,
-) -> Reply
-    ensures { moved result.answer
-        (lent result.head plan.now keys.now cells.new status.new seats.new
-        frames.new)
+) -> Result<Head, Answer>
+    ensures { moved_by head result
+        (λ h. lent h plan.now keys.now cells.new status.new seats.new frames.new)
         ≡ step_of block.now
         (lent head plan.now keys.now cells.old status.old seats.old
         frames.old) worker }
@@ -222,21 +218,17 @@ pub fn step(
         seats.len(),
         frames.len(),
     );
-    match held_call(&head, large, worker) {
-        Ok(hold) => {
-            let turn = step_held(
-                hold,
-                head.first_call,
-                block,
-                plan,
-                keys,
-                cells,
-                seats,
-                frames,
-            );
-            let left = settle(hold, plan, cells, status, seats, frames, turn);
-            reply(head, hold, left)
-        }
-        Err(answer) => Reply { head, answer },
-    }
+    let hold = held_call(&head, large, worker)?;
+    let turn = step_held(
+        hold,
+        head.first_call,
+        block,
+        plan,
+        keys,
+        cells,
+        seats,
+        frames,
+    );
+    let held = settle(hold, plan, cells, status, seats, frames, turn)?;
+    Ok(hold.head_left(head, held))
 }

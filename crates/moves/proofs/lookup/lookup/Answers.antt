@@ -1,13 +1,9 @@
 -- `moves::lookup::lookup` meets its contract: the search among all entries goes on from the loop's place.
 use native.Mathlib.Omega.{arith}
 use mathlib.Core.Path.{sym, ◌∙◌}
-use Rattle.moves.proofs.LookupCodeLaws.{lookup_start, find_past, find_here, find_next, find_end}
+use Rattle.moves.proofs.LookupCodeLaws.{find_past, find_here, find_next, find_end}
 use Rattle.moves.specs.Turn.{access_of}
 use Rattle.moves.proofs.lookup.lookup.Goals as goal
-
-pub loop-e-init : goal.loop-e-init
-loop-e-init c =
-    lookup_start c.args.plan.now c.args.keys.now c.args.call (access_of c.args.u) c.plan_word-n.ensures c.if-n-gt-MAX_CALL_KEYS.false c.entries_of-e-items.ensures
 
 pub returns-then-cell_of-ge-MAX_KEYS : goal.returns-then-cell_of-ge-MAX_KEYS
 returns-then-cell_of-ge-MAX_KEYS c =
