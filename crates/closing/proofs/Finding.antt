@@ -1,6 +1,6 @@
 -- One look at each cell: no balance so far is below zero, and so many of the cells have a record.
 use mathlib.Core.Path.{◌≡◌, refl, sym, ap, ◌∙◌}
-use mathlib.Core.Bool.{Bool, true, false, ◌&&◌, ◌||◌, not, false≢true}
+use mathlib.Core.Bool.{Bool, true, false, ◌&&◌, ◌||◌, not}
 use mathlib.Core.List.{List, [], ◌∷◌, ◌++◌, flatten}
 use Prim.Native.Nat.{ℕ, ◌^◌, zero, suc, ◌+◌, ◌-◌, ◌<◌, ◌≤◌}
 use native.Mathlib.Omega.{arith}
@@ -9,8 +9,6 @@ use lib.Dec.{eqb}
 use lib.IntN.{ℤ}
 use lib.ListN.{length, length-append}
 use lib.Signed.{non_neg, mag}
-use mir.Syntax.{w64}
-use Rattle.std.specs.Prelude.{if◌then◌else◌}
 use Rattle.arith.specs.Exact.{unsigned}
 use Rattle.arith.proofs.Laws.{read, read_back}
 use Rattle.wire.specs.Bytes.{bytes_of, stored}
@@ -21,7 +19,7 @@ use Rattle.sheet.specs.Sheet.{key_high, key_low, key_bytes, records_of_cell, cel
 use Rattle.sheet.proofs.RecordLists.{joined_one, lengths_none, lengths_one}
 use Rattle.sheet.proofs.SheetRecords.{cells_none, cells_more, cells_few, cell_body_lem}
 use Rattle.closing.specs.Found.{found_in}
-use Rattle.std.specs.Prelude.{Option, Some, None}
+use Rattle.std.specs.Prelude.{None}
 
 -- The bits of a value that was read.
 pub bits_told : {bits : ℕ} {v z : ℤ} → mag v < 2 ^ 63 → bits ≡ unsigned 64 (read v) → v ≡ z → bits ≡ unsigned 64 z

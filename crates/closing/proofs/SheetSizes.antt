@@ -1,16 +1,10 @@
 -- The length of a sheet by its numbers of records, and what it decides.
-use Rattle.std.specs.Prelude.{Ok}
-use mathlib.Core.Path.{◌≡◌, sym, ap, ap₂, ◌∙◌}
-use mathlib.Core.Bool.{Bool, true, false}
+use mathlib.Core.Path.{◌≡◌, sym, ap, ◌∙◌}
 use mathlib.Core.List.{List, flatten}
-use Prim.Native.Nat.{ℕ, ◌+◌, ◌*◌, ◌≤◌, ◌<◌}
-use native.Mathlib.Omega.{arith}
-use borrow.Author.Tests.{lt-ltb, le-ltb}
+use Prim.Native.Nat.{ℕ, ◌+◌, ◌*◌}
 use lib.IntN.{ℤ}
 use lib.ListN.{length}
-use Rattle.wire.specs.Bytes.{stored}
-use Rattle.machine.specs.declared.Answer.TheVariants.{Damaged, SheetTooLong}
-use Rattle.sheet.specs.Sheet.{cell_records, offset_behind, unwritten, written_if, records_for}
+use Rattle.sheet.specs.Sheet.{cell_records, records_for}
 use Rattle.sheet.proofs.RecordLists.{joined_length}
 use Rattle.sheet.proofs.SheetRecords.{sheet_lengths}
 

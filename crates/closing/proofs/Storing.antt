@@ -1,15 +1,14 @@
 -- The parts of a record, stored one behind the other.
 use mathlib.Core.Path.{◌≡◌, sym, ap, ap₂, ◌∙◌}
-use mathlib.Core.List.{List, [], ◌∷◌, ◌++◌, flatten}
+use mathlib.Core.List.{List, ◌∷◌, ◌++◌}
 use Prim.Native.Nat.{ℕ, ◌+◌, ◌*◌, ◌/◌, ◌%◌, ◌^◌, ◌<◌}
 use native.Mathlib.Omega.{arith}
 use lib.ListN.{length, length-append}
 use Rattle.wire.specs.Bytes.{bytes_of, stored}
 use Rattle.wire.proofs.BytesLaws.{bytes_of_length, stored_append}
 use Rattle.block.specs.Record.{recordOf, cell_kind, receipt_kind}
-use Rattle.sheet.specs.Sheet.{key_bytes, receipt_record, lengths}
+use Rattle.sheet.specs.Sheet.{key_bytes, receipt_record}
 use Rattle.sheet.proofs.SheetRecords.{cell_body_lem, receipt_body}
-use Rattle.sheet.proofs.RecordLists.{joined_one, lengths_none, lengths_one}
 
 -- What is stored behind a list that was stored is stored with it.
 pub stored_joined : (s : List ℕ) (i : ℕ) (xs ys : List ℕ) {t u : List ℕ} {j : ℕ} → j ≡ i + length xs → t ≡ stored s i xs → u ≡ stored t j ys → u ≡ stored s i (xs ++ ys)
