@@ -1,31 +1,29 @@
 -- One look at each cell: no balance so far is below zero, and so many of the cells have a record.
 use mathlib.Core.Path.{◌≡◌, refl, sym, ap, ◌∙◌}
-use mathlib.Core.Bool.{Bool, true, false, ◌&&◌, ◌||◌, not, false≢true}
-use mathlib.Core.List.{List, [], ◌∷◌, ◌++◌}
-use Prim.Native.Nat.{ℕ, zero, suc, ◌+◌, ◌-◌, ◌<◌, ◌≤◌}
+use mathlib.Core.Bool.{Bool, true, false, ◌&&◌, ◌||◌, not}
+use mathlib.Core.List.{List, [], ◌∷◌, ◌++◌, flatten}
+use Prim.Native.Nat.{ℕ, ◌^◌, zero, suc, ◌+◌, ◌-◌, ◌<◌, ◌≤◌}
 use native.Mathlib.Omega.{arith}
 use borrow.Author.Tests.{eq-eqb, ne_eqb}
 use lib.Dec.{eqb}
 use lib.IntN.{ℤ}
 use lib.ListN.{length, length-append}
-use lib.Signed.{non_neg}
-use mir.Syntax.{w64}
-use mir.Val.{SFits}
-use Rattle.std.specs.Prelude.{if◌then◌else◌}
+use lib.Signed.{non_neg, mag}
 use Rattle.arith.specs.Exact.{unsigned}
 use Rattle.arith.proofs.Laws.{read, read_back}
-use Rattle.wire.specs.Bytes.{bytes_of}
+use Rattle.wire.specs.Bytes.{bytes_of, stored}
 use Rattle.block.specs.Record.{recordOf, cell_kind}
 use Rattle.block.proofs.ContentsLaws.{record_length}
 use Rattle.machine.specs.Step.{cell_at}
-use Rattle.sheet.specs.Sheet.{key_high, key_low, key_bytes, records_of_cell, cell_records, balances_allowed, field_of, records_at}
+use Rattle.sheet.specs.Sheet.{key_high, key_low, key_bytes, records_of_cell, cell_records, balances_allowed, field_of, records_at, lengths}
+use Rattle.sheet.proofs.RecordLists.{joined_one, lengths_none, lengths_one}
 use Rattle.sheet.proofs.SheetRecords.{cells_none, cells_more, cells_few, cell_body_lem}
 use Rattle.closing.specs.Found.{found_in}
-use Rattle.std.specs.Prelude.{Option, Some, None}
+use Rattle.std.specs.Prelude.{None}
 
 -- The bits of a value that was read.
-pub bits_told : {bits : ℕ} {v z : ℤ} → SFits w64 v → bits ≡ unsigned 64 (read v) → v ≡ z → bits ≡ unsigned 64 z
-bits_told f p q = p ∙ ap (unsigned 64) (read_back f ∙ q)
+pub bits_told : {bits : ℕ} {v z : ℤ} → mag v < 2 ^ 63 → bits ≡ unsigned 64 (read v) → v ≡ z → bits ≡ unsigned 64 z
+bits_told f p q = p ∙ ap (unsigned 64) (read_back (record { sfits = f }) ∙ q)
 
 -- A cell that is zero has no record, and any other has one.
 pub cell_zero : (high low : ℕ) {bits : ℕ} → bits ≡ 0 → records_of_cell high low bits ≡ []
@@ -37,10 +35,28 @@ cell_one high low bits h = simp (ne_eqb bits 0 h)
 pub cell_size : (high low bits : ℕ) → length (recordOf cell_kind (key_bytes high low ++ bytes_of 8 bits)) ≡ 24
 cell_size high low bits = omega (arith, record_length cell_kind (key_bytes high low ++ bytes_of 8 bits), cell_body_lem high low bits)
 
--- The records of cell n by what was read of it.
-pub cell_told : (keys : List ℕ) (cells : List ℤ) (n : ℕ) {high low bits : ℕ} → high ≡ key_high keys n → low ≡ key_low keys n → bits ≡ unsigned 64 (cell_at cells n)
-    → records_at keys cells n ≡ records_of_cell high low bits
-cell_told keys cells n p q r = λ i. records_of_cell (sym p i) (sym q i) (sym r i)
+-- What is stored of a cell, by what was read of it: nothing where its bits are zero, and otherwise its record.
+module _ (keys : List ℕ) (cells : List ℤ) (n : ℕ) {bits : ℕ} (e : bits ≡ unsigned 64 (cell_at cells n)) where
+  module _ (z : bits ≡ 0) where
+    pub zero_stored : (s : List ℕ) (at : ℕ) → s ≡ stored s at (flatten (records_at keys cells n))
+    unfolding stored flatten
+    zero_stored s at = sym (ap (λ (l : List (List ℕ)). stored s at (flatten l)) (cell_zero (key_high keys n) (key_low keys n) (sym e ∙ z)))
+
+    pub zero_length : lengths (records_at keys cells n) ≡ 0
+    zero_length = ap lengths (cell_zero (key_high keys n) (key_low keys n) (sym e ∙ z)) ∙ lengths_none
+
+  module _ (h : bits ≡ 0 → ⊥) where
+    own : {high low : ℕ} → high ≡ key_high keys n → low ≡ key_low keys n → records_at keys cells n ≡ recordOf cell_kind (key_bytes high low ++ bytes_of 8 bits) ∷ []
+    own {high} {low} p q = (λ i. records_of_cell (sym p i) (sym q i) (sym e i)) ∙ cell_one high low bits h
+
+    pub one_stored : {high low : ℕ} → high ≡ key_high keys n → low ≡ key_low keys n → (s : List ℕ) (at : ℕ) {t : List ℕ}
+        → t ≡ stored s at (recordOf cell_kind (key_bytes high low ++ bytes_of 8 bits)) → t ≡ stored s at (flatten (records_at keys cells n))
+    one_stored {high} {low} p q s at r = r ∙ ap (stored s at) (sym (ap flatten (own p q) ∙ joined_one (recordOf cell_kind (key_bytes high low ++ bytes_of 8 bits))))
+
+    pub one_length : lengths (records_at keys cells n) ≡ 24
+    one_length =
+        ap lengths (own refl refl) ∙ lengths_one (recordOf cell_kind (key_bytes (key_high keys n) (key_low keys n) ++ bytes_of 8 bits))
+        ∙ cell_size (key_high keys n) (key_low keys n) bits
 
 module _ (keys : List ℕ) (cells : List ℤ) where
   -- Whether a cell is no balance, or one that is not below zero.
@@ -104,28 +120,3 @@ module _ (keys : List ℕ) (cells : List ℤ) where
       sym (ap (balances_allowed keys cells) e)
       ∙ balances_fewer (n + 1) (count - (n + 1)) (balances_turn n ∙ ap (λ (t : Bool). t && balances_allowed keys cells n) b) in
       simp (broken)
-
--- ---- what was found
-
-abbrev is_records : Option ℕ → Bool
-is_records (Some n) = true
-is_records None = false
-
-abbrev records_in : Option ℕ → ℕ
-records_in (Some n) = n
-records_in None = 0
-
-module _ (keys : List ℕ) (cells : List ℤ) (count : ℕ) where
-  pub found_below : found_in keys cells count ≡ None → balances_allowed keys cells count ≡ false
-  found_below e = go (balances_allowed keys cells count) (length (cell_records keys cells count 0)) e
-    where
-      go : (b : Bool) (n : ℕ) → (if b then Some n else None) ≡ None → b ≡ false
-      go true n e = ap is_records e
-      go false n e = refl
-
-  pub found_records : {n : ℕ} → found_in keys cells count ≡ Some n → (balances_allowed keys cells count ≡ true) × (n ≡ length (cell_records keys cells count 0))
-  found_records {n} e = go (balances_allowed keys cells count) (length (cell_records keys cells count 0)) n e
-    where
-      go : (b : Bool) (m n : ℕ) → (if b then Some m else None) ≡ Some n → (b ≡ true) × (n ≡ m)
-      go true m n e = (refl, sym (ap records_in e))
-      go false m n e = absurd (false≢true (ap is_records e))

@@ -1,16 +1,10 @@
 -- The length of a sheet by its numbers of records, and what it decides.
-use Rattle.std.specs.Prelude.{Ok}
-use mathlib.Core.Path.{◌≡◌, sym, ap, ap₂, ◌∙◌}
-use mathlib.Core.Bool.{Bool, true, false}
+use mathlib.Core.Path.{◌≡◌, sym, ap, ◌∙◌}
 use mathlib.Core.List.{List, flatten}
-use Prim.Native.Nat.{ℕ, ◌+◌, ◌*◌, ◌≤◌, ◌<◌}
-use native.Mathlib.Omega.{arith}
-use borrow.Author.Tests.{lt-ltb, le-ltb}
+use Prim.Native.Nat.{ℕ, ◌+◌, ◌*◌}
 use lib.IntN.{ℤ}
 use lib.ListN.{length}
-use Rattle.wire.specs.Bytes.{stored}
-use Rattle.machine.specs.declared.Answer.TheVariants.{Damaged, SheetTooLong}
-use Rattle.sheet.specs.Sheet.{cell_records, offset_behind, unwritten, written_if, records_for}
+use Rattle.sheet.specs.Sheet.{cell_records, records_for}
 use Rattle.sheet.proofs.RecordLists.{joined_length}
 use Rattle.sheet.proofs.SheetRecords.{sheet_lengths}
 
@@ -20,20 +14,3 @@ pub sheet_length_lem : (keys : List ℕ) (cells : List ℤ) (status : List ℕ) 
 sheet_length_lem keys cells status count calls e =
     ap (λ (n : ℕ). 24 * n + 8 * calls + 4) e
     ∙ sym (joined_length (records_for keys cells status count calls) ∙ sheet_lengths keys cells status count calls)
-
--- The length decides on 28, then the receipts on 20; where both pass, the sheet is stored.
-module _ (output : List ℕ) (rs : List (List ℕ)) (receipts : Bool) {size : ℕ} where
-  pub sheet_too_long : length output < size → size ≡ length (flatten rs) → unwritten output SheetTooLong ≡ written_if receipts output rs
-  unfolding written_if
-  sheet_too_long h e = simp (lt-ltb (length output) (length (flatten rs)) (omega arith))
-
-  pub receipts_broken : size ≤ length output → receipts ≡ false → size ≡ length (flatten rs) → unwritten output Damaged ≡ written_if receipts output rs
-  unfolding written_if
-  receipts_broken h b e = simp (le-ltb (length output) (length (flatten rs)) (omega arith), b)
-
-  pub sheet_whole : size ≤ length output → receipts ≡ true → size ≡ length (flatten rs) → {exit : List ℕ} {end : ℕ} → exit ≡ stored output 0 (flatten rs)
-      → end ≡ offset_behind rs → record { answer = Ok end; output = exit } ≡ written_if receipts output rs
-  unfolding written_if
-  sheet_whole h b e q f =
-      simp (le-ltb (length output) (length (flatten rs)) (omega arith), b)
-      (ap₂ (λ (n : ℕ) (s : List ℕ). record { answer = Ok n; output = s }) f q)

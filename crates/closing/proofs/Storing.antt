@@ -1,14 +1,14 @@
 -- The parts of a record, stored one behind the other.
 use mathlib.Core.Path.{◌≡◌, sym, ap, ap₂, ◌∙◌}
-use mathlib.Core.List.{List, [], ◌∷◌, ◌++◌, flatten}
+use mathlib.Core.List.{List, ◌∷◌, ◌++◌}
 use Prim.Native.Nat.{ℕ, ◌+◌, ◌*◌, ◌/◌, ◌%◌, ◌^◌, ◌<◌}
 use native.Mathlib.Omega.{arith}
 use lib.ListN.{length, length-append}
 use Rattle.wire.specs.Bytes.{bytes_of, stored}
 use Rattle.wire.proofs.BytesLaws.{bytes_of_length, stored_append}
-use Rattle.block.specs.Record.{recordOf}
-use Rattle.sheet.specs.Sheet.{key_bytes, lengths}
-use Rattle.sheet.proofs.RecordLists.{joined_one, lengths_none, lengths_one}
+use Rattle.block.specs.Record.{recordOf, cell_kind, receipt_kind}
+use Rattle.sheet.specs.Sheet.{key_bytes, receipt_record}
+use Rattle.sheet.proofs.SheetRecords.{cell_body_lem, receipt_body}
 
 -- What is stored behind a list that was stored is stored with it.
 pub stored_joined : (s : List ℕ) (i : ℕ) (xs ys : List ℕ) {t u : List ℕ} {j : ℕ} → j ≡ i + length xs → t ≡ stored s i xs → u ≡ stored t j ys → u ≡ stored s i (xs ++ ys)
@@ -46,14 +46,17 @@ key_behind s at high low p q r u =
     let k : at + 8 ≡ at + length (a ++ b ++ c) = simp (length-append, bytes_of_length) in
     stored_joined s at (a ++ b ++ c) (bytes_of 4 low) k (stored_joined s at (a ++ b) c j (stored_joined s at a b i p q) r) u
 
+-- A cell's record, and a call's, from their parts.
+pub cell_behind : (s : List ℕ) (at high low bits : ℕ) {t u v : List ℕ} → t ≡ stored s at (bytes_of 2 20 ++ bytes_of 2 cell_kind)
+    → u ≡ stored t (at + 4) (key_bytes high low) → v ≡ stored u (at + 16) (bytes_of 8 bits) → v ≡ stored s at (recordOf cell_kind (key_bytes high low ++ bytes_of 8 bits))
+cell_behind s at high low bits p q r =
+    let twelve : at + 16 ≡ at + 4 + length (key_bytes high low) = simp (length-append, bytes_of_length) (omega arith) in
+    record_behind s at cell_kind 20 (key_bytes high low ++ bytes_of 8 bits) (cell_body_lem high low bits) p (stored_joined _ (at + 4) (key_bytes high low) (bytes_of 8 bits) twelve q r)
+
+pub receipt_behind : (s : List ℕ) (at outcome count : ℕ) {t u v : List ℕ} → t ≡ stored s at (bytes_of 2 4 ++ bytes_of 2 receipt_kind)
+    → u ≡ stored t (at + 4) (bytes_of 2 outcome) → v ≡ stored u (at + 6) (bytes_of 2 count) → v ≡ stored s at (receipt_record outcome count)
+receipt_behind s at outcome count p q r =
+    let two : at + 6 ≡ at + 4 + length (bytes_of 2 outcome) = omega (arith, bytes_of_length 2 outcome) in
+    record_behind s at receipt_kind 4 (bytes_of 2 outcome ++ bytes_of 2 count) (receipt_body outcome count) p (stored_joined _ (at + 4) (bytes_of 2 outcome) (bytes_of 2 count) two q r)
+
 -- ---- records of a list
-
--- No record stored changes nothing and takes no place.
-pub nothing_stored : (s : List ℕ) (at : ℕ) {rs : List (List ℕ)} → rs ≡ [] → (s ≡ stored s at (flatten rs)) × (at ≡ at + lengths rs)
-unfolding stored flatten
-nothing_stored s at e = (sym (ap (λ (l : List (List ℕ)). stored s at (flatten l)) e), omega (arith, ap lengths e, lengths_none))
-
--- One record of 24 bytes stored.
-pub one_stored : (s : List ℕ) (at : ℕ) {rs : List (List ℕ)} {r : List ℕ} → rs ≡ r ∷ [] → length r ≡ 24 → {t : List ℕ} → t ≡ stored s at r
-    → (t ≡ stored s at (flatten rs)) × (at + 4 + 20 ≡ at + lengths rs)
-one_stored s at {r = r} e size p = (p ∙ ap (stored s at) (sym (ap flatten e ∙ joined_one r)), omega (arith, ap lengths e, lengths_one r))

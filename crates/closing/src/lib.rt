@@ -16,6 +16,7 @@ use write::write_sheet;
 
 // The closing sheet: 20 for the sizes, the number of calls and their states; 27 for a call unfinished; 20 for the number of cells and
 // the balances; 28; 20 for the receipts.
+#[tactic(auto, unfolding(sheet::specs::Sheet::sheet_of, sheet::specs::Sheet::sheet_records), using(crate::proofs::Answering::closed_as))]
 pub fn sheet(
     head: Head,
     plan: &[u64],

@@ -19,6 +19,7 @@ use machine::layout::{COUNT_WORD, OUTCOME_WORD};
 const KIND_BASE: usize = 65536;
 
 // The head of a record: "length (2 bytes, of the body), kind (2)", stored as one number of four bytes.
+#[tactic(auto, using(crate::proofs::Storing::head_number))]
 fn put_head(output: &mut [u8], at: usize, size: usize, kind: usize)
     requires at_bound { at < 2 ^ 32 }
     requires size_bound { size < 2 ^ 16 }
@@ -29,6 +30,7 @@ fn put_head(output: &mut [u8], at: usize, size: usize, kind: usize)
 }
 
 // A cell's key from its two words: address 2, field 2, a 4, b 4.
+#[tactic(auto, using(crate::proofs::Storing::key_behind))]
 fn put_key(output: &mut [u8], at: usize, high: u64, low: u64)
     requires { at < 2 ^ 32 }
     ensures { output.new ≡ stored output.old at (key_bytes high low) }
@@ -40,6 +42,7 @@ fn put_key(output: &mut [u8], at: usize, high: u64, low: u64)
 }
 
 // The record of a cell whose value has these bits.
+#[tactic(auto, using(crate::proofs::Storing::cell_behind))]
 fn put_cell_record(output: &mut [u8], at: usize, high: u64, low: u64, bits: u64)
     requires { at + 24 < 2 ^ 32 }
     ensures { output.new ≡ stored output.old at (recordOf cell_kind (key_bytes high low ++ bytes_of 8 bits)) }
@@ -51,6 +54,7 @@ fn put_cell_record(output: &mut [u8], at: usize, high: u64, low: u64, bits: u64)
 
 // "Kind 2 records of all non-zero cells": the record of cell n at the offset that is carried there, and the offset behind it; of a cell
 // that is zero there is no record, and the offset stays.
+#[tactic(auto, using(crate::proofs::Finding::bits_told, crate::proofs::Finding::zero_stored, crate::proofs::Finding::zero_length, crate::proofs::Finding::one_stored, crate::proofs::Finding::one_length))]
 fn put_cell(keys: &[u64], cells: &[i64], n: usize, at: usize, output: &mut [u8]) -> usize
     requires n_lt_max_keys { n < max_keys }
     requires at_bound { at + 24 < 2 ^ 32 }
@@ -68,6 +72,7 @@ fn put_cell(keys: &[u64], cells: &[i64], n: usize, at: usize, output: &mut [u8])
 }
 
 // "kind 5 receipts .. (outcome 2, count 2)": that of a call, likewise.
+#[tactic(auto, using(crate::proofs::Storing::receipt_behind, sheet::proofs::SheetRecords::receipt_length))]
 fn put_receipt(status: &[u64], call: usize, at: usize, output: &mut [u8]) -> usize
     requires call_lt_max_calls { call < max_calls }
     requires at_bound { at + 8 < 2 ^ 32 }

@@ -11,6 +11,7 @@ use machine::Answer;
 // The sheet of a run whose calls are finished and whose cells are in their ranges and have so many records. 28, "sheet longer than the
 // output buffer", by their number and that of the calls; 20 for the receipts, which only the writing uses; then the records are stored at
 // the front of the output, and the offset behind the last is answered.
+#[tactic(auto, using(sheet::proofs::SheetRecords::cells_few, crate::proofs::SheetSizes::sheet_length_lem), unfolding(sheet::specs::Sheet::written_if))]
 pub(crate) fn write_sheet(
     keys: &[u64],
     cells: &[i64],

@@ -5,6 +5,7 @@ ghost use Rattle.exports.specs.Words.{held_number, head_in, held_stored};
 
 use block::limits::MAX_WORKERS;
 use machine::Head;
+use std::array;
 
 pub const WORKERS_WORD: usize = 0;
 
@@ -33,36 +34,34 @@ fn held_word(words: &[u64], at: usize) -> u16
 }
 
 // The head that words stand for.
+#[tactic(auto, using(crate::proofs::HeldLaws::held_each))]
 pub fn head_in(words: &[u64]) -> Head
     ensures { result ≡ head_in words.now }
 {
-    let mut held = [0; MAX_WORKERS];
-    for worker in 0..MAX_WORKERS {
-        held[worker] = held_word(words, FIRST_HELD + worker);
-    }
     Head {
         workers: wire::get_or(words, WORKERS_WORD, 0) as usize,
         calls: wire::get_or(words, CALLS_WORD, 0) as usize,
         cells: wire::get_or(words, CELLS_WORD, 0) as usize,
         first_call: wire::get_or(words, FIRST_CALL_WORD, 0) as usize,
-        held,
+        held: array::from_fn(|worker| held_word(words, FIRST_HELD + worker)),
     }
 }
 
 // A worker's word is stored where what the worker holds has changed; there is none of a worker that no head has.
+#[tactic(auto, using(exports::proofs::HeadLaws::held_read), unfolding(exports::specs::Words::held_stored))]
 pub fn store_held(words: &mut [u64], after: Head, worker: usize)
     ensures { words.new ≡ held_stored words.old after worker }
 {
-    if MAX_WORKERS <= worker {
+    let Some(&held) = after.held.get(worker) else {
         return;
-    }
-    let held = after.held[worker];
+    };
     if held_word(words, FIRST_HELD + worker) != held {
-        wire::put(words, FIRST_HELD + worker, held as u64);
+        wire::put(words, FIRST_HELD + worker, u64::from(held));
     }
 }
 
 // The words of the head of an opened run: four numbers, and zero behind them.
+#[tactic(auto, unfolding(wire::specs::Bytes::stored))]
 pub fn store_opened(words: &mut [u64], head: Head)
     ensures { words.new
         ≡ stored (repeated (length words.old) 0) 0

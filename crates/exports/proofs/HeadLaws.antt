@@ -1,12 +1,12 @@
 -- The words of a head: what a worker's word is read as, and what is stored of it behind a move.
-use mathlib.Core.Path.{◌≡◌, refl, sym, ◌∙◌}
+use mathlib.Core.Path.{◌≡◌, refl}
 use mathlib.Core.Bool.{Bool, true, false}
 use mathlib.Core.List.{List}
-use Prim.Native.Nat.{ℕ, zero, suc, ◌+◌, ◌<◌, ◌≤◌}
+use Prim.Native.Nat.{ℕ, zero, suc, ◌+◌, ◌<◌}
 use native.Mathlib.Omega.{arith}
 use lib.Dec.{eqb, leb}
-use lib.ListN.{length, get_or, set, length-set}
-use borrow.Author.Tests.{le-leb, lt-leb, eq-eqb, ne_eqb}
+use lib.ListN.{length, get_or, length-set}
+use borrow.Author.Tests.{eq-eqb}
 use Rattle.std.specs.Prelude.{if◌then◌else◌}
 use Rattle.arith.proofs.ChoiceLaws.{if_all}
 use Rattle.wire.specs.Bytes.{below}
@@ -47,19 +47,3 @@ stored_length head after worker =
   where
     Kept : List ℕ → Type 0
     Kept l = length l ≡ length head
-
--- No worker, one that holds what its word says, and one that does not.
-module _ (head : List ℕ) (after : Head) (worker : ℕ) where
-  pub stored_none : max_workers ≤ worker → head ≡ held_stored head after worker
-  unfolding held_stored
-  stored_none h = rw (le-leb max_workers worker h)
-
-  module _ (h : worker < max_workers) {read : ℕ} (word : read ≡ held_number (get_or head (first_held + worker) 0)) where
-    pub stored_same : read ≡ held_at after worker → head ≡ held_stored head after worker
-    unfolding held_stored
-    stored_same e = rw (lt-leb max_workers worker h, eq-eqb (held_at (head_in head) worker) (held_at after worker) (held_read head worker h ∙ sym word ∙ e))
-
-    pub stored_other : (read ≡ held_at after worker → ⊥) → set head (first_held + worker) (held_at after worker) ≡ held_stored head after worker
-    unfolding held_stored
-    stored_other ne =
-        rw (lt-leb max_workers worker h, ne_eqb (held_at (head_in head) worker) (held_at after worker) (λ e. ne (word ∙ sym (held_read head worker h) ∙ e)))

@@ -1,0 +1,2 @@
+-- What the words of a head say of its workers.
+pub mod HeldLaws
