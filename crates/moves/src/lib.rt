@@ -19,6 +19,19 @@ use key_uses::Uses;
 use machine::Action;
 use machine::layout::REGISTERS;
 
+// The buffers of a run, lent by the caller.
+// Stays: begin, step and cancel here, their forms in in_place, closing::sheet, opening::open and the exports take them as slices. That is the C interface: one
+// pointer and length each, and BEGIN and CANCEL are lent as const what they do not write.
+#[derive(Drop)]
+pub struct Buffers<'a> {
+    pub plan: &'a [u64],
+    pub keys: &'a [u64],
+    pub cells: &'a mut [i64],
+    pub status: &'a mut [u64],
+    pub seats: &'a mut [u64],
+    pub frames: &'a mut [i64],
+}
+
 // A worker and the call that it holds, or that BEGIN gives it, in a run of so many calls: what the tests of a move find.
 #[derive(Clone, Copy)]
 pub struct Hold {
