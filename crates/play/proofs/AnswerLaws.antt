@@ -1,23 +1,23 @@
 -- A whole line played, its answer written, over plain variables.
-use Rattle.std.specs.Prelude.{None, Option, Some, Result}
-use mathlib.Core.Path.{◌≡◌, refl, sym, ap, ◌∙◌}
-use mathlib.Core.Bool.{false}
-use mathlib.Core.List.{List, [], ◌∷◌}
-use Prim.Native.Nat.{ℕ, zero, suc}
-use native.Mathlib.Nat.{add-zero}
+use Rattle.std.specs.Prelude.{None, Option, Some, Result, Ok, Err}
+use mathlib.Core.Path.{◌≡◌, refl, ap, ◌∙◌}
+use mathlib.Core.Bool.{false, false≢true}
+use mathlib.Core.List.{List}
+use Prim.Native.Nat.{ℕ}
 use Rattle.wire.specs.Bytes.{stored}
-use Rattle.wire.specs.Decimal.{line_feed}
 use Rattle.schedule.specs.declared.Move.{Move}
 use Rattle.machine.specs.Answer.{answer_number, refused_number}
 use Rattle.machine.specs.Run.{Run}
 use Rattle.machine.specs.Moves.{Moved, move_of}
 use Rattle.machine.specs.declared.Answer.{Answer}
 use Rattle.machine.specs.declared.Answer.TheVariants.{Damaged, NoWorker, NoCall, WorkerBusy, NotWaiting, EarlierUnfinished, WorkerIdle, CallUnfinished, SheetTooLong}
-use Rattle.moves.specs.Lent.{moved}
+use Rattle.moves.specs.Lent.{moved, moved_by}
+use Rattle.std.specs.Result.{is_ok, result_unwrap_or}
+use Rattle.machine.specs.declared.Head.{Head}
 use Rattle.text.specs.Lines.{refused_text}
 use Rattle.text.specs.Written.{Written}
 use Rattle.console.specs.Line.{is_empty, line_move}
-use Rattle.console.specs.Register.{answer_text, next_number, after_move, play_move, play_line, play_byte, play_bytes, play_end}
+use Rattle.console.specs.Register.{answer_text, next_number, after_move, play_move, play_line, play_end}
 use Rattle.console.specs.declared.Line.{Line}
 use Rattle.console.specs.declared.Line.TheVariants.{Empty, Named, Spaced, First, Between, Second, Malformed}
 use Rattle.play.specs.Shown.{Shown, fresh_session, shown, shown_from}
@@ -53,6 +53,13 @@ module _ (block : List ℕ) (number : ℕ) (line : Line) (run : Run) (out after 
       (λ i. shown_from (next_number number) Empty left (w.same i) (w.end i))
       ∙ ap (λ (r : Moved). shown out from (after_move (fresh_session number line run) r)) made
       ∙ ap (λ (o : Option Move). shown out from (play_move block (fresh_session number line run) o)) e
+
+-- The answer and the head of a move by value: what is left of the run has the head that it answered, or, refused, the head that it was lent.
+pub made_parts : (head : Head) (r : Result Head Answer) (run : Head → Run) {m : Moved} {u : Result (Unit {0}) Answer} {left : Head}
+    → ((why : Answer) → r ≡ Err why → u ≡ Err why) → is_ok u ≡ is_ok r → left ≡ result_unwrap_or r head → moved_by head r run ≡ m → moved u (run left) ≡ m
+made_parts head (Ok after) run {u = Ok tt} f v e k = ap (λ (h : Head). moved (Ok tt) (run h)) e ∙ k
+made_parts head (Ok after) run {u = Err why} f v e k = absurd (false≢true v)
+made_parts head (Err why) run f v e k = (λ i. moved (f why refl i) (run (e i))) ∙ k
 
 -- At the input's end a line that is not empty is played.
 not_empty : (line : Line) → (line ≡ Empty → ⊥) → is_empty line ≡ false

@@ -82,15 +82,10 @@ fn play_line(
             length: refused_line(out, from, s.number, 0),
         };
     };
-    match apply_move(s.head, block, plan, keys, cells, status, seats, frames, m) {
-        Ok(head) => Played {
-            session: next_line(s, head),
-            length: answer_line(out, from, s.number, Ok(())),
-        },
-        Err(why) => Played {
-            session: next_line(s, s.head),
-            length: answer_line(out, from, s.number, Err(why)),
-        },
+    let made = apply_move(s.head, block, plan, keys, cells, status, seats, frames, m);
+    Played {
+        session: next_line(s, made.unwrap_or(s.head)),
+        length: answer_line(out, from, s.number, made.map(|_| ())),
     }
 }
 
