@@ -3,7 +3,6 @@ ghost use Rattle.std.specs.Prelude.{◌≡◌, true, ◌-◌};
 ghost use Rattle.wire.specs.Decimal.{zero_digit};
 ghost use Rattle.console.specs.Line.{is_digit, takes_digit, read_letter, read_gap, read_byte, move_for, line_move};
 ghost use Rattle.console.specs.declared.Line.TheVariants.{Named, Spaced, First, Between, Second, Malformed};
-ghost use Rattle.play.specs.Named.{as_move};
 
 use console::{Letter, Line};
 use schedule::Move;
@@ -37,6 +36,7 @@ fn digit(x: u8) -> usize
 }
 
 // The first byte of a line.
+#[tactic(auto, unfolding(console::specs::Line::read_letter))]
 fn read_letter(x: u8) -> Line
     ensures { result ≡ read_letter x }
 {
@@ -49,6 +49,7 @@ fn read_letter(x: u8) -> Line
 }
 
 // A space behind the first number.
+#[tactic(auto, unfolding(console::specs::Line::read_gap))]
 fn read_gap(letter: Letter, n: usize) -> Line
     ensures { result ≡ read_gap letter n }
 {
@@ -59,6 +60,7 @@ fn read_gap(letter: Letter, n: usize) -> Line
 }
 
 // A byte behind the letter.
+#[tactic(auto, unfolding(console::specs::Line::read_byte))]
 fn read_space(letter: Letter, x: u8) -> Line
     ensures { result ≡ read_byte (Named letter) x }
 {
@@ -70,6 +72,7 @@ fn read_space(letter: Letter, x: u8) -> Line
 }
 
 // The byte where the first number begins.
+#[tactic(auto, unfolding(console::specs::Line::read_byte))]
 fn read_first(letter: Letter, x: u8) -> Line
     ensures { result ≡ read_byte (Spaced letter) x }
 {
@@ -85,6 +88,7 @@ fn read_first(letter: Letter, x: u8) -> Line
 }
 
 // A byte behind a digit of the first number.
+#[tactic(auto, unfolding(console::specs::Line::read_byte))]
 fn read_more(letter: Letter, digits: usize, number: usize, x: u8) -> Line
     ensures { result ≡ read_byte (First letter digits number) x }
 {
@@ -102,6 +106,7 @@ fn read_more(letter: Letter, digits: usize, number: usize, x: u8) -> Line
 }
 
 // The byte where the second number begins.
+#[tactic(auto, unfolding(console::specs::Line::read_byte))]
 fn read_second(worker: usize, x: u8) -> Line
     ensures { result ≡ read_byte (Between worker) x }
 {
@@ -117,6 +122,7 @@ fn read_second(worker: usize, x: u8) -> Line
 }
 
 // A byte behind a digit of the second number.
+#[tactic(auto, unfolding(console::specs::Line::read_byte))]
 fn read_last(worker: usize, digits: usize, number: usize, x: u8) -> Line
     ensures { result ≡ read_byte (Second worker digits number) x }
 {
@@ -131,6 +137,7 @@ fn read_last(worker: usize, digits: usize, number: usize, x: u8) -> Line
 }
 
 // One byte of a line, other than a line feed.
+#[tactic(auto, unfolding(console::specs::Line::read_byte))]
 pub fn read_byte(line: Line, x: u8) -> Line
     ensures { result ≡ read_byte line x }
 {
@@ -154,8 +161,9 @@ pub fn read_byte(line: Line, x: u8) -> Line
 }
 
 // The move of a line with one number.
+#[tactic(auto, unfolding(console::specs::Line::move_for))]
 fn move_for(letter: Letter, n: usize) -> Option<Move>
-    ensures { as_move result ≡ move_for letter n }
+    ensures { result ≡ move_for letter n }
 {
     match letter {
         Letter::B => None,
@@ -165,8 +173,9 @@ fn move_for(letter: Letter, n: usize) -> Option<Move>
 }
 
 // The move of a whole line; in no such form, none.
+#[tactic(auto, unfolding(console::specs::Line::line_move))]
 pub fn line_move(line: Line) -> Option<Move>
-    ensures { as_move result ≡ line_move line }
+    ensures { result ≡ line_move line }
 {
     match line {
         Line::First { letter, number, .. } => move_for(letter, number),
