@@ -1,59 +1,65 @@
 -- A whole line played, its answer written, over plain variables.
-use Rattle.std.specs.Prelude.{None, Option, Some}
-use mathlib.Core.Path.{◌≡◌, refl, sym, ap, ◌∙◌}
-use mathlib.Core.Bool.{false}
-use mathlib.Core.List.{List, [], ◌∷◌}
-use Prim.Native.Nat.{ℕ, zero, suc}
-use native.Mathlib.Nat.{add-zero}
+use Rattle.std.specs.Prelude.{None, Option, Some, Result, Ok, Err}
+use mathlib.Core.Path.{◌≡◌, refl, ap, ◌∙◌}
+use mathlib.Core.Bool.{false, false≢true}
+use mathlib.Core.List.{List}
+use Prim.Native.Nat.{ℕ}
 use Rattle.wire.specs.Bytes.{stored}
-use Rattle.wire.specs.Decimal.{line_feed}
 use Rattle.schedule.specs.declared.Move.{Move}
-use Rattle.machine.specs.Answer.{answer_number}
+use Rattle.machine.specs.Answer.{answer_number, refused_number}
 use Rattle.machine.specs.Run.{Run}
 use Rattle.machine.specs.Moves.{Moved, move_of}
 use Rattle.machine.specs.declared.Answer.{Answer}
-use Rattle.moves.specs.Lent.{moved}
+use Rattle.machine.specs.declared.Answer.TheVariants.{Damaged, NoWorker, NoCall, WorkerBusy, NotWaiting, EarlierUnfinished, WorkerIdle, CallUnfinished, SheetTooLong}
+use Rattle.moves.specs.Lent.{moved, moved_by}
+use Rattle.std.specs.Result.{is_ok, result_unwrap_or}
+use Rattle.machine.specs.declared.Head.{Head}
 use Rattle.text.specs.Lines.{refused_text}
 use Rattle.text.specs.Written.{Written}
 use Rattle.console.specs.Line.{is_empty, line_move}
-use Rattle.console.specs.Register.{answer_text, next_number, after_move, play_move, play_line, play_byte, play_bytes, play_end}
+use Rattle.console.specs.Register.{answer_text, next_number, after_move, play_move, play_line, play_end}
 use Rattle.console.specs.declared.Line.{Line}
 use Rattle.console.specs.declared.Line.TheVariants.{Empty, Named, Spaced, First, Between, Second, Malformed}
 use Rattle.play.specs.Shown.{Shown, fresh_session, shown, shown_from}
 
--- An accepted move has no text, every other answer the line of a refused move.
-pub answer_none : (out : List ℕ) (from line : ℕ) {n number : ℕ} → n ≡ number → n ≡ 0 → Written out out from from (answer_text line number)
-unfolding answer_text stored
-answer_none out from line e z =
-    rw (sym e ∙ z) (record { same = refl; end = sym (add-zero from) })
-
-some_text : (line n : ℕ) → (n ≡ 0 → ⊥) → refused_text line n ≡ answer_text line n
-unfolding answer_text
-some_text line zero f = absurd (f refl)
-some_text line (suc n) f = refl
-
-pub answer_some : (out after : List ℕ) (from end line : ℕ) {n number : ℕ} → n ≡ number → (n ≡ 0 → ⊥)
-    → Written out after from end (refused_text line n) → Written out after from end (answer_text line number)
-answer_some out after from end line {n} e f w = rw (sym e, ← some_text line n f) w
+-- A refusal's number is above 0, so its text is the line of a refused move.
+pub refused_shown : (line : ℕ) (why : Answer) → answer_text line (refused_number why) ≡ refused_text line (refused_number why)
+unfolding answer_text refused_number
+refused_shown line Damaged = refl
+refused_shown line NoWorker = refl
+refused_shown line NoCall = refl
+refused_shown line WorkerBusy = refl
+refused_shown line NotWaiting = refl
+refused_shown line EarlierUnfinished = refl
+refused_shown line WorkerIdle = refl
+refused_shown line CallUnfinished = refl
+refused_shown line SheetTooLong = refl
 
 module _ (block : List ℕ) (number : ℕ) (line : Line) (run : Run) (out after : List ℕ) (from end : ℕ) where
   -- A line in no such form.
-  pub line_none : None ≡ line_move line → {next : ℕ} → next ≡ next_number number → {left : Run} → left ≡ run → Written out after from end (refused_text number 0)
-      → shown_from next Empty left after end ≡ shown out from (play_line block (fresh_session number line run))
+  pub line_none : None ≡ line_move line → Written out after from end (refused_text number 0)
+      → shown_from (next_number number) Empty run after end ≡ shown out from (play_line block (fresh_session number line run))
   unfolding play_move
-  line_none e n h w =
-      (λ i. shown_from (n i) Empty (h i) (w.same i) (w.end i))
+  line_none e w =
+      (λ i. shown_from (next_number number) Empty run (w.same i) (w.end i))
       ∙ ap (λ (m : Option Move). shown out from (play_move block (fresh_session number line run) m)) e
 
   -- A line that names a move.
-  pub line_some : (m : Move) → Some m ≡ line_move line → {next : ℕ} → next ≡ next_number number → {answer : Answer} {left : Run} → moved answer left ≡ move_of block run m
+  pub line_some : (m : Move) → Some m ≡ line_move line → {answer : Result (Unit {0}) Answer} {left : Run} → moved answer left ≡ move_of block run m
       → Written out after from end (answer_text number (answer_number answer))
-      → shown_from next Empty left after end ≡ shown out from (play_line block (fresh_session number line run))
+      → shown_from (next_number number) Empty left after end ≡ shown out from (play_line block (fresh_session number line run))
   unfolding play_move
-  line_some m e n {answer} {left} made w =
-      (λ i. shown_from (n i) Empty left (w.same i) (w.end i))
+  line_some m e {answer} {left} made w =
+      (λ i. shown_from (next_number number) Empty left (w.same i) (w.end i))
       ∙ ap (λ (r : Moved). shown out from (after_move (fresh_session number line run) r)) made
       ∙ ap (λ (o : Option Move). shown out from (play_move block (fresh_session number line run) o)) e
+
+-- The answer and the head of a move by value: what is left of the run has the head that it answered, or, refused, the head that it was lent.
+pub made_parts : (head : Head) (r : Result Head Answer) (run : Head → Run) {m : Moved} {u : Result (Unit {0}) Answer} {left : Head}
+    → ((why : Answer) → r ≡ Err why → u ≡ Err why) → is_ok u ≡ is_ok r → left ≡ result_unwrap_or r head → moved_by head r run ≡ m → moved u (run left) ≡ m
+made_parts head (Ok after) run {u = Ok tt} f v e k = ap (λ (h : Head). moved (Ok tt) (run h)) e ∙ k
+made_parts head (Ok after) run {u = Err why} f v e k = absurd (false≢true v)
+made_parts head (Err why) run f v e k = (λ i. moved (f why refl i) (run (e i))) ∙ k
 
 -- At the input's end a line that is not empty is played.
 not_empty : (line : Line) → (line ≡ Empty → ⊥) → is_empty line ≡ false
@@ -72,8 +78,8 @@ pub end_empty : (block : List ℕ) (number : ℕ) (line : Line) (run : Run) (out
 unfolding play_end is_empty stored
 end_empty block number line run out e = rw e refl
 
--- Every other rest is played as a line feed behind it would play it.
+-- Every other rest is a line.
 pub end_line : (block : List ℕ) (number : ℕ) (line : Line) (run : Run) (out : List ℕ) → (line ≡ Empty → ⊥)
-    → {w : Shown} → w ≡ shown out 0 (play_bytes block (fresh_session number line run) (line_feed ∷ [])) → w ≡ shown out 0 (play_end block (fresh_session number line run))
-unfolding play_end play_bytes play_byte
+    → {w : Shown} → w ≡ shown out 0 (play_line block (fresh_session number line run)) → w ≡ shown out 0 (play_end block (fresh_session number line run))
+unfolding play_end
 end_line block number line run out h e = rw (not_empty line h) e

@@ -18,7 +18,7 @@ use Rattle.block.specs.Limits.{max_calls, max_keys}
 use Rattle.block.specs.Record.{recordOf, head_bytes, cell_bytes, receipt_bytes, cell_kind, receipt_kind, end_kind}
 use Rattle.machine.specs.Run.{Run, status_word}
 use Rattle.machine.specs.Step.{cell_at}
-use Rattle.machine.specs.Answer.{answer_number}
+use Rattle.machine.specs.Answer.{refused_number}
 use Rattle.machine.specs.declared.Answer.{Answer}
 use Rattle.text.specs.Lines.{refused_text}
 use Rattle.sheet.specs.Sheet.{Closed, key_high, key_low, key_bytes, cell_records, receipt_records, sheet_records, sheet_bytes, unwritten, filled, max_sheet}
@@ -180,7 +180,7 @@ Short c = length (closing_text c c.answer) ≤ max_close_text
 
 none_short : (out : List ℕ) (a : Answer) → Short (unwritten out a)
 unfolding closing_text
-none_short out a = refused_short 0 (answer_number a)
+none_short out a = refused_short 0 (refused_number a)
 
 filled_short : (out : List ℕ) (rs : List (List ℕ)) → length (flatten rs) ≤ length out → length (sheet_text (flatten rs)) ≤ max_close_text → Short (filled out rs)
 unfolding closing_text

@@ -4,6 +4,6 @@ pub mod PlayLaws
 pub mod PiecesLaws
 pub mod TextLaws
 pub mod CloseLaws
-mod AnswerLaws
+pub mod AnswerLaws
 mod PlayingLaws
 mod RecordLaws

@@ -1,16 +1,16 @@
 // One move on a lent run and block.
 ghost use Rattle.std.specs.Prelude.{◌≡◌};
 ghost use Rattle.machine.specs.Moves.{move_of};
-ghost use Rattle.moves.specs.Lent.{lent, moved};
+ghost use Rattle.moves.specs.Lent.{lent, moved_by};
 
-use machine::Head;
-use moves::Reply;
+use machine::{Answer, Head};
 use moves::begin::begin;
 use moves::cancel::cancel;
 use moves::step::step;
 use schedule::Move;
 
 // BEGIN, STEP or CANCEL, by the move's name.
+#[tactic(auto, unfolding(machine::specs::Moves::move_of))]
 pub fn apply_move(
     head: Head,
     block: &[u8],
@@ -21,9 +21,9 @@ pub fn apply_move(
     seats: &mut [u64],
     frames: &mut [i64],
     m: Move,
-) -> Reply
-    ensures { moved result.answer
-        (lent result.head plan.now keys.now cells.new status.new seats.new frames.new)
+) -> Result<Head, Answer>
+    ensures { moved_by head result
+        (λ h. lent h plan.now keys.now cells.new status.new seats.new frames.new)
         ≡ move_of block.now
         (lent head plan.now keys.now cells.old status.old seats.old
         frames.old) m }

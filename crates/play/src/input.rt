@@ -10,9 +10,9 @@ ghost use Rattle.play.specs.Shown.{fresh_session, shown, shown_from};
 
 use crate::apply::apply_move;
 use crate::line::{line_move, read_byte};
-use crate::{Played, Session, Told};
+use crate::{Played, Session};
 use console::Line;
-use machine::numbers::answer_number;
+use machine::numbers::refused_number;
 use machine::{Answer, Head};
 use text::refused_line;
 use wire::decimal::LINE_FEED;
@@ -24,43 +24,38 @@ pub const MAX_ANSWER: usize = 44;
 const MAX_LINES: u64 = 4294967296;
 
 // The text of an answered move from a position on; an accepted move has none.
-pub fn answer_line(out: &mut [u8], from: u32, line: u64, answer: Answer) -> usize
+#[tactic(auto, using(crate::proofs::AnswerLaws::refused_shown), unfolding(console::specs::Register::answer_text, machine::specs::Answer::answer_number, wire::specs::Bytes::stored))]
+pub fn answer_line(out: &mut [u8], from: u32, line: u64, answer: Result<(), Answer>) -> usize
     ensures { Written out.old out.new from result (answer_text line (answer_number answer)) }
 {
-    let n = answer_number(answer);
-    if n == 0 {
-        return from as usize;
+    match answer {
+        Ok(()) => from as usize,
+        Err(why) => refused_line(out, from, line, refused_number(why)),
     }
-    refused_line(out, from, line, n)
 }
 
 // The number of the line behind a line.
+#[tactic(auto, unfolding(console::specs::Register::next_number))]
 fn next_number(n: u64) -> u64
     ensures { result ≡ next_number n }
 {
     if n < MAX_LINES { n + 1 } else { n }
 }
 
-// A line in no such form: nothing moved, and 0 answered.
-fn play_malformed(number: u64, head: Head, out: &mut [u8], from: u32) -> Told
-    ensures number { result.number ≡ next_number number }
-    ensures head { result.head ≡ head }
-    ensures text { Written out.old out.new from result.end (refused_text number 0) }
+// The next line, of which nothing is read, on a run of this head.
+fn next_line(s: Session, head: Head) -> Session
+    ensures { result ≡ record { number = next_number s.number; line = Empty; head = head } }
 {
-    let end = refused_line(out, from, number, 0);
-    let next = next_number(number);
-    Told {
-        number: next,
+    Session {
+        number: next_number(s.number),
+        line: Line::Empty,
         head,
-        end,
     }
 }
 
-// A whole line: its move, or, in no such form, none.
+// A whole line: its move, or, in no such form, nothing moved and 0 answered.
 fn play_line(
-    number: u64,
-    line: Line,
-    head: Head,
+    s: Session,
     block: &[u8],
     plan: &[u64],
     keys: &[u64],
@@ -70,27 +65,27 @@ fn play_line(
     frames: &mut [i64],
     out: &mut [u8],
     from: u32,
-) -> Told
-    ensures { shown_from result.number Empty
-        (lent result.head plan.now keys.now cells.new status.new seats.new frames.new)
-        out.new result.end
+) -> Played
+    ensures { shown_from result.session.number result.session.line
+        (lent result.session.head plan.now keys.now cells.new status.new seats.new
+        frames.new)
+        out.new result.length
         ≡ shown out.old from
         (play_line block.now
-        (fresh_session number line
-        (lent head plan.now keys.now cells.old status.old seats.old
+        (fresh_session s.number s.line
+        (lent s.head plan.now keys.now cells.old status.old seats.old
         frames.old))) }
 {
-    match line_move(line) {
-        None => play_malformed(number, head, out, from),
-        Some(m) => {
-            let reply = apply_move(head, block, plan, keys, cells, status, seats, frames, m);
-            let end = answer_line(out, from, number, reply.answer);
-            Told {
-                number: next_number(number),
-                head: reply.head,
-                end,
-            }
-        }
+    let Some(m) = line_move(s.line) else {
+        return Played {
+            session: next_line(s, s.head),
+            length: refused_line(out, from, s.number, 0),
+        };
+    };
+    let made = apply_move(s.head, block, plan, keys, cells, status, seats, frames, m);
+    Played {
+        session: next_line(s, made.unwrap_or(s.head)),
+        length: answer_line(out, from, s.number, made.map(|_| ())),
     }
 }
 
@@ -121,16 +116,14 @@ pub fn play_chunk(
         (take n chunk.now)) }
 {
     let end = chunk.len().min(usize::from(n));
-    let mut number = s.number;
-    let mut line = s.line;
-    let mut head = s.head;
-    let mut written = 0;
+    let mut played = Played {
+        session: s,
+        length: 0,
+    };
     for &x in &chunk[..end] {
         if x == LINE_FEED {
-            let t = play_line(
-                number,
-                line,
-                head,
+            played = play_line(
+                played.session,
                 block,
                 plan,
                 keys,
@@ -139,23 +132,17 @@ pub fn play_chunk(
                 seats,
                 frames,
                 out,
-                written as u32,
+                played.length as u32,
             );
-            number = t.number;
-            line = Line::Empty;
-            head = t.head;
-            written = t.end;
         } else {
-            line = read_byte(line, x);
+            played.session.line = read_byte(played.session.line, x);
         }
     }
-    Played {
-        session: Session { number, line, head },
-        length: written,
-    }
+    played
 }
 
-// The rest of the input, which is a line unless it is empty; a line feed ends it.
+// The rest of the input, which is a line unless it is empty.
+#[tactic(auto, using(crate::proofs::AnswerLaws::end_empty, crate::proofs::AnswerLaws::end_line))]
 pub fn play_end(
     s: Session,
     block: &[u8],
@@ -183,7 +170,5 @@ pub fn play_end(
             length: 0,
         };
     }
-    play_chunk(
-        s, block, plan, keys, cells, status, seats, frames, b"\n", 1, out,
-    )
+    play_line(s, block, plan, keys, cells, status, seats, frames, out, 0)
 }

@@ -17,19 +17,11 @@ pub struct Session {
     pub head: Head,
 }
 
-// What a piece of the input leaves: the session behind it, and the length of the answers' text.
+// What a line or a piece of the input leaves: the session behind it, and the length of the answers' text so far.
 #[derive(Clone, Copy)]
 pub struct Played {
     pub session: Session,
     pub length: usize,
-}
-
-// What a whole line leaves: the number of the next, the head of the run, and the position behind the answer's text.
-#[derive(Clone, Copy)]
-pub struct Told {
-    pub number: u64,
-    pub head: Head,
-    pub end: usize,
 }
 
 // The records of a sheet, read up to a position: the number of the next receipt, and where the text ends.

@@ -15,15 +15,13 @@ loop-x-preserved c =
     let l = c.loop-x in
     elim c.if-x-eq-LINE_FEED.branch [
       | then-x-eq-LINE_FEED w ↦
-          let t = w.if-x-eq-LINE_FEED.true in
           playing_on l.invariant c.loop-x-test.true
-          ((λ i. shown_from (w.number-is i) (w.line-is i) (lent (w.head-is i) a.plan.now a.keys.now (w.cells-is i) (w.status-is i) (w.seats-is i) (w.frames-is i)) (w.out-is i) (w.written-is i))
-          ∙ byte_feed a.block.now l.number l.line _ _ l.written _ t w.play_line-t.ensures)
+          ((λ i. shown_from (w.played-is i).session.number (w.played-is i).session.line (lent (w.played-is i).session.head a.plan.now a.keys.now (w.cells-is i) (w.status-is i) (w.seats-is i) (w.frames-is i)) (w.out-is i) (w.played-is i).length)
+          ∙ byte_feed a.block.now l.played.session.number l.played.session.line _ _ l.played.length _ w.if-x-eq-LINE_FEED.true w.play_line-played.ensures)
       | else-x-eq-LINE_FEED w ↦
-          let t = w.if-x-eq-LINE_FEED.false in
           playing_on l.invariant c.loop-x-test.true
-          ((λ i. shown_from (w.number-is i) (w.line-is i) (lent (w.head-is i) a.plan.now a.keys.now (w.cells-is i) (w.status-is i) (w.seats-is i) (w.frames-is i)) (w.out-is i) (w.written-is i))
-          ∙ byte_read a.block.now l.number l.line _ _ l.written _ t w.read_byte-line.ensures)
+          ((λ i. shown_from (w.played-is i).session.number (w.played-is i).session.line (lent (w.played-is i).session.head a.plan.now a.keys.now (w.cells-is i) (w.status-is i) (w.seats-is i) (w.frames-is i)) (w.out-is i) (w.played-is i).length)
+          ∙ byte_read a.block.now l.played.session.number l.played.session.line _ _ l.played.length _ w.if-x-eq-LINE_FEED.false w.read_byte-played.ensures)
     ]
 
 pub returns : goal.returns

@@ -1,17 +1,17 @@
 -- `play::input::play_line` meets its contract: the line names a move, which is made and answered, or none.
+use mathlib.Core.Path.{sym, ◌∙◌}
 use Rattle.moves.specs.Lent.{lent}
-use Rattle.machine.specs.declared.Head.{Head}
-use mathlib.Core.Path.{sym, ap, ◌∙◌}
-use Rattle.play.specs.Named.{as_move}
-use Rattle.play.proofs.AnswerLaws.{line_none, line_some}
+use Rattle.play.proofs.AnswerLaws.{line_none, line_some, made_parts}
 use Rattle.play.proofs.input.play_line.Goals as goal
 
-pub returns-in-None : goal.returns-in-None
-returns-in-None c =
+pub returns-in_default : goal.returns-in_default
+returns-in_default c =
     let a = c.args in
-    line_none a.block.now a.number a.line _ _ _ _ _ (ap as_move (sym c.in-None.is) ∙ c.line_move.ensures) c.play_malformed.ensures.number (ap (λ (h : Head). lent h a.plan.now a.keys.now a.cells.now a.status.now a.seats.now a.frames.now) c.play_malformed.ensures.head) c.play_malformed.ensures.text
+    rw c.next_line.ensures (line_none a.block.now a.s.number a.s.line _ _ _ _ _ (sym c.in_default.is ∙ c.line_move.ensures) c.refused_line.ensures)
 
-pub returns-in-Some : goal.returns-in-Some
-returns-in-Some c =
+pub returns : goal.returns
+returns c =
     let a = c.args in
-    line_some a.block.now a.number a.line _ _ _ _ _ c.in-Some.m (ap as_move (sym c.in-Some.is) ∙ c.line_move.ensures) c.next_number.ensures c.apply_move-reply.ensures c.answer_line-end.ensures
+    let made = made_parts a.s.head c.apply_move-made.result (λ h. lent h a.plan.now a.keys.now c.apply_move-made.new.cells c.apply_move-made.new.status c.apply_move-made.new.seats c.apply_move-made.new.frames)
+    (λ why e. rw e at c.map.ensures.cases) c.map.ensures.variant c.unwrap_or.ensures c.apply_move-made.ensures in
+    rw c.next_line-2.ensures (line_some a.block.now a.s.number a.s.line _ _ _ _ _ c.in-Some.m (sym c.in-Some.is ∙ c.line_move.ensures) made c.answer_line.ensures)
