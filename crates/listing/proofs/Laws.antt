@@ -1,5 +1,5 @@
 -- What the proofs of this crate cite: a row by its words, and a loop over the rows of a plan.
-use Rattle.std.specs.Prelude.{Err, Ok, Result}
+use Rattle.std.specs.Prelude.{if◌then◌else◌, Err, Ok, Result, Bool, true, false, ◌||◌, not, eqb, ltb}
 use mathlib.Core.Path.{◌≡◌, refl, sym, ap, ap₂, ◌∙◌, subst}
 use mathlib.Core.List.{List, [], ◌∷◌, ◌++◌, map}
 use Prim.Native.Nat.{ℕ, suc, ◌+◌, ◌-◌, ◌*◌, ◌≤◌, ◌<◌, min}
@@ -20,14 +20,16 @@ use Rattle.text.proofs.WrittenLaws.{spaced_line, written_more}
 use Rattle.text.proofs.Laws.{digits_length, spaced_length}
 use Rattle.text.proofs.Bits.{bits_length}
 use Rattle.text.specs.Written.{Written, spaced}
-use Rattle.reader.specs.Layout.{layout_of}
+use Rattle.reader.specs.Layout.{layout_of, layout_for}
 use Rattle.reader.specs.declared.Layout.{Layout}
 use Rattle.block.specs.BlockOfFile.{block_in, block_of}
-use Rattle.machine.specs.Run.{Sizes, fixed_sizes, row_in}
+use Rattle.machine.specs.Run.{Sizes, fixed_sizes, room_in, large_enough, row_in}
 use Rattle.machine.specs.Opening as machine
-use Rattle.machine.specs.Opening.{opening_of}
-use Rattle.opening.specs.Opened.{opening_with}
-use Rattle.opening.specs.declared.Opened.{Opened}
+use Rattle.machine.specs.Opening.{refused_run, open_prepared, opening_of}
+use Rattle.machine.specs.declared.Head.{Head}
+use Rattle.footprint.specs.Plan.{prepare_read, unprepared}
+use Rattle.block.specs.declared.Refusal.TheVariants.{Workers, Buffers}
+use Rattle.opening.specs.Opened.{opening_with, head_with, verdict_of}
 use Rattle.opening.proofs.Laws.{accepted_large}
 use Rattle.listing.specs.Listing.{rows_text, listing_text, listing_of, Listed}
 
@@ -94,44 +96,66 @@ counts_length a b c d =
     omega (arith, ap length (spaced_line ps), length-append (spaced ps) (line_feed ∷ []), spaced_length (a ∷ b ∷ c ∷ d ∷ []))
 
 module _ (functions cells calls keys : ℕ) (plan : List ℕ) where
-  pub listed : (s t u : List ℕ) (at r n : ℕ) (v : Result (Unit {0}) Refusal) → v ≡ (Ok tt) → n ≡ min calls max_calls
+  pub listed : (s t u : List ℕ) (at r n : ℕ) → n ≡ min calls max_calls
       → Written s t 0 at (counts_text functions cells calls keys) → Written t u at r (rows_text n 0 plan)
-      → Written s u 0 r (listing_text functions cells calls keys plan v)
+      → Written s u 0 r (listing_text functions cells calls keys plan (Ok tt))
   unfolding listing_text
-  listed s t u at r n v e f w x =
-      rw (e, ← f) (written_more s t u 0 at r (counts_text functions cells calls keys) (rows_text n 0 plan) w (x.same, x.end))
+  listed s t u at r n f w x =
+      rw (← f) (written_more s t u 0 at r (counts_text functions cells calls keys) (rows_text n 0 plan) w (x.same, x.end))
 
-  pub unlisted : (s t : List ℕ) (r n o : ℕ) (why : Refusal) (v : Result (Unit {0}) Refusal) → v ≡ Err why → n ≡ number_of why → o ≡ offset_of why
-      → Written s t 0 r (block_refused_text n o) → Written s t 0 r (listing_text functions cells calls keys plan v)
+  pub unlisted : (s t : List ℕ) (r n o : ℕ) (why : Refusal) → n ≡ number_of why → o ≡ offset_of why
+      → Written s t 0 r (block_refused_text n o) → Written s t 0 r (listing_text functions cells calls keys plan (Err why))
   unfolding listing_text
-  unlisted s t r n o why v e f g w = rw (e, ← f, ← g) w
+  unlisted s t r n o why f g w = rw (← f, ← g) w
 
--- What was read of a file, in numbers.
-functions_read : (x : Read) → (layout_of x).functions ≡ length (block_in x).functions
-unfolding layout_of block_in
-functions_read (accepted b) = refl
-functions_read (refused why) = refl
+-- ---- an accepted block
 
-cells_read : (x : Read) → (layout_of x).cells ≡ length (block_in x).cells
-unfolding layout_of block_in
-cells_read (accepted b) = refl
-cells_read (refused why) = refl
+-- Where the tests before the block is read pass, its answer is that of the block.
+passed : (a b : Bool) (s : Sizes) (x : machine.Opened)
+    → (if not a then refused_run s Buffers else if b then refused_run s Workers else x).answer ≡ (Ok tt) → x.answer ≡ (Ok tt)
+unfolding refused_run
+passed true true s x e = let z : ◌≡◌ {A = ℕ} 0 1 = cc in absurd (omega arith)
+passed true false s x e = e
+passed false b s x e = let z : ◌≡◌ {A = ℕ} 0 1 = cc in absurd (omega arith)
 
--- An accepted block was opened in a plan that is large enough.
-pub plan_opened : (file : List ℕ) (s : Sizes) {plan keys : List ℕ} {cells : List ℤ} {status seats : List ℕ} {frames : List ℤ} {o : Opened}
-    → opening_with o plan keys cells status seats frames ≡ opening_of s file max_workers → o.verdict ≡ (Ok tt) → fixed_sizes.plan ≤ s.plan
-plan_opened file s e h = accepted_large s file max_workers (sym (ap (λ (x : machine.Opened). x.answer) e) ∙ h)
+-- It was read.
+read_of : (s : Sizes) (file : List ℕ) (r : Read)
+    → (open_prepared s max_workers (prepare_read (room_in s) file r) (prepare_read (room_in s) file r).verdict).answer ≡ (Ok tt)
+    → layout_of r ≡ Ok (layout_for (block_in r))
+unfolding open_prepared refused_run prepare_read unprepared layout_of block_in
+read_of s file (refused why) e = let z : ◌≡◌ {A = ℕ} 0 1 = cc in absurd (omega arith)
+read_of s file (accepted b) e = refl
+
+module _ (file : List ℕ) (s : Sizes) {plan keys : List ℕ} {cells : List ℤ} {status seats : List ℕ} {frames : List ℤ} {head : Head}
+    (e : opening_with (Ok head) plan keys cells status seats frames ≡ opening_of s file max_workers) where
+  answer_is : (opening_of s file max_workers).answer ≡ (Ok tt)
+  answer_is = sym (ap (λ (x : machine.Opened). x.answer) e)
+
+  -- The plan is large enough.
+  pub plan_opened : fixed_sizes.plan ≤ s.plan
+  plan_opened = accepted_large s file max_workers answer_is
+
+  pub block_read : {r : Result Layout Refusal} → r ≡ layout_of (read_block file) → r ≡ Ok (layout_for (block_of file))
+  unfolding opening_of
+  block_read f =
+      f
+      ∙ read_of s file (read_block file)
+      (passed (large_enough s) (eqb max_workers 0 || ltb max_workers max_workers) s
+      (open_prepared s max_workers (prepare_read (room_in s) file (read_block file)) (prepare_read (room_in s) file (read_block file)).verdict) answer_is)
+
+  -- Its layout is that of the block.
+  pub block_laid : {r : Result Layout Refusal} {l : Layout} → r ≡ layout_of (read_block file) → r ≡ Ok l → l ≡ layout_for (block_of file)
+  block_laid {r} {l} f g = let same : ◌≡◌ {A = Result Layout Refusal} (Ok l) (Ok (layout_for (block_of file))) = sym g ∙ block_read f in cc
 
 -- A file that is opened, read and listed.
-pub all_listed : (file : List ℕ) (s : Sizes) (plan keys : List ℕ) (cells : List ℤ) (status seats : List ℕ) (frames : List ℤ) (before after : List ℕ) (r : ℕ)
-    (o : Opened) (l : Layout) → opening_with o plan keys cells status seats frames ≡ opening_of s file max_workers → l ≡ layout_of (read_block file)
-    → Written before after 0 r (listing_text l.functions l.cells o.head.calls o.head.cells plan o.verdict)
-    → Listed file s plan keys cells status seats frames before after r
-all_listed file s plan keys cells status seats frames before after r o l e f w =
-    let functions : l.functions ≡ length (block_of file).functions = ap (λ (x : Layout). x.functions) f ∙ functions_read (read_block file) in
-    let cell_count : l.cells ≡ length (block_of file).cells = ap (λ (x : Layout). x.cells) f ∙ cells_read (read_block file) in
-    let text : listing_text l.functions l.cells o.head.calls o.head.cells plan o.verdict ≡ listing_of s file =
-    ap (λ (x : machine.Opened). listing_text l.functions l.cells x.run.head.calls x.run.head.cells x.run.plan x.answer) e
+pub all_listed : (file : List ℕ) (s : Sizes) (plan keys : List ℕ) (cells : List ℤ) (status seats : List ℕ) (frames : List ℤ) (before after : List ℕ) (n : ℕ)
+    (r : Result Head Refusal) {f c : ℕ} → opening_with r plan keys cells status seats frames ≡ opening_of s file max_workers
+    → f ≡ length (block_of file).functions → c ≡ length (block_of file).cells
+    → Written before after 0 n (listing_text f c (head_with r).calls (head_with r).cells plan (verdict_of r))
+    → Listed file s plan keys cells status seats frames before after n
+all_listed file s plan keys cells status seats frames before after n r {f} {c} e functions cell_count w =
+    let text : listing_text f c (head_with r).calls (head_with r).cells plan (verdict_of r) ≡ listing_of s file =
+    ap (λ (x : machine.Opened). listing_text f c x.run.head.calls x.run.head.cells x.run.plan x.answer) e
     ∙ ap₂ (λ (a b : ℕ). listing_text a b (opening_of s file max_workers).run.head.calls (opening_of s file max_workers).run.head.cells (opening_of s file max_workers).run.plan (opening_of s file max_workers).answer) functions cell_count in
     record {
       plan_is = ap (λ (x : machine.Opened). x.run.plan) e;
@@ -140,5 +164,5 @@ all_listed file s plan keys cells status seats frames before after r o l e f w =
       status_is = ap (λ (x : machine.Opened). x.run.status) e;
       seats_is = ap (λ (x : machine.Opened). x.run.seats) e;
       frames_is = ap (λ (x : machine.Opened). x.run.frames) e;
-      text = subst (λ (t : List ℕ). Written before after 0 r t) text w;
+      text = subst (λ (t : List ℕ). Written before after 0 n t) text w;
     }

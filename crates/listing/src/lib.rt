@@ -27,7 +27,7 @@ fn rows(plan: &[u64], calls: usize, out: &mut [u8], from: usize) -> usize
 {
     let mut at = from;
     for call in 0..calls {
-        let row = opening::row_of(plan, call);
+        let row = opening::row_of(plan, call as u8);
         at = row_line(out, at as u32, call as u64, row);
     }
     at
@@ -49,20 +49,19 @@ pub fn list(
         (length seats.old) (length frames.old)) plan.new keys.new cells.new status.new
         seats.new frames.new out.old out.new result }
 {
-    let o = opening::open(file, MAX_WORKERS, plan, keys, cells, status, seats, frames);
-    match o.verdict {
+    match opening::open(file, MAX_WORKERS, plan, keys, cells, status, seats, frames) {
         Err(why) => block_refused_line(out, 0, number_of(why), offset_of(why)),
-        Ok(()) => {
-            let l = reader::read_block(file);
+        Ok(head) => {
+            let l = reader::read_block(file).unwrap();
             let at = counts_line(
                 out,
                 0,
                 l.functions as u64,
                 l.cells as u64,
-                o.head.calls as u64,
-                o.head.cells as u64,
+                head.calls as u64,
+                head.cells as u64,
             );
-            rows(plan, o.head.calls.min(MAX_CALLS), out, at)
+            rows(plan, head.calls.min(MAX_CALLS), out, at)
         }
     }
 }

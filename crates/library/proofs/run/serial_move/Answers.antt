@@ -8,4 +8,4 @@ returns-then-not-large c = serial_refused _ _ (sym c.large_enough-large.ensures 
 
 pub returns : goal.returns
 returns c =
-    serial_made _ _ (sym c.large_enough-large.ensures ∙ c.if-not-large.false) c.serial_run-after.ensures
+    serial_made _ _ (sym c.large_enough-large.ensures ∙ c.if-not-large.false) c.serial_run.ensures
