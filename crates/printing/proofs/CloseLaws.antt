@@ -12,7 +12,7 @@ use Rattle.text.specs.Lines.{refused_text}
 use Rattle.text.specs.Written.{Written}
 use Rattle.wire.specs.Decimal.{decimal, text_line}
 use Rattle.machine.specs.Run.{Run}
-use Rattle.machine.specs.Answer.{answer_number}
+use Rattle.machine.specs.Answer.{refused_number}
 use Rattle.machine.specs.declared.Answer.{Answer}
 use Rattle.sheet.specs.Sheet.{Closed, sheet_records, sheet_of, max_sheet}
 use Rattle.sheet.proofs.RecordLists.{behind_whole}
@@ -83,7 +83,7 @@ module _ (r : Run) (bytes out : List ℕ) where
     written_is Text n e = ap (closing_text made) (sym e) ∙ close_is closing_text
     written_is Sheet n e = ap (closing_bytes made) (sym e) ∙ close_is closing_bytes
 
-    refused_is : (output : Output) (a : Answer) → answer ≡ Err a → printed_lines output (refused_text 0 (answer_number a)) ≡ printed_close output r
+    refused_is : (output : Output) (a : Answer) → answer ≡ Err a → printed_lines output (refused_text 0 (refused_number a)) ≡ printed_close output r
     unfolding printed_lines printed_close closing_text closing_bytes
     refused_is Text a e = ap (closing_text made) (sym e) ∙ close_is closing_text
     refused_is Sheet a e = ap (closing_bytes made) (sym e) ∙ close_is closing_bytes
@@ -98,7 +98,7 @@ module _ (r : Run) (bytes out : List ℕ) where
           → Handed before x (printed_close output r) after y
       closed_written n e h = handed_as (written_is output n e) h
 
-      pub closed_refused : (a : Answer) → answer ≡ Err a → Handed before x (printed_lines output (refused_text 0 (answer_number a))) after y
+      pub closed_refused : (a : Answer) → answer ≡ Err a → Handed before x (printed_lines output (refused_text 0 (refused_number a))) after y
           → Handed before x (printed_close output r) after y
       closed_refused a e h = handed_as (refused_is output a e) h
 

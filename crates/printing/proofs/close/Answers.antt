@@ -33,4 +33,4 @@ pub returns-in-Err : goal.returns-in-Err
 unfolding repeated
 returns-in-Err g c =
     let a = c.args in
-    record { text = closed_refused (lent a.head a.plan.now a.keys.now a.cells.now a.status.now a.seats.now a.frames.now) c.sheet.new.output _ c.sheet.ensures.same refl a.output c.in-Err.answer c.in-Err.is c.refuse_sheet.ensures.text; received = c.refuse_sheet.ensures.received }
+    record { text = closed_refused (lent a.head a.plan.now a.keys.now a.cells.now a.status.now a.seats.now a.frames.now) c.sheet.new.output _ c.sheet.ensures.same refl a.output c.in-Err.why c.in-Err.is c.refuse_sheet.ensures.text; received = c.refuse_sheet.ensures.received }

@@ -8,11 +8,11 @@ use Rattle.printing.proofs.CloseLaws.{line_short, line_front}
 use Rattle.printing.proofs.refuse_sheet.Goals as goal
 
 pub slice_bounds-text-end : goal.slice_bounds-text-end
-slice_bounds-text-end g c = omega (arith, line_short 114 0 c.answer_number.result c.refused_line-n.ensures)
+slice_bounds-text-end g c = omega (arith, line_short 114 0 c.refused_number.result c.refused_line-n.ensures)
 
 pub slice_bounds-say-end : goal.slice_bounds-say-end
-slice_bounds-say-end g c = sym (length-take-le _ _ (omega (arith, line_short 114 0 c.answer_number.result c.refused_line-n.ensures)))
+slice_bounds-say-end g c = sym (length-take-le _ _ (omega (arith, line_short 114 0 c.refused_number.result c.refused_line-n.ensures)))
 
 pub returns : goal.returns
 returns g c =
-    record { text = handed_as (ap (printed_lines c.args.output) (line_front 114 0 c.answer_number.result c.refused_line-n.ensures (omega (arith, line_short 114 0 c.answer_number.result c.refused_line-n.ensures)) refl c.answer_number.ensures)) c.say.ensures.text; received = c.say.ensures.received }
+    record { text = handed_as (ap (printed_lines c.args.output) (line_front 114 0 c.refused_number.result c.refused_line-n.ensures (omega (arith, line_short 114 0 c.refused_number.result c.refused_line-n.ensures)) refl c.refused_number.ensures)) c.say.ensures.text; received = c.say.ensures.received }
