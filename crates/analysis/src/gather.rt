@@ -41,7 +41,8 @@ fn place(s: &Sets, u: KeyUse) -> Option<usize>
         .position(|k| (k.high == u.high) & (k.low == u.low))
 }
 
-// One more use: it joins that of its key, or its key is a new one behind the others, unless there are as many as the limit.
+// One more use: it joins that of its key, or its key is a new one behind the others, unless there are as many as the limit. A new one is
+// stored field by field, which spares the walk to carry the bytes between the fields along.
 fn with_use(s: &mut Sets, u: KeyUse) -> Option<()>
     ensures { (es : List Access) (a : Access) → Holds s.old es → u ≡ use_of a → Gathered (option_map (λ _. s.new) result) (merge es a) }
 {
@@ -57,12 +58,13 @@ fn with_use(s: &mut Sets, u: KeyUse) -> Option<()>
     if s.count == MAX_CALL_KEYS {
         return None;
     }
-    s.keys[s.count] = u;
+    s.keys[s.count] = KeyUse { ..u };
     s.count += 1;
     Some(())
 }
 
-// The uses of one instruction, or of the entry, in their order.
+// The uses of one instruction, or of the entry, in their order. Inlined, since preparing a large block spends most of its time in this walk.
+#[inline(always)]
 fn with_uses(s: &mut Sets, us: Uses) -> Option<()>
     ensures { (es more : List Access) → length more ≤ 2 → Holds s.old es → us ≡ uses_of more
         → Gathered (option_map (λ _. s.new) result) (merge_all es more) }

@@ -20,8 +20,7 @@ use machine::Action;
 use machine::layout::REGISTERS;
 
 // The buffers of a run, lent by the caller.
-// Stays: begin, step and cancel here, their forms in in_place, closing::sheet, opening::open and the exports take them as slices. That is the C interface: one
-// pointer and length each, and BEGIN and CANCEL are lent as const what they do not write.
+// Stays: begin, step, cancel, their forms in in_place, sheet, open and the exports take slices (a): C lends each by itself, and what a move only reads as const.
 #[derive(Drop)]
 pub struct Buffers<'a> {
     pub plan: &'a [u64],

@@ -18,6 +18,7 @@ use machine::layout::{STATUS_WORDS, WAIT_WORD, large_enough};
 use wire::ROW_WORDS;
 
 // A head whose workers hold no call.
+#[tactic(auto, unfolding(wire::specs::Bytes::repeated))]
 fn idle_head(workers: usize, calls: usize, cells: usize, start: usize) -> Head
     ensures { result ≡ head_of workers calls cells start }
 {
@@ -31,6 +32,7 @@ fn idle_head(workers: usize, calls: usize, cells: usize, start: usize) -> Head
 }
 
 // The refusals that come before the block is read: 20 and 13.
+#[tactic(auto, unfolding(crate::specs::Opened::tested_for))]
 fn tested(large: bool, workers: usize) -> Result<(), Refusal>
     ensures { result ≡ tested_for large workers }
 {
