@@ -20,7 +20,7 @@ use machine::Action;
 use machine::layout::REGISTERS;
 
 // The buffers of a run, lent by the caller.
-// Stays: begin, step, cancel, their forms in in_place, sheet, open and the exports take slices (a): C lends each by itself, and what a move only reads as const.
+// Stays: begin, step, cancel, in_place, sheet, open and the exports take slices (a): C lends each by itself, and as const what is only read.
 #[derive(Drop)]
 pub struct Buffers<'a> {
     pub plan: &'a [u64],

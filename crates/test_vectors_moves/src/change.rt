@@ -26,6 +26,17 @@ pub struct Lent {
     pub frames: usize,
 }
 
+// All that can be lent of the buffers: a record changes plan and keys, too, so this is no `moves::Buffers`.
+#[derive(Drop)]
+pub struct Room<'a> {
+    pub plan: &'a mut [u64],
+    pub keys: &'a mut [u64],
+    pub cells: &'a mut [i64],
+    pub status: &'a mut [u64],
+    pub seats: &'a mut [u64],
+    pub frames: &'a mut [i64],
+}
+
 // The head of no run.
 pub(crate) const NO_HEAD: Head = Head {
     workers: 0,
@@ -80,25 +91,17 @@ pub(crate) fn put_bytes(record: &[u8], block: &mut [u8]) {
 }
 
 // A word of a buffer, by the buffer's number: plan, keys, cells, status, seats, frames.
-pub(crate) fn put_word(
-    record: &[u8],
-    plan: &mut [u64],
-    keys: &mut [u64],
-    cells: &mut [i64],
-    status: &mut [u64],
-    seats: &mut [u64],
-    frames: &mut [i64],
-) {
+pub(crate) fn put_word(record: &[u8], room: &mut Room<'_>) {
     let buffer = part_1(record);
     let i = part_2(record) as usize;
     let v = part_3(record);
     match buffer {
-        0 => wire::put(plan, i, v),
-        1 => wire::put(keys, i, v),
-        2 => wire::put(cells, i, arith::signed64(v)),
-        3 => wire::put(status, i, v),
-        4 => wire::put(seats, i, v),
-        _ => wire::put(frames, i, arith::signed64(v)),
+        0 => wire::put(room.plan, i, v),
+        1 => wire::put(room.keys, i, v),
+        2 => wire::put(room.cells, i, arith::signed64(v)),
+        3 => wire::put(room.status, i, v),
+        4 => wire::put(room.seats, i, v),
+        _ => wire::put(room.frames, i, arith::signed64(v)),
     }
 }
 

@@ -4,6 +4,7 @@ use crate::change::part_1;
 use crate::digest::bytes;
 use machine::numbers::refused_number;
 use machine::{Answer, Head};
+use moves::Buffers;
 
 // The number of a sheet's answer and its length, 0 if it is refused.
 fn answered(rt: &impl Print, answer: Result<usize, Answer>) {
@@ -20,77 +21,21 @@ fn answered(rt: &impl Print, answer: Result<usize, Answer>) {
 }
 
 // A sheet written to an output, with its line, which ends in the hash of the output's bytes.
-fn close_into(
-    rt: &impl Print,
-    head: Head,
-    plan: &[u64],
-    keys: &[u64],
-    cells: &[i64],
-    status: &[u64],
-    seats: &[u64],
-    frames: &[i64],
-    output: &mut [u8],
-) {
-    let answer = closing::sheet(head, plan, keys, cells, status, seats, frames, output);
+fn close_into(rt: &impl Print, head: Head, run: &Buffers<'_>, output: &mut [u8]) {
+    let answer = closing::sheet(
+        head, run.plan, run.keys, run.cells, run.status, run.seats, run.frames, output,
+    );
     text(rt, "c");
     answered(rt, answer);
     number(rt, bytes(output));
     text(rt, "\n");
 }
 
-// The same with a part of an output. Nothing is done where a longer one is asked for.
-fn close_part(
-    rt: &impl Print,
-    head: Head,
-    record: &[u8],
-    plan: &[u64],
-    keys: &[u64],
-    cells: &[i64],
-    status: &[u64],
-    seats: &[u64],
-    frames: &[i64],
-    output: &mut [u8],
-) {
-    let room = part_1(record) as usize;
-    if output.len() < room {
-        return;
-    }
-    close_into(
-        rt,
-        head,
-        plan,
-        keys,
-        cells,
-        status,
-        seats,
-        frames,
-        &mut output[..room],
-    );
-}
-
-// The same with an output whose bytes are 7, longer than the longest sheet by eight.
-pub(crate) fn close(
-    rt: &impl Print,
-    head: Head,
-    record: &[u8],
-    plan: &[u64],
-    keys: &[u64],
-    cells: &[i64],
-    status: &[u64],
-    seats: &[u64],
-    frames: &[i64],
-) {
+// The same with a part of an output whose bytes are 7, longer than the longest sheet by eight. Nothing is done where a longer one is asked for.
+pub(crate) fn close(rt: &impl Print, head: Head, record: &[u8], run: &Buffers<'_>) {
     let mut output = [7u8; 26636];
-    close_part(
-        rt,
-        head,
-        record,
-        plan,
-        keys,
-        cells,
-        status,
-        seats,
-        frames,
-        &mut output,
-    );
+    let room = part_1(record) as usize;
+    if room <= output.len() {
+        close_into(rt, head, run, &mut output[..room]);
+    }
 }

@@ -1,5 +1,6 @@
 // A hash of a lent run: FNV-1a with words of 64 bits in the place of bytes, over the head and the six buffers; and of an output.
 use machine::Head;
+use moves::Buffers;
 
 const BASIS: u64 = 14695981039346656037;
 
@@ -46,18 +47,10 @@ fn head_words(head: Head) -> u64 {
 }
 
 // The head's workers, calls, cells, first, and what each worker holds; then plan, keys, cells, status, seats and frames.
-pub(crate) fn digest(
-    head: Head,
-    plan: &[u64],
-    keys: &[u64],
-    cells: &[i64],
-    status: &[u64],
-    seats: &[u64],
-    frames: &[i64],
-) -> u64 {
-    let planned = words(head_words(head), plan);
-    let keyed = words(planned, keys);
-    let celled = values(keyed, cells);
-    let stated = words(celled, status);
-    values(words(stated, seats), frames)
+pub(crate) fn digest(head: Head, run: &Buffers<'_>) -> u64 {
+    let planned = words(head_words(head), run.plan);
+    let keyed = words(planned, run.keys);
+    let celled = values(keyed, run.cells);
+    let stated = words(celled, run.status);
+    values(words(stated, run.seats), run.frames)
 }

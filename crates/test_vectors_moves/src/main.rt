@@ -8,7 +8,7 @@ mod close;
 mod digest;
 mod play;
 
-use crate::change::Lent;
+use crate::change::{Lent, Room};
 
 // A record has four words of eight bytes: its kind and three parts.
 const RECORD_BYTES: usize = 32;
@@ -22,25 +22,14 @@ const WORD: u64 = 8;
 const HEAD: u64 = 9;
 
 // One record: a change of the block, of a buffer, or of what is lent; or an opening, a move, a serial run or a sheet.
-fn turn(
-    rt: &impl Print,
-    lent: Lent,
-    record: &[u8],
-    block: &mut [u8],
-    plan: &mut [u64],
-    keys: &mut [u64],
-    cells: &mut [i64],
-    status: &mut [u64],
-    seats: &mut [u64],
-    frames: &mut [i64],
-) -> Lent {
+fn turn(rt: &impl Print, lent: Lent, record: &[u8], block: &mut [u8], room: &mut Room<'_>) -> Lent {
     let kind = wire::read_le::<8>(record, 0);
     if kind == BYTES {
         change::put_bytes(record, block);
         return lent;
     }
     if kind == WORD {
-        change::put_word(record, plan, keys, cells, status, seats, frames);
+        change::put_word(record, room);
         return lent;
     }
     if kind < OPEN {
@@ -49,22 +38,11 @@ fn turn(
     if kind == HEAD {
         return change::damage(lent, record);
     }
-    play::play(
-        rt, lent, record, block, plan, keys, cells, status, seats, frames,
-    )
+    play::play(rt, lent, record, block, room)
 }
 
 // Every record of the input, of which there are at most as many as the loop counts.
-fn run(
-    rt: &(impl Input + Print),
-    block: &mut [u8],
-    plan: &mut [u64],
-    keys: &mut [u64],
-    cells: &mut [i64],
-    status: &mut [u64],
-    seats: &mut [u64],
-    frames: &mut [i64],
-) {
+fn run(rt: &(impl Input + Print), block: &mut [u8], room: &mut Room<'_>) {
     let mut lent = change::nothing_lent();
     for _ in 0..u64::MAX {
         let mut record = [0u8; RECORD_BYTES];
@@ -72,9 +50,7 @@ fn run(
         if n < RECORD_BYTES {
             return;
         }
-        lent = turn(
-            rt, lent, &record, block, plan, keys, cells, status, seats, frames,
-        );
+        lent = turn(rt, lent, &record, block, room);
     }
 }
 
@@ -87,14 +63,13 @@ fn main(rt: HostRuntime) {
     let mut status = [0u64; 1032];
     let mut seats = [0u64; 136];
     let mut frames = [0i64; 264];
-    run(
-        &rt,
-        &mut block,
-        &mut plan,
-        &mut keys,
-        &mut cells,
-        &mut status,
-        &mut seats,
-        &mut frames,
-    );
+    let mut room = Room {
+        plan: &mut plan,
+        keys: &mut keys,
+        cells: &mut cells,
+        status: &mut status,
+        seats: &mut seats,
+        frames: &mut frames,
+    };
+    run(&rt, &mut block, &mut room);
 }
