@@ -13,6 +13,7 @@ use machine::layout::{CELLS_SIZE, FRAMES_SIZE, KEYS_SIZE, PLAN_SIZE, SEATS_SIZE,
 use machine::numbers::refused_number;
 use sheet::MAX_SHEET;
 
+// Stays: three functions of one shape (a), each the definition of its name.
 // The number of a verdict, 0 if the block is accepted.
 #[tactic(auto, unfolding(block::specs::Refusal::verdict_number))]
 pub fn verdict_number(verdict: Result<(), Refusal>) -> u64
