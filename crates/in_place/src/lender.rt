@@ -1,4 +1,5 @@
 // BEGIN, STEP and CANCEL by value, made on a head of their own that they lend: the contracts are those of `moves`.
+// Stays: three functions, by the project's rule, as those that they call.
 ghost use Rattle.std.specs.Prelude.{◌≡◌};
 ghost use Rattle.machine.specs.Moves.{begin_of, cancel_of, step_of};
 ghost use Rattle.moves.specs.Lent.{lent, moved_by};

@@ -1,11 +1,11 @@
 -- The mathematics of the proofs of `entries`, over plain variables: what is asked of each entry, and the turns over a call's entries.
-use mathlib.Core.Path.{◌≡◌, refl, sym, ◌∙◌}
-use mathlib.Core.Bool.{Bool, true, ◌&&◌, ◌||◌, not}
+use mathlib.Core.Path.{◌≡◌, refl, ◌∙◌}
+use mathlib.Core.Bool.{Bool, ◌&&◌, ◌||◌, not}
 use mathlib.Core.List.{List, [], ◌∷◌}
 use mathlib.Core.Logic.{◌⊎◌, inl, inr}
 use Prim.Native.Nat.{ℕ, ◌+◌, ◌%◌, ◌≤◌, ◌<◌}
 use native.Mathlib.Nat.{add_assoc}
-use borrow.Author.Tests.{le-leb, leb-true}
+use borrow.Author.Tests.{le-leb}
 use lib.Dec.{eqb, ltb}
 use lib.IntN.{ℤ, pos}
 use lib.ListN.{length, get_or, set, drop}
@@ -16,7 +16,6 @@ use Rattle.wire.specs.Bytes.{stored}
 use Rattle.block.specs.Limits.{max_call_keys, max_keys}
 use Rattle.footprint.specs.Plan.{entry_cell, entry_writes}
 use Rattle.machine.specs.Step.{cell_at, entries_allowed, restorable, saved_of, restored}
-use Rattle.moves.proofs.HeldLaws.{and_left}
 
 -- ---- each entry can be used to keep and to restore
 
@@ -30,10 +29,6 @@ allowed_each (e ∷ es) = rw (allowed_each es)
 
 pub restorable_each : (n : ℕ) {es own : List ℕ} {r : Bool} → n ≤ max_call_keys → own ≡ es → r ≡ list_all entry_allowed own → r ≡ restorable n es
 restorable_each n {es} few e f = rw (le-leb n max_call_keys few, ← allowed_each es, ← e) f
-
--- Entries that can be restored are few enough.
-pub restorable_few : (n : ℕ) (es : List ℕ) → true ≡ restorable n es → n ≤ max_call_keys
-restorable_few n es e = leb-true n max_call_keys (sym (and_left _ _ e))
 
 -- ---- a turn of keeping stores the next entry's value
 

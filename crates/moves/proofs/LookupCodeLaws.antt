@@ -3,29 +3,19 @@ use mathlib.Core.Path.{◌≡◌, ◌∙◌}
 use mathlib.Core.Bool.{true, false, ◌&&◌, ◌||◌, not}
 use mathlib.Core.List.{List}
 use Prim.Native.Nat.{ℕ, ◌+◌, ◌≤◌, ◌<◌}
-use borrow.Author.Tests.{le-leb, lt-leb, le-ltb, lt-ltb}
+use borrow.Author.Tests.{le-ltb, lt-ltb}
 use lib.ListN.{length, get_or, drop}
 use Rattle.std.specs.Prelude.{if◌then◌else◌, None, Option, Some}
 use Rattle.std.proofs.lemmas.List.{at_drop_more, at_drop_all}
-use Rattle.block.specs.Limits.{max_call_keys, max_keys}
+use Rattle.block.specs.Limits.{max_keys}
 use Rattle.footprint.specs.Plan.{entry_cell, entry_reads, entry_writes}
 use Rattle.footprint.specs.Access.{Access}
-use Rattle.machine.specs.Run.{has_key, entries_of}
+use Rattle.machine.specs.Run.{has_key}
 use Rattle.machine.specs.Step.{find_entry}
-use Rattle.machine.specs.Moves.{call_key_count}
-use Rattle.moves.specs.Turn.{lookup_in}
 
 -- The entry that has the key.
 abbrev pub kept_by : ℕ → Access → Option ℕ
 kept_by e a = if (not a.reads || entry_reads e) && (not a.writes || entry_writes e) then Some (entry_cell e) else None
-
--- The number of a call's keys decides whether its entries are looked at.
-module _ (plan keys : List ℕ) (c : ℕ) (a : Access) {n : ℕ} (own : n ≡ call_key_count plan c) where
-  pub lookup_over : max_call_keys < n → None ≡ lookup_in plan keys c a
-  lookup_over h = rw (← own, lt-leb n max_call_keys h)
-
-  pub lookup_start : n ≤ max_call_keys → {es : List ℕ} → es ≡ entries_of plan c n → lookup_in plan keys c a ≡ find_entry keys es a
-  lookup_start h e = rw (← own, le-leb n max_call_keys h, e)
 
 -- The search from the k-th entry on.
 module _ (keys es : List ℕ) (a : Access) (k : ℕ) where

@@ -1,4 +1,5 @@
 // BEGIN, STEP and CANCEL on a run that the caller lends: the head goes in and comes back by value, the buffers are lent.
+// Stays: the six buffers stand one by one in a move's signature, by the project's rule: the head by value, buffers of any length lent by the caller.
 #![tactic(auto)]
 
 ghost use Rattle.std.specs.Prelude.{◌≤◌, ◌<◌};

@@ -122,10 +122,8 @@ fn due_at_instr(
     let start = plan_word(plan, site.call, CODE_START) as usize;
     let size = plan_word(plan, site.call, CODE_LENGTH) as usize - 1;
     let len = INSTR_BYTES * size;
-    if block.len() < len {
-        return None;
-    }
-    if block.len() - len < start {
+    let rest = block.len().checked_sub(len)?;
+    if rest < start {
         return None;
     }
     let code = code_at(block, start, size);

@@ -71,10 +71,8 @@ fn record_of(block: &[u8], start: usize, call: usize) -> Option<Call>
     ensures { result ≡ call_of (drop (start + call_record_bytes * call + head_bytes) block.now) }
 {
     let at = CALL_RECORD_BYTES * call + HEAD_BYTES;
-    if block.len() < at {
-        return None;
-    }
-    if block.len() - at < start {
+    let rest = block.len().checked_sub(at)?;
+    if rest < start {
         return None;
     }
     call_at(block, start + at)

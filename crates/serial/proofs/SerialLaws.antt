@@ -5,12 +5,13 @@ use mathlib.Core.List.{List, [], ◌∷◌}
 use Prim.Native.Nat.{ℕ, zero, suc, ◌+◌, ◌≤◌, ◌<◌}
 use native.Mathlib.Numerals.{add-one}
 use native.Mathlib.Omega.{arith}
+use Rattle.std.specs.Prelude.{Result, Ok, Err}
 use Rattle.wire.specs.Bytes.{below}
 use Rattle.machine.proofs.RefusedLaws.{step_unmoved}
 use Rattle.machine.proofs.SerialRunLaws.{run_calls_append}
-use Rattle.machine.specs.Answer.{answer_number}
 use Rattle.machine.specs.Run.{Run}
 use Rattle.machine.specs.Moves.{Moved, step_of}
+use Rattle.machine.specs.declared.Answer.{Answer}
 use Rattle.machine.specs.Serial.{is_serial_idle, step_to_end, run_call, run_calls}
 
 -- ---- the calls
@@ -63,10 +64,10 @@ module _ (block : List ℕ) (r : Run) where
   steps_stay e zero = refl
   steps_stay e (suc left) = unless_idle left (is_serial_idle r) refl (ap (step_to_end left block) e ∙ steps_stay e left)
 
-  pub steps_refused :
-      (left : ℕ) {m : Moved} → m ≡ step_of block r 0 → {number : ℕ} → number ≡ answer_number m.answer → (number ≡ 0 → ⊥) → step_to_end left block r ≡ m.run
-  unfolding answer_number refused_number
-  steps_refused left {m} made told some =
-      let stays : (step_of block r 0).run ≡ r =
-      step_unmoved block r 0 (λ e. some (told ∙ ap (λ (x : Moved). answer_number x.answer) made ∙ ap answer_number e)) in
+  pub steps_refused : (left : ℕ) {m : Moved} → m ≡ step_of block r 0 → {why : Answer} → m.answer ≡ Err why → step_to_end left block r ≡ m.run
+  steps_refused left {m} made {why} told =
+      let stays : (step_of block r 0).run ≡ r = step_unmoved block r 0 (λ e. refused (sym told ∙ ap (λ (x : Moved). x.answer) made ∙ e)) in
       steps_stay stays left ∙ sym stays ∙ sym (ap (λ (x : Moved). x.run) made)
+    where
+      refused : ◌≡◌ {A = Result (Unit {0}) Answer} (Err why) (Ok tt) → ⊥
+      refused e = absurd cc

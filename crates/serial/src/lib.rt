@@ -7,7 +7,6 @@ ghost use Rattle.moves.specs.Lent.{lent};
 
 use block::limits::{MAX_CALLS, MAX_FUEL};
 use machine::Head;
-use machine::numbers::answer_number;
 use moves::begin::begin;
 use moves::step::step;
 
@@ -36,13 +35,12 @@ fn step_to_end(
         if head.held[WORKER] == 0 {
             return head;
         }
-        let reply = step(
+        let Ok(after) = step(
             head, block, plan, keys, cells, status, seats, frames, WORKER,
-        );
-        head = reply.head;
-        if answer_number(reply.answer) != 0 {
+        ) else {
             return head;
-        }
+        };
+        head = after;
     }
     head
 }
@@ -64,8 +62,9 @@ fn run_call(
         (lent head plan.now keys.now cells.old status.old seats.old
         frames.old) call }
 {
-    let reply = begin(head, plan, keys, cells, status, seats, frames, WORKER, call);
-    step_to_end(reply.head, block, plan, keys, cells, status, seats, frames)
+    let begun =
+        begin(head, plan, keys, cells, status, seats, frames, WORKER, call).unwrap_or(head);
+    step_to_end(begun, block, plan, keys, cells, status, seats, frames)
 }
 
 // "Serial run: calls 0, 1, .. each begun and stepped to its end.", as many as a block can have where a damaged head has more.

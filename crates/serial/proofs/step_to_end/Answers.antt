@@ -1,7 +1,7 @@
 -- `serial::step_to_end` meets its contract: the steps that are left, from the run so far, lead where all steps lead from the start, and behind a refused one
 -- they lead nowhere else.
 use native.Mathlib.Omega.{arith}
-use mathlib.Core.Path.{sym, ◌∙◌}
+use mathlib.Core.Path.{refl, sym, ◌∙◌}
 use Prim.Native.Nat.{◌-◌}
 use borrow.Author.Tests.{eq-eqb, ne_eqb}
 use Rattle.machine.specs.Serial.{max_steps}
@@ -12,14 +12,13 @@ pub returns-then-head-eq0 : goal.returns-then-head-eq0
 returns-then-head-eq0 c =
     sym (c.loop.invariant ∙ steps_idle c.args.block.now _ (max_steps - c.loop.counter) (omega (arith, c.loop-test.true)) (sym (eq-eqb _ _ c.if-head-eq0.true)))
 
-pub returns-then-answer_number-ne0 : goal.returns-then-answer_number-ne0
-returns-then-answer_number-ne0 c =
-    sym (c.loop.invariant ∙ steps_refused c.args.block.now _ (max_steps - c.loop.counter) c.step-reply.ensures c.answer_number.ensures c.if-answer_number-ne0.true)
+pub returns-in_default : goal.returns-in_default
+returns-in_default c = sym (c.loop.invariant ∙ steps_refused c.args.block.now _ (max_steps - c.loop.counter) c.in_default.ensures refl)
 
 pub loop-preserved : goal.loop-preserved
 loop-preserved c =
     c.loop.invariant
-    ∙ steps_next c.args.block.now _ (max_steps - c.loop.counter) (omega (arith, c.loop-test.true)) (sym (ne_eqb _ _ c.if-head-eq0.false)) c.step-reply.ensures _ (omega (arith, c.loop-test.true))
+    ∙ steps_next c.args.block.now _ (max_steps - c.loop.counter) (omega (arith, c.loop-test.true)) (sym (ne_eqb _ _ c.if-head-eq0.false)) c.in-Ok.ensures _ (omega (arith, c.loop-test.true))
 
 pub returns : goal.returns
 returns c = sym (c.loop.invariant ∙ steps_over c.args.block.now _ (max_steps - c.loop.counter) (omega (arith, c.loop-test.false)))

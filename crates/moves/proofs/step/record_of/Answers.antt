@@ -3,12 +3,12 @@ use native.Mathlib.Omega.{arith}
 use Rattle.moves.proofs.LentRunLaws.{record_short}
 use Rattle.moves.proofs.step.record_of.Goals as goal
 
-pub returns-then-block-at : goal.returns-then-block-at
-returns-then-block-at c =
+pub returns-in_err-rest : goal.returns-in_err-rest
+returns-in_err-rest c =
     let a = c.args in
-    record_short a.block.now a.start a.call (omega (arith, c.if-block-at.true))
+    rw c.from_residual.ensures (record_short a.block.now a.start a.call (omega (arith, c.in_err-rest.ensures)))
 
-pub returns-then-block-at-2 : goal.returns-then-block-at-2
-returns-then-block-at-2 c =
+pub returns-then-rest-start : goal.returns-then-rest-start
+returns-then-rest-start c =
     let a = c.args in
-    record_short a.block.now a.start a.call (omega (arith, c.if-block-at.false, c.if-block-at-2.true))
+    record_short a.block.now a.start a.call (omega (arith, c.in_ok-rest.ensures, c.if-rest-start.true))
