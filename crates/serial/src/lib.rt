@@ -62,8 +62,7 @@ fn run_call(
         (lent head plan.now keys.now cells.old status.old seats.old
         frames.old) call }
 {
-    let begun =
-        begin(head, plan, keys, cells, status, seats, frames, WORKER, call).unwrap_or(head);
+    let begun = begin(head, plan, keys, cells, status, seats, frames, WORKER, call).unwrap_or(head);
     step_to_end(begun, block, plan, keys, cells, status, seats, frames)
 }
 

@@ -4,8 +4,8 @@ use crate::change::{Lent, NO_HEAD, part_1, part_2, with_head};
 use crate::close::close;
 use crate::digest::digest;
 use in_place::lender::{begin_lending, cancel_lending, step_lending};
-use machine::{Answer, Head};
 use machine::numbers::refused_number;
+use machine::{Answer, Head};
 
 // Kinds of records; the fourth is CANCEL.
 const OPEN: u64 = 4;
