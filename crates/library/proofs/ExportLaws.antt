@@ -2,7 +2,6 @@
 use Rattle.std.specs.Prelude.{Result, Ok, Err}
 use Rattle.machine.specs.declared.Answer.{Answer}
 use mathlib.Core.Path.{◌≡◌, refl, sym, ap, ◌∙◌}
-use mathlib.Core.Bool.{true, false}
 use mathlib.Core.List.{List, [], ◌∷◌}
 use Prim.Native.Nat.{ℕ, zero, suc, ◌<◌, ◌≤◌}
 use lib.IntN.{ℤ, pos}
@@ -13,10 +12,9 @@ use Rattle.block.specs.Refusal.{number_of, offset_of, verdict_number, verdict_of
 use Rattle.block.specs.declared.Refusal.{Refusal}
 use Rattle.block.specs.declared.Refusal.TheVariants.{Buffers}
 use Rattle.machine.specs.Answer.{answer_number, refused_number}
-use Rattle.machine.specs.Run.{Run, Sizes, sizes_of, large_enough}
+use Rattle.machine.specs.Run.{Run, Sizes}
 use Rattle.machine.specs.Opening.{refused_run}
-use Rattle.machine.specs.Moves.{Moved, stay}
-use Rattle.machine.specs.Serial.{serial_run}
+use Rattle.machine.specs.Moves.{Moved}
 use Rattle.machine.specs.declared.Head.{Head}
 use Rattle.machine.specs.declared.Answer.TheVariants.{Damaged}
 use Rattle.moves.specs.Lent.{lent, moved, moved_by}
@@ -25,7 +23,7 @@ use Rattle.opening.proofs.Laws.{opened_as}
 use Rattle.sheet.specs.Sheet.{closing_number, sheet_of}
 use Rattle.closing.specs.Answered.{ClosedAs}
 use Rattle.exports.specs.Words.{Words, words, head_words, head_in, run_in, held_stored}
-use Rattle.exports.specs.Exports.{opening_for, opened_words, open_words, MovedWords, moved_words, move_words, serial_move, length_after, sheet_for, closed_words, sheet_words}
+use Rattle.exports.specs.Exports.{opening_for, opened_words, open_words, MovedWords, moved_words, move_words, length_after, sheet_for, closed_words, sheet_words}
 use Rattle.exports.proofs.LengthLaws.{open_short, move_long, move_short}
 use Rattle.exports.proofs.HeadLaws.{unmoved}
 
@@ -116,17 +114,6 @@ module _ (move : Run → Moved) (l : Words) (worker : ℕ) where
         move_made long read {m = moved (Err why) (lent h p k v t u f)}
         (ap (λ (x : Result Head Answer). moved_by h x (λ y. lent y p k v t u f)) (sym is) ∙ made)
         (sym (ap (λ (x : Head). held_stored l.head x worker) read ∙ unmoved l.head worker)) a
-
--- ---- the serial run
-
-module _ (block : List ℕ) (r : Run) where
-  pub serial_refused : large_enough (sizes_of r) ≡ false → stay r Damaged ≡ serial_move block r
-  unfolding serial_move
-  serial_refused small = rw small
-
-  pub serial_made : large_enough (sizes_of r) ≡ true → {s : Run} → s ≡ serial_run block r → moved (Ok tt) s ≡ serial_move block r
-  unfolding serial_move
-  serial_made large made = rw (large, made)
 
 -- ---- sheets
 

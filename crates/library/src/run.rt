@@ -8,6 +8,7 @@ use block::Refusal;
 use export_words::words::HEAD_WORDS;
 use machine::layout::large_enough;
 use machine::{Answer, Head};
+use moves::Buffers;
 use opening::{clear_prepared, clear_states, open};
 use serial::serial_run;
 
@@ -38,6 +39,7 @@ pub fn open_for(
 }
 
 // The serial run, or 20 for a buffer that is too short.
+#[tactic(auto, unfolding(exports::specs::Exports::serial_move))]
 pub fn serial_move(
     head: Head,
     block: &[u8],
@@ -65,5 +67,13 @@ pub fn serial_move(
     if !large {
         return Err(Answer::Damaged);
     }
-    Ok(serial_run(head, block, plan, keys, cells, status, seats, frames))
+    let mut run = Buffers {
+        plan,
+        keys,
+        cells,
+        status,
+        seats,
+        frames,
+    };
+    Ok(serial_run(head, block, &mut run))
 }

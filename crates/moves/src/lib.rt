@@ -1,5 +1,4 @@
 // BEGIN, STEP and CANCEL on a run that the caller lends: the head goes in and comes back by value, the buffers are lent.
-// Stays: the six buffers stand one by one in a move's signature, by the project's rule: the head by value, buffers of any length lent by the caller.
 #![tactic(auto)]
 
 ghost use Rattle.std.specs.Prelude.{◌≤◌, ◌<◌};
@@ -19,6 +18,18 @@ mod waits;
 use key_uses::Uses;
 use machine::Action;
 use machine::layout::REGISTERS;
+
+// The buffers of a run, lent by the caller.
+// Stays: begin, step, cancel, their forms in in_place, sheet, open and the exports take slices (a): C lends each by itself, and what a move only reads as const.
+#[derive(Drop)]
+pub struct Buffers<'a> {
+    pub plan: &'a [u64],
+    pub keys: &'a [u64],
+    pub cells: &'a mut [i64],
+    pub status: &'a mut [u64],
+    pub seats: &'a mut [u64],
+    pub frames: &'a mut [i64],
+}
 
 // A worker and the call that it holds, or that BEGIN gives it, in a run of so many calls: what the tests of a move find.
 #[derive(Clone, Copy)]

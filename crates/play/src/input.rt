@@ -1,7 +1,7 @@
 // The input of REGISTER in pieces, byte by byte: each whole line is played, and its answer written.
 ghost use Rattle.std.specs.Prelude.{◌≡◌, take};
 ghost use Rattle.machine.specs.Answer.{answer_number};
-ghost use Rattle.moves.specs.Lent.{lent};
+ghost use Rattle.moves.specs.Buffers.{run_of, SameBuffers};
 ghost use Rattle.text.specs.Lines.{refused_text};
 ghost use Rattle.text.specs.Written.{Written};
 ghost use Rattle.console.specs.Register.{answer_text, next_number, play_line, play_bytes, play_end};
@@ -14,6 +14,7 @@ use crate::{Played, Session};
 use console::Line;
 use machine::numbers::refused_number;
 use machine::{Answer, Head};
+use moves::Buffers;
 use text::refused_line;
 use wire::decimal::LINE_FEED;
 
@@ -54,27 +55,13 @@ fn next_line(s: Session, head: Head) -> Session
 }
 
 // A whole line: its move, or, in no such form, nothing moved and 0 answered.
-fn play_line(
-    s: Session,
-    block: &[u8],
-    plan: &[u64],
-    keys: &[u64],
-    cells: &mut [i64],
-    status: &mut [u64],
-    seats: &mut [u64],
-    frames: &mut [i64],
-    out: &mut [u8],
-    from: u32,
-) -> Played
-    ensures { shown_from result.session.number result.session.line
-        (lent result.session.head plan.now keys.now cells.new status.new seats.new
-        frames.new)
-        out.new result.length
+fn play_line(s: Session, block: &[u8], run: &mut Buffers<'_>, out: &mut [u8], from: u32) -> Played
+    ensures same { SameBuffers run.old run.new }
+    ensures played { shown_from result.session.number result.session.line
+        (run_of result.session.head run.new) out.new result.length
         ≡ shown out.old from
         (play_line block.now
-        (fresh_session s.number s.line
-        (lent s.head plan.now keys.now cells.old status.old seats.old
-        frames.old))) }
+        (fresh_session s.number s.line (run_of s.head run.old))) }
 {
     let Some(m) = line_move(s.line) else {
         return Played {
@@ -82,7 +69,7 @@ fn play_line(
             length: refused_line(out, from, s.number, 0),
         };
     };
-    let made = apply_move(s.head, block, plan, keys, cells, status, seats, frames, m);
+    let made = apply_move(s.head, block, run, m);
     Played {
         session: next_line(s, made.unwrap_or(s.head)),
         length: answer_line(out, from, s.number, made.map(|_| ())),
@@ -95,25 +82,17 @@ fn play_line(
 pub fn play_chunk(
     s: Session,
     block: &[u8],
-    plan: &[u64],
-    keys: &[u64],
-    cells: &mut [i64],
-    status: &mut [u64],
-    seats: &mut [u64],
-    frames: &mut [i64],
+    run: &mut Buffers<'_>,
     chunk: &[u8],
     n: u16,
     out: &mut [u8],
 ) -> Played
-    ensures { shown_from result.session.number result.session.line
-        (lent result.session.head plan.now keys.now cells.new status.new seats.new
-        frames.new)
-        out.new result.length
+    ensures same { SameBuffers run.old run.new }
+    ensures played { shown_from result.session.number result.session.line
+        (run_of result.session.head run.new) out.new result.length
         ≡ shown out.old 0
         (play_bytes block.now
-        (fresh_session s.number s.line
-        (lent s.head plan.now keys.now cells.old status.old seats.old
-        frames.old))
+        (fresh_session s.number s.line (run_of s.head run.old))
         (take n chunk.now)) }
 {
     let end = chunk.len().min(usize::from(n));
@@ -123,18 +102,7 @@ pub fn play_chunk(
     };
     for &x in &chunk[..end] {
         if x == LINE_FEED {
-            played = play_line(
-                played.session,
-                block,
-                plan,
-                keys,
-                cells,
-                status,
-                seats,
-                frames,
-                out,
-                played.length as u32,
-            );
+            played = play_line(played.session, block, run, out, played.length as u32);
         } else {
             played.session.line = read_byte(played.session.line, x);
         }
@@ -144,26 +112,13 @@ pub fn play_chunk(
 
 // The rest of the input, which is a line unless it is empty.
 #[tactic(auto, using(crate::proofs::AnswerLaws::end_empty, crate::proofs::AnswerLaws::end_line))]
-pub fn play_end(
-    s: Session,
-    block: &[u8],
-    plan: &[u64],
-    keys: &[u64],
-    cells: &mut [i64],
-    status: &mut [u64],
-    seats: &mut [u64],
-    frames: &mut [i64],
-    out: &mut [u8],
-) -> Played
-    ensures { shown_from result.session.number result.session.line
-        (lent result.session.head plan.now keys.now cells.new status.new seats.new
-        frames.new)
-        out.new result.length
+pub fn play_end(s: Session, block: &[u8], run: &mut Buffers<'_>, out: &mut [u8]) -> Played
+    ensures same { SameBuffers run.old run.new }
+    ensures played { shown_from result.session.number result.session.line
+        (run_of result.session.head run.new) out.new result.length
         ≡ shown out.old 0
         (play_end block.now
-        (fresh_session s.number s.line
-        (lent s.head plan.now keys.now cells.old status.old seats.old
-        frames.old))) }
+        (fresh_session s.number s.line (run_of s.head run.old))) }
 {
     if matches!(s.line, Line::Empty) {
         return Played {
@@ -171,5 +126,5 @@ pub fn play_end(
             length: 0,
         };
     }
-    play_line(s, block, plan, keys, cells, status, seats, frames, out, 0)
+    play_line(s, block, run, out, 0)
 }

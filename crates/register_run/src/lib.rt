@@ -5,7 +5,7 @@
 #![tactic(auto)]
 
 ghost use Rattle.std.specs.Prelude.{◌≡◌, ◌*◌, ◌≤◌, ◌<◌, length};
-ghost use Rattle.moves.specs.Lent.{lent};
+ghost use Rattle.moves.specs.Buffers.{run_of, SameBuffers};
 ghost use Rattle.console.specs.declared.Line.TheVariants.{Empty};
 ghost use Rattle.play.specs.Shown.{fresh_session};
 ghost use Rattle.play.specs.AnswerLength.{max_answer};
@@ -18,6 +18,7 @@ use console::Line;
 use host::{Exchange, FILE_BYTES};
 use machine::Head;
 use machine::layout::{CELLS_SIZE, FRAMES_SIZE, KEYS_SIZE, PLAN_SIZE, SEATS_SIZE, STATUS_SIZE};
+use moves::Buffers;
 use play::Session;
 use play::input::{MAX_ANSWER, play_chunk, play_end};
 use printing::{Output, close, refuse_block, say};
@@ -102,12 +103,7 @@ fn play_some(
     output: Output,
     s: Session,
     block: &[u8],
-    plan: &[u64],
-    keys: &[u64],
-    cells: &mut [i64],
-    status: &mut [u64],
-    seats: &mut [u64],
-    frames: &mut [i64],
+    run: &mut Buffers<'_>,
     x: Exchange,
     limit: usize,
     chunk: &mut [u8],
@@ -118,19 +114,14 @@ fn play_some(
     requires chunk_size_in_bounds { chunk_size ≤ length chunk.old }
     requires chunk_size_in_bounds_2 { max_answer * chunk_size ≤ length answers.old }
     requires received_bound { x.received < 4294967296 }
-    ensures { PiecePlayed output block.now
-        (fresh_session s.number s.line
-        (lent s.head plan.now keys.now cells.old status.old seats.old
-        frames.old)) x
+    ensures same { SameBuffers run.old run.new }
+    ensures played { PiecePlayed output block.now
+        (fresh_session s.number s.line (run_of s.head run.old)) x
         limit transcript.old result
-        (lent result.session.head plan.now keys.now cells.new status.new seats.new
-        frames.new)
-        transcript.new }
+        (run_of result.session.head run.new) transcript.new }
 {
     let got = read_some(rt, x, chunk, limit);
-    let p = play_chunk(
-        s, block, plan, keys, cells, status, seats, frames, chunk, got.count, answers,
-    );
+    let p = play_chunk(s, block, run, chunk, got.count, answers);
     let exchange = say(rt, output, got.exchange, &answers[..p.length], transcript);
     Piece {
         session: p.session,
@@ -145,12 +136,7 @@ fn play_input(
     output: Output,
     head: Head,
     block: &[u8],
-    plan: &[u64],
-    keys: &[u64],
-    cells: &mut [i64],
-    status: &mut [u64],
-    seats: &mut [u64],
-    frames: &mut [i64],
+    run: &mut Buffers<'_>,
     x: Exchange,
     limit: u32,
     chunk: &mut [u8],
@@ -160,14 +146,11 @@ fn play_input(
     requires chunk_size_in_bounds { chunk_size ≤ length chunk.old }
     requires chunk_size_in_bounds_2 { max_answer * chunk_size ≤ length answers.old }
     requires received_value { x.received ≡ 0 }
-    ensures { InputPlayed output block.now
-        (fresh_session 1 Empty
-        (lent head plan.now keys.now cells.old status.old seats.old
-        frames.old)) x limit
+    ensures same { SameBuffers run.old run.new }
+    ensures played { InputPlayed output block.now
+        (fresh_session 1 Empty (run_of head run.old)) x limit
         transcript.old result
-        (lent result.session.head plan.now keys.now cells.new status.new seats.new
-        frames.new)
-        transcript.new }
+        (run_of result.session.head run.new) transcript.new }
 {
     let mut s = Session {
         number: 1,
@@ -180,8 +163,7 @@ fn play_input(
     while 0 < left && exchange.ok {
         let most = CHUNK.min(left as usize);
         let piece = play_some(
-            rt, output, s, block, plan, keys, cells, status, seats, frames, exchange, most, chunk,
-            answers, transcript,
+            rt, output, s, block, run, exchange, most, chunk, answers, transcript,
         );
         s = piece.session;
         exchange = piece.exchange;
@@ -207,48 +189,20 @@ fn finish(
     output: Output,
     s: Session,
     block: &[u8],
-    plan: &[u64],
-    keys: &[u64],
-    cells: &mut [i64],
-    status: &mut [u64],
-    seats: &mut [u64],
-    frames: &mut [i64],
+    run: &mut Buffers<'_>,
     x: Exchange,
     transcript: &mut [u8],
 ) -> Exchange
+    ensures same { SameBuffers run.old run.new }
     ensures text { Handed transcript.old x
-        (printed_end output block.now s.number s.line
-        (lent s.head plan.now keys.now cells.old status.old seats.old
-        frames.old))
+        (printed_end output block.now s.number s.line (run_of s.head run.old))
         transcript.new result }
     ensures received { result.received ≡ x.received }
 {
     let mut answers = [0u8; MAX_ANSWER];
-    let p = play_end(
-        s,
-        block,
-        plan,
-        keys,
-        cells,
-        status,
-        seats,
-        frames,
-        &mut answers,
-    );
+    let p = play_end(s, block, run, &mut answers);
     let after = say(rt, output, x, &answers[..p.length], transcript);
-    close(
-        rt,
-        output,
-        p.session.head,
-        plan,
-        keys,
-        cells,
-        status,
-        seats,
-        frames,
-        after,
-        transcript,
-    )
+    close(rt, output, p.session.head, run, after, transcript)
 }
 
 // A block that is opened, run with at most `limit` bytes of input and closed.
@@ -257,20 +211,14 @@ fn run_opened(
     output: Output,
     head: Head,
     block: &[u8],
-    plan: &[u64],
-    keys: &[u64],
-    cells: &mut [i64],
-    status: &mut [u64],
-    seats: &mut [u64],
-    frames: &mut [i64],
+    run: &mut Buffers<'_>,
     x: Exchange,
     limit: u32,
     transcript: &mut [u8],
 ) -> Ran
     requires { x.received ≡ 0 }
-    ensures { RunsOn output block.now
-        (lent head plan.now keys.now cells.old status.old seats.old
-        frames.old) x limit
+    ensures same { SameBuffers run.old run.new }
+    ensures runs { RunsOn output block.now (run_of head run.old) x limit
         transcript.old result transcript.new }
 {
     let mut chunk = [0u8; CHUNK];
@@ -280,22 +228,14 @@ fn run_opened(
         output,
         head,
         block,
-        plan,
-        keys,
-        cells,
-        status,
-        seats,
-        frames,
+        run,
         x,
         limit,
         &mut chunk,
         &mut answers,
         transcript,
     );
-    let exchange = finish(
-        rt, output, i.session, block, plan, keys, cells, status, seats, frames, i.exchange,
-        transcript,
-    );
+    let exchange = finish(rt, output, i.session, block, run, i.exchange, transcript);
     Ran {
         input_ended: Some(i.ended),
         exchange,
@@ -337,21 +277,17 @@ pub fn run(
                 exchange,
             }
         }
-        Ok(head) => run_opened(
-            rt,
-            output,
-            head,
-            block,
-            &plan,
-            &keys,
-            &mut cells,
-            &mut status,
-            &mut seats,
-            &mut frames,
-            start,
-            limit,
-            transcript,
-        ),
+        Ok(head) => {
+            let mut lent = Buffers {
+                plan: &plan,
+                keys: &keys,
+                cells: &mut cells,
+                status: &mut status,
+                seats: &mut seats,
+                frames: &mut frames,
+            };
+            run_opened(rt, output, head, block, &mut lent, start, limit, transcript)
+        }
     }
 }
 

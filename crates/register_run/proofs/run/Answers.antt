@@ -10,4 +10,4 @@ returns-in-Err g c =
 
 pub returns-in-Ok : goal.returns-in-Ok
 returns-in-Ok g c =
-    runs_accepted (omega (arith, c.ranges.limit.fits)) (rw c.in-Ok.is at c.«open».ensures.same) refl c.run_opened.ensures
+    runs_accepted (omega (arith, c.ranges.limit.fits)) (rw c.in-Ok.is at c.«open».ensures.same) refl c.run_opened.ensures.runs

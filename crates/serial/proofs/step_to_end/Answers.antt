@@ -8,17 +8,20 @@ use Rattle.machine.specs.Serial.{max_steps}
 use Rattle.serial.proofs.SerialLaws.{steps_over, steps_idle, steps_next, steps_refused}
 use Rattle.serial.proofs.step_to_end.Goals as goal
 
-pub returns-then-head-eq0 : goal.returns-then-head-eq0
-returns-then-head-eq0 c =
-    sym (c.loop.invariant ∙ steps_idle c.args.block.now _ (max_steps - c.loop.counter) (omega (arith, c.loop-test.true)) (sym (eq-eqb _ _ c.if-head-eq0.true)))
+pub returns-then-head-eq0-clause-run : goal.returns-then-head-eq0-clause-run
+returns-then-head-eq0-clause-run c =
+    sym (c.loop.invariant.1 ∙ steps_idle c.args.block.now _ (max_steps - c.loop.counter) (omega (arith, c.loop-test.true)) (sym (eq-eqb _ _ c.if-head-eq0.true)))
 
-pub returns-in_default : goal.returns-in_default
-returns-in_default c = sym (c.loop.invariant ∙ steps_refused c.args.block.now _ (max_steps - c.loop.counter) c.in_default.ensures refl)
+pub returns-in_default-clause-run : goal.returns-in_default-clause-run
+returns-in_default-clause-run c = sym (c.loop.invariant.1 ∙ steps_refused c.args.block.now _ (max_steps - c.loop.counter) c.in_default.ensures refl)
 
 pub loop-preserved : goal.loop-preserved
 loop-preserved c =
-    c.loop.invariant
-    ∙ steps_next c.args.block.now _ (max_steps - c.loop.counter) (omega (arith, c.loop-test.true)) (sym (ne_eqb _ _ c.if-head-eq0.false)) c.in-Ok.ensures _ (omega (arith, c.loop-test.true))
+    let i = c.loop.invariant.0 in (
+      record { plan = i.plan; keys = i.keys; cells = i.cells; status = i.status; seats = i.seats; frames = i.frames },
+      c.loop.invariant.1
+          ∙ steps_next c.args.block.now _ (max_steps - c.loop.counter) (omega (arith, c.loop-test.true)) (sym (ne_eqb _ _ c.if-head-eq0.false)) c.in-Ok.ensures _ (omega (arith, c.loop-test.true)),
+    )
 
-pub returns : goal.returns
-returns c = sym (c.loop.invariant ∙ steps_over c.args.block.now _ (max_steps - c.loop.counter) (omega (arith, c.loop-test.false)))
+pub returns-clause-run : goal.returns-clause-run
+returns-clause-run c = sym (c.loop.invariant.1 ∙ steps_over c.args.block.now _ (max_steps - c.loop.counter) (omega (arith, c.loop-test.false)))
