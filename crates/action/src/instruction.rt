@@ -114,25 +114,45 @@ pub(crate) fn value(c: Call, place: u32, regs: [i64; REGISTERS], x: usize) -> Ac
 pub(crate) fn add(place: u32, regs: [i64; REGISTERS], x: usize, y: usize, z: usize) -> Action
     ensures { result ≡ checked_action place regs x (add_of (get_or regs y (pos 0)) (get_or regs z (pos 0))) }
 {
-    assign_checked(place, regs, x, arith::add(register(regs, y), register(regs, z)))
+    assign_checked(
+        place,
+        regs,
+        x,
+        arith::add(register(regs, y), register(regs, z)),
+    )
 }
 
 pub(crate) fn sub(place: u32, regs: [i64; REGISTERS], x: usize, y: usize, z: usize) -> Action
     ensures { result ≡ checked_action place regs x (sub_of (get_or regs y (pos 0)) (get_or regs z (pos 0))) }
 {
-    assign_checked(place, regs, x, arith::sub(register(regs, y), register(regs, z)))
+    assign_checked(
+        place,
+        regs,
+        x,
+        arith::sub(register(regs, y), register(regs, z)),
+    )
 }
 
 pub(crate) fn mul(place: u32, regs: [i64; REGISTERS], x: usize, y: usize, z: usize) -> Action
     ensures { result ≡ checked_action place regs x (mul_of (get_or regs y (pos 0)) (get_or regs z (pos 0))) }
 {
-    assign_checked(place, regs, x, arith::mul(register(regs, y), register(regs, z)))
+    assign_checked(
+        place,
+        regs,
+        x,
+        arith::mul(register(regs, y), register(regs, z)),
+    )
 }
 
 pub(crate) fn div(place: u32, regs: [i64; REGISTERS], x: usize, y: usize, z: usize) -> Action
     ensures { result ≡ checked_action place regs x (div_of (get_or regs y (pos 0)) (get_or regs z (pos 0))) }
 {
-    assign_checked(place, regs, x, arith::div(register(regs, y), register(regs, z)))
+    assign_checked(
+        place,
+        regs,
+        x,
+        arith::div(register(regs, y), register(regs, z)),
+    )
 }
 
 // What GET and BAL wait for: the value of their cell, which is for x.

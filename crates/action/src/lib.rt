@@ -11,7 +11,9 @@ ghost use Rattle.action.specs.Acted.{acted_of, jump_of};
 use block::outcomes::BALANCE_TOO_LOW;
 use block::{Call, Instr};
 use decoder::instruction::decode;
-use instruction::{add, arg, bal, div, get, jeq, jlt, load, mul, pay, put, sender, set, stop, sub, throw, value};
+use instruction::{
+    add, arg, bal, div, get, jeq, jlt, load, mul, pay, put, sender, set, stop, sub, throw, value,
+};
 use machine::layout::REGISTERS;
 use machine::{Action, Next};
 
@@ -76,7 +78,11 @@ pub fn act_at(
 pub fn loaded(balance: bool, regs: [i64; REGISTERS], x: usize, value: i64) -> [i64; REGISTERS]
     ensures { result ≡ set regs x value }
 {
-    if balance { bal(regs, x, value) } else { get(regs, x, value) }
+    if balance {
+        bal(regs, x, value)
+    } else {
+        get(regs, x, value)
+    }
 }
 
 // "sender's balance below value, outcome 2; else value moves from sender to contract and the place is 0"

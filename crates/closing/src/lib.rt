@@ -16,6 +16,7 @@ use write::write_sheet;
 
 // The closing sheet: 20 for the sizes, the number of calls and their states; 27 for a call unfinished; 20 for the number of cells and
 // the balances; 28; 20 for the receipts.
+// Stays: the buffers of the run are parameters (a); the caller lends each one, of any length.
 #[tactic(auto, unfolding(sheet::specs::Sheet::sheet_of, sheet::specs::Sheet::sheet_records), using(crate::proofs::Answering::closed_as))]
 pub fn sheet(
     head: Head,
@@ -63,8 +64,6 @@ pub fn sheet(
     if MAX_KEYS < count {
         return Err(Answer::Damaged);
     }
-    let Some(records) = cells_found(keys, cells, count) else {
-        return Err(Answer::Damaged);
-    };
+    let records = cells_found(keys, cells, count).ok_or(Answer::Damaged)?;
     write_sheet(keys, cells, status, count, calls, records, output)
 }

@@ -65,6 +65,7 @@ fn balance_allowed(high: u64, value: i64) -> bool
 }
 
 // One look at each cell, for 20 and for 28: how many of the cells have a record, or none where a balance is below zero.
+// Stays: a loop (d). It refuses and counts at once; a chain for each would read every cell twice.
 pub(crate) fn cells_found(keys: &[u64], cells: &[i64], count: usize) -> Option<usize>
     requires { count ≤ max_keys }
     ensures { result ≡ found_in keys.now cells.now count }

@@ -76,6 +76,7 @@ fn play_line(s: Session, block: &[u8], run: &mut Buffers<'_>, out: &mut [u8], fr
     }
 }
 
+// Stays: the piece and n, of 16 bits, are two parameters (a); a slice alone would ask that it is short, and no public function may ask more.
 // The first n bytes of a piece of the input, played: a line feed ends the line, every other byte is read. The answers' text is stored from the
 // buffer's start on.
 pub fn play_chunk(

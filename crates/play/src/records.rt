@@ -40,6 +40,7 @@ fn put_receipt(sheet: &[u8], body: usize, call: u64, out: &mut [u8], from: u32) 
 }
 
 // The next record: its line; none at a record of another kind.
+// Stays: a kind is a number (d); a sheet has it as 16 bits, and one match names each.
 fn next_record(p: Reading, sheet: &[u8], out: &mut [u8]) -> Option<Reading>
     requires sheet_len_bound { length sheet.now < 65536 }
     requires turns_within { TurnsWithin (length sheet.now) p }
@@ -63,6 +64,7 @@ fn next_record(p: Reading, sheet: &[u8], out: &mut [u8]) -> Option<Reading>
 }
 
 // All records of a sheet; of no sheet are there more than it has bytes.
+// Stays: a count of turns (d). The definition has the same one, and a place that moves on by what the bytes say bounds no turns.
 fn put_records(sheet: &[u8], out: &mut [u8]) -> usize
     requires { length sheet.now < 65536 }
     ensures { Written out.old out.new 0 result (sheet_text sheet.now) }
@@ -81,6 +83,7 @@ fn put_records(sheet: &[u8], out: &mut [u8]) -> usize
     p.end
 }
 
+// Stays: the sheet and n, of 16 bits, are two parameters (a), as at `play_chunk`.
 // The first n bytes of a sheet as lines, stored from the buffer's start on; answers the length of the text.
 pub fn sheet_text(sheet: &[u8], n: u16, out: &mut [u8]) -> usize
     ensures { Written out.old out.new 0 result (sheet_text (take n sheet.now)) }

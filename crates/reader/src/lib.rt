@@ -11,8 +11,8 @@ ghost use Rattle.block.specs.Reader.{read_block};
 ghost use Rattle.reader.specs.Layout.{layout_of};
 
 use crate::record::read_record;
-use block::limits::{MAX_BYTES, MAX_FUNCTIONS};
 use block::Refusal;
+use block::limits::{MAX_BYTES, MAX_FUNCTIONS};
 
 // What the reader leaves of a file: the counts, the offsets at which its opening cells and its calls begin, and of each function its
 // id, contract * 65536 + number, and where its code starts and how many instructions it has.

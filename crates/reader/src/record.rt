@@ -8,9 +8,9 @@ ghost use Rattle.reader.specs.Standing.{Steady, NumbersOfBlock, TurnFollows};
 use crate::cell::read_cell;
 use crate::function::read_function;
 use crate::{Progress, Turn};
+use block::Refusal;
 use block::format::{CALL_KIND, CELL_KIND, END_KIND, FUNCTION_KIND, HEAD_BYTES};
 use block::limits::MAX_CALLS;
-use block::Refusal;
 use decoder::part::short;
 use decoder::record::{call_at, length_allowed};
 
