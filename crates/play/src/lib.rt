@@ -1,5 +1,4 @@
 // REGISTER's input as code: move lines read byte by byte, each whole line played on a lent run, the answers and the sheet as text.
-// Stays: the buffers of the run are parameters (a); the caller lends each one, of any length, as to the moves.
 #![tactic(auto)]
 
 pub mod apply;
