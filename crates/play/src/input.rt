@@ -54,7 +54,8 @@ fn next_line(s: Session, head: Head) -> Session
     }
 }
 
-// A whole line: its move, or, in no such form, nothing moved and 0 answered.
+// A whole line: its move, or, in no such form, nothing moved and 0 answered. A step is compiled into it, and it into the loop over a piece.
+#[inline(always)]
 fn play_line(s: Session, block: &[u8], run: &mut Buffers<'_>, out: &mut [u8], from: u32) -> Played
     ensures same { SameBuffers run.old run.new }
     ensures played { shown_from result.session.number result.session.line

@@ -6,7 +6,7 @@ ghost use Rattle.std.specs.Prelude.{◌≡◌, ◌≤◌, ◌<◌, length};
 ghost use Rattle.block.specs.Refusal.{number_of, offset_of};
 ghost use Rattle.text.specs.Lines.{refused_text, block_refused_text};
 ghost use Rattle.machine.specs.Answer.{refused_number};
-ghost use Rattle.moves.specs.Buffers.{run_of};
+ghost use Rattle.moves.specs.Lent.{lent};
 ghost use Rattle.console.specs.Text.{sheet_text};
 ghost use Rattle.play.specs.Printed.{max_close_text};
 ghost use Rattle.host.specs.Exchange.{Handed};
@@ -19,7 +19,6 @@ use decoder::numbers::{number_of, offset_of};
 use host::Exchange;
 use machine::numbers::refused_number;
 use machine::{Answer, Head};
-use moves::Buffers;
 use play::input::MAX_ANSWER;
 use play::records::{MAX_CLOSE_TEXT, sheet_text};
 use sheet::MAX_SHEET;
@@ -101,21 +100,29 @@ fn refuse_sheet(
 }
 
 // The close of a run: its sheet, or the sheet's refusal.
+// Stays: the buffers are six slices (a); `Buffers` has what a move writes as `&mut`, and a close only reads.
 pub fn close(
     rt: &(impl Print + Eprint),
     output: Output,
     head: Head,
-    run: &Buffers<'_>,
+    plan: &[u64],
+    keys: &[u64],
+    cells: &[i64],
+    status: &[u64],
+    seats: &[u64],
+    frames: &[i64],
     x: Exchange,
     transcript: &mut [u8],
 ) -> Exchange
-    ensures text { Handed transcript.old x (printed_close output (run_of head run.now)) transcript.new result }
+    ensures text { Handed transcript.old x
+        (printed_close output
+        (lent head plan.now keys.now cells.now status.now seats.now
+        frames.now))
+        transcript.new result }
     ensures received { result.received ≡ x.received }
 {
     let mut bytes = [0u8; MAX_SHEET];
-    match sheet(
-        head, run.plan, run.keys, run.cells, run.status, run.seats, run.frames, &mut bytes,
-    ) {
+    match sheet(head, plan, keys, cells, status, seats, frames, &mut bytes) {
         Ok(n) => print_sheet(rt, output, x, &bytes[..n], transcript),
         Err(why) => refuse_sheet(rt, output, why, x, transcript),
     }

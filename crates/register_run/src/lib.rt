@@ -202,7 +202,19 @@ fn finish(
     let mut answers = [0u8; MAX_ANSWER];
     let p = play_end(s, block, run, &mut answers);
     let after = say(rt, output, x, &answers[..p.length], transcript);
-    close(rt, output, p.session.head, run, after, transcript)
+    close(
+        rt,
+        output,
+        p.session.head,
+        run.plan,
+        run.keys,
+        &mut *run.cells,
+        &mut *run.status,
+        &mut *run.seats,
+        &mut *run.frames,
+        after,
+        transcript,
+    )
 }
 
 // A block that is opened, run with at most `limit` bytes of input and closed.
