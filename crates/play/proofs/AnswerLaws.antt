@@ -2,7 +2,7 @@
 use Rattle.std.specs.Prelude.{None, Option, Some, Result, Ok, Err}
 use mathlib.Core.Path.{◌≡◌, refl, ap, ◌∙◌}
 use mathlib.Core.Bool.{false, false≢true}
-use mathlib.Core.List.{List}
+use mathlib.Core.List.{List, [], ◌∷◌}
 use Prim.Native.Nat.{ℕ}
 use Rattle.wire.specs.Bytes.{stored}
 use Rattle.schedule.specs.declared.Move.{Move}
@@ -14,10 +14,11 @@ use Rattle.machine.specs.declared.Answer.TheVariants.{Damaged, NoWorker, NoCall,
 use Rattle.moves.specs.Lent.{moved, moved_by}
 use Rattle.std.specs.Result.{is_ok, result_unwrap_or}
 use Rattle.machine.specs.declared.Head.{Head}
+use Rattle.wire.specs.Decimal.{line_feed}
 use Rattle.text.specs.Lines.{refused_text}
 use Rattle.text.specs.Written.{Written}
 use Rattle.console.specs.Line.{is_empty, line_move}
-use Rattle.console.specs.Register.{answer_text, next_number, after_move, play_move, play_line, play_end}
+use Rattle.console.specs.Register.{answer_text, next_number, after_move, play_move, play_line, play_end, play_bytes, play_byte}
 use Rattle.console.specs.declared.Line.{Line}
 use Rattle.console.specs.declared.Line.TheVariants.{Empty, Named, Spaced, First, Between, Second, Malformed}
 use Rattle.play.specs.Shown.{Shown, fresh_session, shown, shown_from}
@@ -78,8 +79,8 @@ pub end_empty : (block : List ℕ) (number : ℕ) (line : Line) (run : Run) (out
 unfolding play_end is_empty stored
 end_empty block number line run out e = rw e refl
 
--- Every other rest is a line.
+-- Every other rest is played as a line feed behind it would play it.
 pub end_line : (block : List ℕ) (number : ℕ) (line : Line) (run : Run) (out : List ℕ) → (line ≡ Empty → ⊥)
-    → {w : Shown} → w ≡ shown out 0 (play_line block (fresh_session number line run)) → w ≡ shown out 0 (play_end block (fresh_session number line run))
-unfolding play_end
+    → {w : Shown} → w ≡ shown out 0 (play_bytes block (fresh_session number line run) (line_feed ∷ [])) → w ≡ shown out 0 (play_end block (fresh_session number line run))
+unfolding play_end play_bytes play_byte
 end_line block number line run out h e = rw (not_empty line h) e
