@@ -64,7 +64,9 @@ module _ (b : Block) (c : Call) where
       at = place b.functions c
 
       chosen : words_of (code_at_place (layout_for b) (cond (ltb at (length (map numbers_of b.functions))) (Some at) None)) ≡ words_of (code_of b.functions at)
-      chosen = rw (length-map b.functions numbers_of) (go (ltb at (length b.functions)))
+      chosen =
+          ap (λ (n : ℕ). words_of (code_at_place (layout_for b) (cond (ltb at n) (Some at) None))) (length-map b.functions numbers_of)
+          ∙ go (ltb at (length b.functions))
         where
           go : (b' : Bool) → words_of (code_at_place (layout_for b) (cond b' (Some at) None))
               ≡ words_of (if b' then record { start = (get_or (map numbers_of b.functions) at no_numbers).start; length = (get_or (map numbers_of b.functions) at no_numbers).size + 1 } else noCode)
