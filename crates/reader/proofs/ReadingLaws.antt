@@ -9,7 +9,7 @@ use borrow.Author.Tests.{lt-ltb, le-ltb}
 use Rattle.std.specs.Prelude.{Result, Ok, Err, IsErrAnd}
 use Rattle.arith.specs.Balance.{total}
 use Rattle.wire.specs.Bytes.{repeated, padded}
-use Rattle.block.specs.Record.{Function, Block, function_id}
+use Rattle.block.specs.Record.{Block}
 use Rattle.block.specs.Reader.{Read, Reading, accepted, refused, due, ended, empty_block, balances, read_record, read_from, read_block}
 use Rattle.block.proofs.ReaderLaws.{Reached, Right, reached_start}
 use Rattle.block.proofs.ReaderRight.{right_record}

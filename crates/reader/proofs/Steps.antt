@@ -162,7 +162,7 @@ module _ (p : Progress) (b : Block) (h : NumbersOfBlock p b) (len : ℕ) (body :
                     };
               },
               map-append numbers_of b.functions (f ∷ [])
-              ∙ ap (λ (n : ℕ). map numbers_of b.functions ++ (record { id = n; start = p.at + 4 + 4; size = (len - 4) / 8 } ∷ [])) id_is,
+                  ∙ ap (λ (n : ℕ). map numbers_of b.functions ++ (record { id = n; start = p.at + 4 + 4; size = (len - 4) / 8 } ∷ [])) id_is,
             )
 
 -- ---- the sum of balances
