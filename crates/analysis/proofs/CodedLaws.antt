@@ -1,4 +1,4 @@
--- Laws of the codes that a layout's tables tell: they are those of the block's functions, and so are the sets of their calls.
+-- Laws of the codes that a layout's table tells: they are those of the block's functions, and so are the sets of their calls.
 use mathlib.Core.Path.{◌≡◌, refl, sym, ap, ap₂, ◌∙◌}
 use mathlib.Core.Bool.{Bool, true, false, not, cond}
 use mathlib.Core.List.{List, [], ◌∷◌, map}
@@ -18,7 +18,8 @@ use Rattle.footprint.specs.Access.{entry_accesses}
 use Rattle.footprint.specs.Plan.{code_words}
 use Rattle.footprint.specs.Sets.{merge_all, code_accesses, function_sets}
 use Rattle.block.specs.Naming.{function_of}
-use Rattle.reader.specs.Layout.{table, layout_for}
+use Rattle.reader.specs.Layout.{numbers_of, no_numbers, table, layout_for}
+use Rattle.reader.specs.declared.FunctionAt.{FunctionAt}
 use Rattle.analysis.specs.declared.Code.{Code}
 use Rattle.analysis.specs.Coded.{words_of, noCode, id_place, code_at_place, code_in, code_sets}
 use Rattle.arith.proofs.ChoiceLaws.{if_true, if_false}
@@ -28,11 +29,11 @@ use Rattle.arith.proofs.ChoiceLaws.{if_true, if_false}
 -- A code by the place of its function.
 code_of : List Function → ℕ → Code
 code_of fs at =
-    if ltb at (length fs) then record { start = get_or (map (λ f. f.start) fs) at 0; length = get_or (map (λ f. f.size) fs) at 0 + 1 } else noCode
+    if ltb at (length fs) then record { start = (get_or (map numbers_of fs) at no_numbers).start; length = (get_or (map numbers_of fs) at no_numbers).size + 1 } else noCode
 
 -- The place of the function that a call names.
 abbrev place : List Function → Call → ℕ
-place fs c = position_or_len (λ i. eqb i (call_id c)) (map function_id fs)
+place fs c = position_or_len (λ n. eqb n.id (call_id c)) (map numbers_of fs)
 
 code_by_place : (fs : List Function) (c : Call) → words_of (code_of fs (place fs c)) ≡ code_words (function_of fs c)
 unfolding code_of function_of code_words
@@ -45,13 +46,13 @@ code_by_place (f ∷ fs) c = go (eqb (function_id f) (call_id c)) (code_by_place
     go false ih = let one : 1 + place fs c ≡ suc (place fs c) = omega arith in rw (one, leb-suc-suc (suc (place fs c)) (length fs)) ih
 
 module _ (b : Block) (c : Call) where
-  place_found : id_place (take (length b.functions) (table function_id b.functions)) (call_id c) ≡ id_place (map function_id b.functions) (call_id c)
+  place_found : id_place (take (length b.functions) (table b.functions)) (call_id c) ≡ id_place (map numbers_of b.functions) (call_id c)
   place_found =
-      ap (λ (ids : List ℕ). id_place ids (call_id c))
-      (ap (λ (n : ℕ). take n (table function_id b.functions)) (sym (length-map b.functions function_id))
-      ∙ take-append_seam (map function_id b.functions) _)
+      ap (λ (fs : List FunctionAt). id_place fs (call_id c))
+      (ap (λ (n : ℕ). take n (table b.functions)) (sym (length-map b.functions numbers_of))
+      ∙ take-append_seam (map numbers_of b.functions) _)
 
-  -- The code that the tables tell is that of the function that the call names.
+  -- The code that the table tells is that of the function that the call names.
   pub code_found : words_of (code_in (layout_for b) (call_id c)) ≡ code_words (function_of b.functions c)
   unfolding code_in code_of
   code_found =
@@ -62,18 +63,16 @@ module _ (b : Block) (c : Call) where
       at : ℕ
       at = place b.functions c
 
-      ids : List ℕ
-      ids = map function_id b.functions
-
-      chosen : words_of (code_at_place (layout_for b) (cond (ltb at (length ids)) (Some at) None)) ≡ words_of (code_of b.functions at)
-      chosen = rw (length-map b.functions function_id) (go (ltb at (length b.functions)))
+      chosen : words_of (code_at_place (layout_for b) (cond (ltb at (length (map numbers_of b.functions))) (Some at) None)) ≡ words_of (code_of b.functions at)
+      chosen =
+          ap (λ (n : ℕ). words_of (code_at_place (layout_for b) (cond (ltb at n) (Some at) None))) (length-map b.functions numbers_of)
+          ∙ go (ltb at (length b.functions))
         where
           go : (b' : Bool) → words_of (code_at_place (layout_for b) (cond b' (Some at) None))
-              ≡ words_of (if b' then record { start = get_or (map (λ f. f.start) b.functions) at 0; length = get_or (map (λ f. f.size) b.functions) at 0 + 1 } else noCode)
+              ≡ words_of (if b' then record { start = (get_or (map numbers_of b.functions) at no_numbers).start; length = (get_or (map numbers_of b.functions) at no_numbers).size + 1 } else noCode)
           go true =
-              ap₂ (λ (s n : ℕ). words_of (record { start = s; length = n + 1 }))
-              (padded_at 64 0 (map (λ f. f.start) b.functions) at)
-              (padded_at 64 0 (map (λ f. f.size) b.functions) at)
+              ap (λ (f : FunctionAt). words_of (record { start = f.start; length = f.size + 1 }))
+              (padded_at 64 no_numbers (map numbers_of b.functions) at)
           go false = refl
 
 -- ---- the set of a call

@@ -12,6 +12,7 @@ use Rattle.block.specs.Record.{call_of, code_at}
 use Rattle.block.specs.declared.Call.{Call}
 use Rattle.footprint.specs.Access.{Access, entry_accesses}
 use Rattle.footprint.specs.Sets.{merge_all, code_accesses}
+use Rattle.reader.specs.Layout.{no_numbers}
 use Rattle.reader.specs.declared.Layout.{Layout}
 use Rattle.analysis.specs.declared.Code.{Code}
 use Rattle.analysis.specs.Coded.{Narrow, noCode, id_place, code_from, code_at_place, code_in, code_sets}
@@ -20,20 +21,20 @@ use Rattle.arith.proofs.ChoiceLaws.{if_true, if_false}
 -- ---- the code of a call
 
 module _ (l : Layout) (id : ℕ) where
-  pub code_there : {at : ℕ} → Some at ≡ id_place (take l.functions l.ids) id → code_from l at ≡ code_in l id
+  pub code_there : {at : ℕ} → Some at ≡ id_place (take l.functions l.table) id → code_from l at ≡ code_in l id
   unfolding code_in
   code_there place = ap (code_at_place l) place
 
-  pub code_none : None ≡ id_place (take l.functions l.ids) id → noCode ≡ code_in l id
+  pub code_none : None ≡ id_place (take l.functions l.table) id → noCode ≡ code_in l id
   unfolding code_in
   code_none place = ap (code_at_place l) place
 
 pub code_short : (l : Layout) (id : ℕ) {code : Code} → Narrow l → code ≡ code_in l id → code.length ≤ max_code + 1
 unfolding code_in
-code_short l id {code} narrow e = rw e (go (id_place (take l.functions l.ids) id))
+code_short l id {code} narrow e = rw e (go (id_place (take l.functions l.table) id))
   where
     go : (at : Option ℕ) → (code_at_place l at).length ≤ max_code + 1
-    go (Some at) = let few : get_or l.sizes at 0 ≤ max_code = narrow.sizes at in omega arith
+    go (Some at) = let few : (get_or l.table at no_numbers).size ≤ max_code = narrow.sizes at in omega arith
     go None = omega arith
 
 -- What stands at a call's place.

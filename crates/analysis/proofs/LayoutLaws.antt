@@ -21,6 +21,7 @@ use Rattle.block.specs.declared.Refusal.TheVariants.{InputTooLong}
 use Rattle.footprint.specs.Plan.{code_words}
 use Rattle.footprint.specs.Sets.{sets_of}
 use Rattle.block.specs.Naming.{function_of}
+use Rattle.reader.specs.Layout.{numbers_of, no_numbers}
 use Rattle.reader.specs.declared.Layout.{Layout}
 use Rattle.analysis.specs.Coded.{Narrow, words_of, code_in, code_sets}
 use Rattle.analysis.proofs.CodedLaws.{code_found, code_sets_lem}
@@ -40,17 +41,17 @@ accepted_short file b e = go (ltb max_bytes (length file)) refl e
     go false short f = ltb-false max_bytes (length file) short
 
 -- The sizes of a block's functions keep the limit, also past the last of them.
-sizes_few : (file : List ℕ) (b : Block) → BlockLaws file b → (i : ℕ) → get_or (map (λ f. f.size) b.functions) i 0 ≤ max_code
+sizes_few : (file : List ℕ) (b : Block) → BlockLaws file b → (i : ℕ) → (get_or (map numbers_of b.functions) i no_numbers).size ≤ max_code
 sizes_few file b laws i = go (dec_lt i (length b.functions))
   where
     no_function : Function
     no_function = record { contract = record { 0 = 0 }; number = 0; start = 0; size = 0 }
 
-    go : Dec (i < length b.functions) → get_or (map (λ f. f.size) b.functions) i 0 ≤ max_code
-    go (yes h) = rw (map_at (λ f. f.size) b.functions i no_function 0 h) (laws.codes i no_function h).few
+    go : Dec (i < length b.functions) → (get_or (map numbers_of b.functions) i no_numbers).size ≤ max_code
+    go (yes h) = rw (map_at numbers_of b.functions i no_function no_numbers h) (laws.codes i no_function h).few
     go (no h) =
-        let past : length (map (λ f. f.size) b.functions) ≤ i = simp length-map (omega arith) in
-        rw (get_or-eq_default (map (λ f. f.size) b.functions) 0 {n = i} past) (omega arith)
+        let past : length (map numbers_of b.functions) ≤ i = simp length-map (omega arith) in
+        rw (get_or-eq_default (map numbers_of b.functions) no_numbers {n = i} past) (omega arith)
 
 -- A cell and a call that stand for those past the end.
 pub no_cell : Cell
@@ -71,7 +72,7 @@ module _ (file : List ℕ) (l : Layout) (laid : LayoutOfBlock file l) where
       subst⁻¹ Narrow laid.layout
       (record {
         functions = laid_whole.laws.function_limit;
-        sizes = λ i. rw (padded_at {A = ℕ} 64 0 (map (λ f. f.size) block.functions) i) (sizes_few file block laid_whole.laws i);
+        sizes = λ i. rw (padded_at 64 no_numbers (map numbers_of block.functions) i) (sizes_few file block laid_whole.laws i);
       })
 
   pub laid_first : l.first_call ≡ (block_of file).first_call
@@ -126,7 +127,7 @@ module _ (file : List ℕ) (l : Layout) (laid : LayoutOfBlock file l) where
           let same : Some c ≡ Some (get_or block.calls j c) = sym f ∙ e ∙ body_at c in
           cc
 
-      -- The code that the tables tell of it is that of the function that call j names.
+      -- The code that the table tells of it is that of the function that call j names.
       pub call_coded : words_of (code_in l (call_id c)) ≡ code_words (function_at file j)
       call_coded =
           ap (λ (m : Layout). words_of (code_in m (call_id c))) laid.layout

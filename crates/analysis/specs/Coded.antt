@@ -1,4 +1,4 @@
--- The code of the function that a call names, as the tables of a layout tell it, and the set of a call of a code.
+-- The code of the function that a call names, as the table of a layout tells it, and the set of a call of a code.
 use Rattle.std.specs.Prelude.{List, [], ◌∷◌, ℕ, ◌+◌, ◌-◌, ◌≤◌, eqb, get_or, take, position, Option}
 use Rattle.std.specs.declared.option.Option.TheVariants.{None, Some}
 use Rattle.std.specs.Prelude.{if◌then◌else◌}
@@ -7,6 +7,8 @@ use Rattle.block.specs.Record.{code_at}
 use Rattle.block.specs.declared.Call.{Call}
 use Rattle.footprint.specs.Access.{Access, entry_accesses}
 use Rattle.footprint.specs.Sets.{merge_all, code_accesses}
+use Rattle.reader.specs.Layout.{no_numbers}
+use Rattle.reader.specs.declared.FunctionAt.{FunctionAt}
 use Rattle.reader.specs.declared.Layout.{Layout}
 use Rattle.analysis.specs.declared.Code.{Code}
 
@@ -17,13 +19,13 @@ words_of code = code.start ∷ code.length ∷ []
 abbrev pub noCode : Code
 noCode = record { start = 0; length = 0 }
 
--- The place of an id.
-abbrev pub id_place : List ℕ → ℕ → Option ℕ
-id_place ids id = position (λ i. eqb i id) ids
+-- The place of the function with an id.
+abbrev pub id_place : List FunctionAt → ℕ → Option ℕ
+id_place table id = position (λ f. eqb f.id id) table
 
--- The code at a place of the tables.
+-- The code at a place of the table.
 abbrev pub code_from : Layout → ℕ → Code
-code_from l at = record { start = get_or l.starts at 0; length = get_or l.sizes at 0 + 1 }
+code_from l at = record { start = (get_or l.table at no_numbers).start; length = (get_or l.table at no_numbers).size + 1 }
 
 abbrev pub code_at_place : Layout → Option ℕ → Code
 code_at_place l None = noCode
@@ -31,7 +33,7 @@ code_at_place l (Some at) = code_from l at
 
 -- The code of the function with an id.
 unfoldable pub code_in : Layout → ℕ → Code
-code_in l id = code_at_place l (id_place (take l.functions l.ids) id)
+code_in l id = code_at_place l (id_place (take l.functions l.table) id)
 
 -- The set of a call of a code.
 unfoldable pub code_sets : List ℕ → Code → Call → List Access
@@ -45,4 +47,4 @@ code_sets file code c =
 -- The numbers of a layout's functions are those that the limits allow.
 pub record Narrow (l : Layout) : Type 0 where
   pub functions : l.functions ≤ max_functions
-  pub sizes : (i : ℕ) → get_or l.sizes i 0 ≤ max_code
+  pub sizes : (i : ℕ) → (get_or l.table i no_numbers).size ≤ max_code

@@ -22,7 +22,7 @@ use block::limits::MAX_KEYS;
 use block::{Call, Refusal};
 use decoder::part::{from, long, short};
 use decoder::record::{call_at, code_at, high_of, id_of};
-use reader::Layout;
+use reader::{FunctionAt, Layout};
 
 // The code of an unknown function.
 const NO_CODE: Code = Code {
@@ -30,23 +30,23 @@ const NO_CODE: Code = Code {
     length: 0,
 };
 
-// The place of an id.
-fn id_place(ids: &[u64], id: u64) -> Option<usize>
-    ensures { result ≡ id_place ids.now id }
+// The place of the function with an id.
+fn id_place(table: &[FunctionAt], id: u64) -> Option<usize>
+    ensures { result ≡ id_place table.now id }
 {
-    ids.iter().position(|i| *i == id)
+    table.iter().position(|f| f.id == id)
 }
 
-// The code of the function that a call names, from the layout's tables.
+// The code of the function that a call names, from the layout's table.
 fn code_of(l: Layout, c: Call) -> Code
     requires { Narrow l }
     ensures { result ≡ code_in l (call_id c) }
 {
     let contract = c.contract;
-    match id_place(&l.ids[..l.functions], id_of(contract, c.function)) {
+    match id_place(&l.table[..l.functions], id_of(contract, c.function)) {
         Some(at) => Code {
-            start: l.starts[at] as u64,
-            length: l.sizes[at] as u64 + 1,
+            start: l.table[at].start as u64,
+            length: l.table[at].size as u64 + 1,
         },
         None => NO_CODE,
     }

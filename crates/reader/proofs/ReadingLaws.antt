@@ -1,4 +1,4 @@
--- The reader's loop: its numbers and tables stand for a block from which the definition reads on to what it makes of the whole file.
+-- The reader's loop: its numbers and its table stand for a block from which the definition reads on to what it makes of the whole file.
 use mathlib.Core.Path.{◌≡◌, refl, sym, ◌∙◌, ap, subst}
 use mathlib.Core.List.{List, [], ◌∷◌, ◌++◌, map, append_assoc}
 use Prim.Native.Nat.{ℕ, zero, suc, ◌+◌, ◌-◌, ◌<◌, ◌≤◌}
@@ -9,36 +9,37 @@ use borrow.Author.Tests.{lt-ltb, le-ltb}
 use Rattle.std.specs.Prelude.{Result, Ok, Err, IsErrAnd}
 use Rattle.arith.specs.Balance.{total}
 use Rattle.wire.specs.Bytes.{repeated, padded}
-use Rattle.block.specs.Record.{Function, Block, function_id}
+use Rattle.block.specs.Record.{Block}
 use Rattle.block.specs.Reader.{Read, Reading, accepted, refused, due, ended, empty_block, balances, read_record, read_from, read_block}
 use Rattle.block.proofs.ReaderLaws.{Reached, Right, reached_start}
 use Rattle.block.proofs.ReaderRight.{right_record}
-use Rattle.reader.specs.Layout.{table, layout_of}
-use Rattle.reader.specs.Standing.{floor_of, NumbersOfBlock, MovedOn, TurnFollows}
+use Rattle.reader.specs.Layout.{numbers_of, no_numbers, table, layout_of}
+use Rattle.reader.specs.Standing.{floor_of, NumbersOfBlock, MovedOn, Added, TurnFollows}
+use Rattle.reader.specs.declared.FunctionAt.{FunctionAt}
 use Rattle.reader.specs.declared.Layout.{Layout}
 use Rattle.block.specs.declared.Refusal.{Refusal}
 use Rattle.block.specs.declared.Refusal.TheVariants.{InputTooLong}
 use Rattle.reader.specs.declared.Progress.{Progress}
 use Rattle.reader.specs.declared.Turn.TheVariants.{More, Function as AddFunction, End}
 
--- ---- tables
+-- ---- the table
 
 -- One more entry is stored behind the others.
-pub table_more : (n : ℕ) (l : List ℕ) (x : ℕ) → length l < n → set (padded n 0 l) (length l) x ≡ padded n 0 (l ++ (x ∷ []))
+table_more : {A : Type 0} (n : ℕ) (z : A) (l : List A) (x : A) → length l < n → set (padded n z l) (length l) x ≡ padded n z (l ++ (x ∷ []))
 unfolding repeated
-table_more n l x h =
+table_more n z l x h =
     let e : n - length l ≡ suc (n - (length l + 1)) = omega arith in
     let f : n - length (l ++ (x ∷ [])) ≡ n - (length l + 1) = omega (arith, length-append l (x ∷ [])) in
-    ap (λ (m : ℕ). set (l ++ replicate m 0) (length l) x) e
-    ∙ set-append_seam l 0 (replicate (n - (length l + 1)) 0) x
-    ∙ sym (append_assoc l (x ∷ []) (replicate (n - (length l + 1)) 0))
-    ∙ ap (λ (m : ℕ). (l ++ (x ∷ [])) ++ replicate m 0) (sym f)
+    ap (λ (m : ℕ). set (l ++ replicate m z) (length l) x) e
+    ∙ set-append_seam l z (replicate (n - (length l + 1)) z) x
+    ∙ sym (append_assoc l (x ∷ []) (replicate (n - (length l + 1)) z))
+    ∙ ap (λ (m : ℕ). (l ++ (x ∷ [])) ++ replicate m z) (sym f)
 
-stored_entry : (f : Function → ℕ) (b b' : Block) (t : List ℕ) (n x : ℕ) → t ≡ table f b.functions → n ≡ length b.functions → n < 64
-    → map f b'.functions ≡ map f b.functions ++ (x ∷ []) → set t n x ≡ table f b'.functions
-stored_entry f b b' t n x e k h g =
-    let m : length (map f b.functions) ≡ n = length-map b.functions f ∙ sym k in
-    rw (e, g) (ap (λ (i : ℕ). set (padded 64 0 (map f b.functions)) i x) (sym m) ∙ table_more 64 (map f b.functions) x (omega arith))
+stored_entry : (b b' : Block) (t : List FunctionAt) (n : ℕ) (x : FunctionAt) → t ≡ table b.functions → n ≡ length b.functions → n < 64
+    → Added b b' x → set t n x ≡ table b'.functions
+stored_entry b b' t n x e k h g =
+    let m : length (map numbers_of b.functions) ≡ n = length-map b.functions numbers_of ∙ sym k in
+    rw (e, g) (ap (λ (i : ℕ). set (padded 64 no_numbers (map numbers_of b.functions)) i x) (sym m) ∙ table_more 64 no_numbers (map numbers_of b.functions) x (omega arith))
 
 -- ---- a file that is not too long, and one that is
 
@@ -60,12 +61,10 @@ pub record ReaderStands (file : List ℕ) (p : Progress) (b : Block) : Type 0 wh
   pub reached : Reached file p.kind p.at (drop p.at file) b
   pub holds : NumbersOfBlock p b
 
-pub record ReadingOn (file ids starts sizes : List ℕ) (p : Progress) : Type 0 where
+pub record ReadingOn (file : List ℕ) (t : List FunctionAt) (p : Progress) : Type 0 where
   pub b : Block
   pub stands : ReaderStands file p b
-  pub id_table : ids ≡ table function_id b.functions
-  pub start_table : starts ≡ table (λ f. f.start) b.functions
-  pub size_table : sizes ≡ table (λ f. f.size) b.functions
+  pub kept : t ≡ table b.functions
 
 -- The same place by other names.
 place : (file : List ℕ) (b : Block) (k n k' n' : ℕ) (rest : List ℕ) → k' ≡ k → n' ≡ n → rest ≡ drop n file
@@ -121,51 +120,49 @@ module _ (file : List ℕ) (p : Progress) (b : Block) (s : ReaderStands file p b
       omega arith
 
 -- The loop after one more record: fewer bytes are left.
-pub record Advanced (file ids starts sizes : List ℕ) (p q : Progress) : Type 0 where
-  pub going : ReadingOn file ids starts sizes q
+pub record Advanced (file : List ℕ) (t : List FunctionAt) (p q : Progress) : Type 0 where
+  pub going : ReadingOn file t q
   pub less : length file - q.at < length file - p.at
 
-module _ (file ids starts sizes : List ℕ) (p : Progress) (g : ReadingOn file ids starts sizes p) where
+module _ (file : List ℕ) (kept : List FunctionAt) (p : Progress) (g : ReadingOn file kept p) where
   abbrev turn : Reading
   turn = read_record (length file) p.kind p.at (drop p.at file) g.b
 
-  pub reading_more : (q : Progress) → TurnFollows p g.b (Ok (More q)) turn → Advanced file ids starts sizes p q
+  pub reading_more : (q : Progress) → TurnFollows p g.b (Ok (More q)) turn → Advanced file kept p q
   reading_more q t = go turn refl t
     where
-      go : (r : Reading) → turn ≡ r → TurnFollows p g.b (Ok (More q)) r → Advanced file ids starts sizes p q
+      go : (r : Reading) → turn ≡ r → TurnFollows p g.b (Ok (More q)) r → Advanced file kept p q
       go (due k n rest b') e t =
           record {
             going =
                 record {
                   b = b';
                   stands = advance file p g.b g.stands q k n rest b' e t.0;
-                  id_table = g.id_table ∙ ap (table function_id) (sym t.1);
-                  start_table = g.start_table ∙ ap (table (λ f. f.start)) (sym t.1);
-                  size_table = g.size_table ∙ ap (table (λ f. f.size)) (sym t.1);
+                  kept = g.kept ∙ ap table (sym t.1);
                 };
             less = onward file p g.b g.stands q k n rest b' e t.0;
           }
       go (ended r) e t = absurd t
 
-  module _ (q : Progress) (id start size : ℕ) (t : TurnFollows p g.b (Ok (AddFunction q id start size)) turn) where
-    -- There is room in the tables.
+  module _ (q : Progress) (f : FunctionAt) (t : TurnFollows p g.b (Ok (AddFunction q f)) turn) where
+    -- There is room in the table.
     pub going_room : p.functions < 64
     going_room = go turn refl t
       where
-        go : (r : Reading) → turn ≡ r → TurnFollows p g.b (Ok (AddFunction q id start size)) r → p.functions < 64
+        go : (r : Reading) → turn ≡ r → TurnFollows p g.b (Ok (AddFunction q f)) r → p.functions < 64
         go (due k n rest b') e t =
             let limit : length b'.functions ≤ 64 = (advance file p g.b g.stands q k n rest b' e t.0).reached.laws.function_limit in
             let count : p.functions ≡ length g.b.functions = g.stands.holds.functions in
-            let more : length (map function_id b'.functions) ≡ length (map function_id g.b.functions) + 1 =
-            ap length t.1.ids ∙ length-append (map function_id g.b.functions) (id ∷ []) in
-            omega (arith, length-map b'.functions function_id, length-map g.b.functions function_id)
+            let more : length (map numbers_of b'.functions) ≡ length (map numbers_of g.b.functions) + 1 =
+            ap length t.1 ∙ length-append (map numbers_of g.b.functions) (f ∷ []) in
+            omega (arith, length-map b'.functions numbers_of, length-map g.b.functions numbers_of)
         go (ended r) e t = absurd t
 
-    pub going_function : Advanced file (set ids p.functions id) (set starts p.functions start) (set sizes p.functions size) p q
+    pub going_function : Advanced file (set kept p.functions f) p q
     going_function = go turn refl t
       where
-        go : (r : Reading) → turn ≡ r → TurnFollows p g.b (Ok (AddFunction q id start size)) r
-            → Advanced file (set ids p.functions id) (set starts p.functions start) (set sizes p.functions size) p q
+        go : (r : Reading) → turn ≡ r → TurnFollows p g.b (Ok (AddFunction q f)) r
+            → Advanced file (set kept p.functions f) p q
         go (due k n rest b') e t =
             let count : p.functions ≡ length g.b.functions = g.stands.holds.functions in
             record {
@@ -173,9 +170,7 @@ module _ (file ids starts sizes : List ℕ) (p : Progress) (g : ReadingOn file i
                   record {
                     b = b';
                     stands = advance file p g.b g.stands q k n rest b' e t.0;
-                    id_table = stored_entry function_id g.b b' ids p.functions id g.id_table count going_room t.1.ids;
-                    start_table = stored_entry (λ f. f.start) g.b b' starts p.functions start g.start_table count going_room t.1.starts;
-                    size_table = stored_entry (λ f. f.size) g.b b' sizes p.functions size g.size_table count going_room t.1.sizes;
+                    kept = stored_entry g.b b' kept p.functions f g.kept count going_room t.1;
                   };
               less = onward file p g.b g.stands q k n rest b' e t.0;
             }
@@ -198,13 +193,13 @@ module _ (file ids starts sizes : List ℕ) (p : Progress) (g : ReadingOn file i
 
   pub reading_end : TurnFollows p g.b (Ok End) turn
       → ◌≡◌ {A = Result Layout Refusal}
-      (Ok record { functions = p.functions; cells = p.cells; calls = p.calls; opening = p.opening; first_call = p.first_call; ids = ids; starts = starts; sizes = sizes })
+      (Ok record { functions = p.functions; cells = p.cells; calls = p.calls; opening = p.opening; first_call = p.first_call; table = kept })
       (layout_of (read_block file))
   unfolding layout_of
   reading_end t = all ∙ go turn refl t
     where
       all : ◌≡◌ {A = Result Layout Refusal}
-          (Ok record { functions = p.functions; cells = p.cells; calls = p.calls; opening = p.opening; first_call = p.first_call; ids = ids; starts = starts; sizes = sizes })
+          (Ok record { functions = p.functions; cells = p.cells; calls = p.calls; opening = p.opening; first_call = p.first_call; table = kept })
           (layout_of (accepted g.b))
       all =
           let h : NumbersOfBlock p g.b = g.stands.holds in
@@ -215,9 +210,7 @@ module _ (file ids starts sizes : List ℕ) (p : Progress) (g : ReadingOn file i
             calls = h.calls i;
             opening = h.opening i;
             first_call = h.first_call i;
-            ids = g.id_table i;
-            starts = g.start_table i;
-            sizes = g.size_table i;
+            table = g.kept i;
           }
 
       go : (r : Reading) → turn ≡ r → TurnFollows p g.b (Ok End) r → layout_of (accepted g.b) ≡ layout_of (read_block file)
@@ -235,7 +228,7 @@ handed_on (Err e) why h = ap (λ (w : Refusal). layout_of (refused w)) h
 pub rest_size : (file : List ℕ) (at : ℕ) → at ≤ length file → at + length (drop at file) ≡ length file
 rest_size file at h = omega (arith, length-drop at file)
 
--- The start: nothing is read, and the tables are zero.
+-- The start: nothing is read, and the table is zero.
 abbrev progress_start : Progress
 progress_start = record { kind = 0; at = 0; functions = 0; cells = 0; calls = 0; opening = 0; first_call = 0; least = 0; high = 0; low = 0; sum = 0 }
 
@@ -254,13 +247,14 @@ start_holds =
       steady = record { low = omega arith; sum = omega arith };
     }
 
-pub reading_start : (file : List ℕ) (p : Progress) → length file ≤ 65536
+pub reading_start : (file : List ℕ) (p : Progress) (z : FunctionAt) → length file ≤ 65536
     → (p.kind ≡ 0) × ((p.at ≡ 0) × ((p.functions ≡ 0) × ((p.cells ≡ 0) × ((p.calls ≡ 0) × ((p.opening ≡ 0) × ((p.first_call ≡ 0) × ((p.least ≡ 0) × ((p.high ≡ 0) × ((p.low ≡ 0) × ((p.sum ≡ 0)))))))))))
-    → ReadingOn file (repeated 64 0) (repeated 64 0) (repeated 64 0) p
-reading_start file p small h =
+    → (z.id ≡ 0) × ((z.start ≡ 0) × (z.size ≡ 0)) → ReadingOn file (repeated 64 z) p
+reading_start file p z small h n =
     let e : p ≡ progress_start =
     λ i. record { kind = h.0 i; at = h.1.0 i; functions = h.1.1.0 i; cells = h.1.1.1.0 i; calls = h.1.1.1.1.0 i; opening = h.1.1.1.1.1.0 i; first_call = h.1.1.1.1.1.1.0 i; least = h.1.1.1.1.1.1.1.0 i; high = h.1.1.1.1.1.1.1.1.0 i; low = h.1.1.1.1.1.1.1.1.1.0 i; sum = h.1.1.1.1.1.1.1.1.1.1 i } in
-    rw e (
+    let none : z ≡ no_numbers = λ i. record { id = n.0 i; start = n.1.0 i; size = n.1.1 i } in
+    rw (e, none) (
     record {
       b = empty_block;
       stands =
@@ -272,8 +266,6 @@ reading_start file p small h =
             reached = reached_start file;
             holds = start_holds;
           };
-      id_table = refl;
-      start_table = refl;
-      size_table = refl;
+      kept = refl;
     }
     )

@@ -21,6 +21,7 @@ use Rattle.block.proofs.KeyLaws.{field_of}
 use Rattle.block.specs.Instruction.{first_invalid}
 use Rattle.block.specs.Record.{Function, Cell, Block, function_id, head_bytes, function_kind, cell_kind, call_kind, cell_of, cell_allowed, call_of}
 use Rattle.block.specs.Reader.{rises, balances, read_function, read_cell, withCall, read_call}
+use Rattle.reader.specs.Layout.{numbers_of}
 use Rattle.reader.specs.Standing.{floor_of, value_allowed, NumbersOfBlock, TurnFollows}
 use Rattle.block.specs.declared.Call.{Call}
 use Rattle.block.specs.declared.Refusal.TheVariants.{BeyondLimit, Field, Code, NotRising, Balances}
@@ -139,7 +140,7 @@ module _ (p : Progress) (b : Block) (h : NumbersOfBlock p b) (len : ℕ) (body :
         unfolding f
         id_is = simp (ed, ec)
 
-        pub function_more : p.least ≤ id → TurnFollows p b (Ok (AddFunction (after_function p len id) id (p.at + 4 + 4) ((len - 4) / 8))) (read_function p.at len body b)
+        pub function_more : p.least ≤ id → TurnFollows p b (Ok (AddFunction (after_function p len id) (record { id = id; start = p.at + 4 + 4; size = (len - 4) / 8 }))) (read_function p.at len body b)
         unfolding read_function f
         function_more above =
             simp (free, is_contract, ← ei, le-ltb i ((len - 4) / 8) good, rising, le-leb p.least id above) (
@@ -160,11 +161,8 @@ module _ (p : Progress) (b : Block) (h : NumbersOfBlock p b) (len : ℕ) (body :
                       steady = record { low = h.steady.low; sum = h.steady.sum };
                     };
               },
-              record {
-                ids = map-append function_id b.functions (f ∷ []) ∙ ap (λ (n : ℕ). map function_id b.functions ++ (n ∷ [])) id_is;
-                starts = map-append (λ g. g.start) b.functions (f ∷ []);
-                sizes = map-append (λ g. g.size) b.functions (f ∷ []);
-              },
+              map-append numbers_of b.functions (f ∷ [])
+                  ∙ ap (λ (n : ℕ). map numbers_of b.functions ++ (record { id = n; start = p.at + 4 + 4; size = (len - 4) / 8 } ∷ [])) id_is,
             )
 
 -- ---- the sum of balances

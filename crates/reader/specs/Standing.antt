@@ -7,6 +7,8 @@ use Rattle.arith.specs.Exact.{signed}
 use Rattle.block.specs.Record.{Block, function_id}
 use Rattle.block.specs.Reader.{Reading, accepted, refused, due, ended, balances}
 use Rattle.block.specs.declared.Refusal.{Refusal}
+use Rattle.reader.specs.Layout.{numbers_of}
+use Rattle.reader.specs.declared.FunctionAt.{FunctionAt}
 use Rattle.reader.specs.declared.Progress.{Progress}
 use Rattle.reader.specs.declared.Turn.{Turn}
 use Rattle.reader.specs.declared.Turn.TheVariants.{More, Function as AddFunction, End}
@@ -45,18 +47,16 @@ pub record MovedOn (p q : Progress) (k n : ℕ) (b : Block) : Type 0 where
   pub later : p.at < q.at
   pub holds : NumbersOfBlock q b
 
--- One more function, by the numbers that the tables keep of it.
-pub record Added (b b' : Block) (id start size : ℕ) : Type 0 where
-  pub ids : map function_id b'.functions ≡ map function_id b.functions ++ (id ∷ [])
-  pub starts : map (λ f. f.start) b'.functions ≡ map (λ f. f.start) b.functions ++ (start ∷ [])
-  pub sizes : map (λ f. f.size) b'.functions ≡ map (λ f. f.size) b.functions ++ (size ∷ [])
+-- One more function, by the numbers that the table keeps of it.
+abbrev pub Added : (b b' : Block) → FunctionAt → Type 0
+Added b b' function = map numbers_of b'.functions ≡ map numbers_of b.functions ++ (function ∷ [])
 
 -- A turn of the reader that stood for b, or its refusal, against the definition's; a file is accepted with the block read so far.
 abbrev pub TurnFollows : Progress → Block → Result Turn Refusal → Reading → Type 0
 TurnFollows p b (Ok (More q)) (due kind at rest b') = MovedOn p q kind at b' × (b'.functions ≡ b.functions)
 TurnFollows p b (Ok (More q)) (ended r) = ⊥
-TurnFollows p b (Ok (AddFunction q id start size)) (due kind at rest b') = MovedOn p q kind at b' × Added b b' id start size
-TurnFollows p b (Ok (AddFunction q id start size)) (ended r) = ⊥
+TurnFollows p b (Ok (AddFunction q function)) (due kind at rest b') = MovedOn p q kind at b' × Added b b' function
+TurnFollows p b (Ok (AddFunction q function)) (ended r) = ⊥
 TurnFollows p b (Ok End) (due kind at rest b') = ⊥
 TurnFollows p b (Ok End) (ended (accepted b')) = b' ≡ b
 TurnFollows p b (Ok End) (ended (refused why)) = ⊥

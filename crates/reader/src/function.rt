@@ -1,4 +1,4 @@
-// A function's record: the rules of its code, and what the tables keep of it.
+// A function's record: the rules of its code, and what the table keeps of it.
 ghost use Rattle.std.specs.Prelude.{◌≡◌, drop, length, unwrap_or, IfSome, ◌+◌, ◌*◌, ◌<◌, ◌≤◌};
 ghost use Rattle.block.specs.Limits.{max_bytes};
 ghost use Rattle.block.specs.Instruction.{first_invalid, instr_bytes};
@@ -6,7 +6,7 @@ ghost use Rattle.block.specs.Record.{Block, head_bytes, function_bytes};
 ghost use Rattle.block.specs.Reader.{read_function};
 ghost use Rattle.reader.specs.Standing.{NumbersOfBlock, TurnFollows};
 
-use crate::{Progress, Turn};
+use crate::{FunctionAt, Progress, Turn};
 use block::address::address_of;
 use block::format::{FUNCTION_BYTES, FUNCTION_KIND, HEAD_BYTES, INSTR_BYTES};
 use block::limits::MAX_FUNCTIONS;
@@ -56,8 +56,6 @@ pub(crate) fn read_function(body: &[u8], len: usize, p: Progress) -> Result<Turn
     };
     Ok(Turn::Function {
         next,
-        id,
-        start,
-        size,
+        function: FunctionAt { id, start, size },
     })
 }

@@ -14,8 +14,16 @@ use crate::record::read_record;
 use block::Refusal;
 use block::limits::{MAX_BYTES, MAX_FUNCTIONS};
 
-// What the reader leaves of a file: the counts, the offsets at which its opening cells and its calls begin, and of each function its
-// id, contract * 65536 + number, and where its code starts and how many instructions it has.
+// What the reader keeps of a function: its id, contract * 65536 + number, and where its code starts and how many instructions it has.
+#[derive(Clone, Copy, Default)]
+pub struct FunctionAt {
+    pub id: u64,
+    pub start: usize,
+    pub size: usize,
+}
+
+// What the reader leaves of a file: the counts, the offsets at which its opening cells and its calls begin, and the table of its
+// functions.
 #[derive(Clone, Copy)]
 pub struct Layout {
     pub functions: usize,
@@ -23,9 +31,7 @@ pub struct Layout {
     pub calls: usize,
     pub opening: usize,
     pub first_call: usize,
-    pub ids: [u64; MAX_FUNCTIONS],
-    pub starts: [usize; MAX_FUNCTIONS],
-    pub sizes: [usize; MAX_FUNCTIONS],
+    pub table: [FunctionAt; MAX_FUNCTIONS],
 }
 
 // How far the reader has come: behind a record of a kind, at a position, with the counts and offsets of the block so far; `least` is
@@ -45,15 +51,13 @@ pub struct Progress {
     pub sum: u64,
 }
 
-// What a record leads to: the next record, behind a function with what the tables keep of it or behind another record, or the end.
+// What a record leads to: the next record, behind a function with what the table keeps of it or behind another record, or the end.
 #[derive(Clone, Copy)]
 pub enum Turn {
     More(Progress),
     Function {
         next: Progress,
-        id: u64,
-        start: usize,
-        size: usize,
+        function: FunctionAt,
     },
     End,
 }
@@ -65,22 +69,13 @@ pub fn read_block(file: &[u8]) -> Result<Layout, Refusal>
     if MAX_BYTES < file.len() {
         return Err(Refusal::InputTooLong);
     }
-    let mut ids = [0; MAX_FUNCTIONS];
-    let mut starts = [0; MAX_FUNCTIONS];
-    let mut sizes = [0; MAX_FUNCTIONS];
+    let mut table = [FunctionAt::default(); MAX_FUNCTIONS];
     let mut p = Progress::default();
     loop {
         match read_record(&file[p.at..], p)? {
             Turn::More(next) => p = next,
-            Turn::Function {
-                next,
-                id,
-                start,
-                size,
-            } => {
-                ids[p.functions] = id;
-                starts[p.functions] = start;
-                sizes[p.functions] = size;
+            Turn::Function { next, function } => {
+                table[p.functions] = function;
                 p = next;
             }
             Turn::End => {
@@ -90,9 +85,7 @@ pub fn read_block(file: &[u8]) -> Result<Layout, Refusal>
                     calls: p.calls,
                     opening: p.opening,
                     first_call: p.first_call,
-                    ids,
-                    starts,
-                    sizes,
+                    table,
                 });
             }
         }
