@@ -1,6 +1,6 @@
 -- A whole line played, its answer written, over plain variables.
 use Rattle.std.specs.Prelude.{None, Option, Some, Result, Ok, Err}
-use mathlib.Core.Path.{◌≡◌, refl, ap, ◌∙◌}
+use mathlib.Core.Path.{◌≡◌, refl, sym, ap, ◌∙◌}
 use mathlib.Core.Bool.{false, false≢true}
 use mathlib.Core.List.{List, [], ◌∷◌}
 use Prim.Native.Nat.{ℕ}
@@ -55,12 +55,12 @@ module _ (block : List ℕ) (number : ℕ) (line : Line) (run : Run) (out after 
       ∙ ap (λ (r : Moved). shown out from (after_move (fresh_session number line run) r)) made
       ∙ ap (λ (o : Option Move). shown out from (play_move block (fresh_session number line run) o)) e
 
--- The answer and the head of a move by value: what is left of the run has the head that it answered, or, refused, the head that it was lent.
-pub made_parts : (head : Head) (r : Result Head Answer) (run : Head → Run) {m : Moved} {u : Result (Unit {0}) Answer} {left : Head}
-    → ((why : Answer) → r ≡ Err why → u ≡ Err why) → is_ok u ≡ is_ok r → left ≡ result_unwrap_or r head → moved_by head r run ≡ m → moved u (run left) ≡ m
-made_parts head (Ok after) run {u = Ok tt} f v e k = ap (λ (h : Head). moved (Ok tt) (run h)) e ∙ k
-made_parts head (Ok after) run {u = Err why} f v e k = absurd (false≢true v)
-made_parts head (Err why) run f v e k = (λ i. moved (f why refl i) (run (e i))) ∙ k
+-- A move by value that is accepted, and one that is refused.
+pub made_on : (head : Head) {r : Result Head Answer} (run : Head → Run) {m : Moved} {after : Head} → r ≡ Ok after → moved_by head r run ≡ m → moved (Ok tt) (run after) ≡ m
+made_on head run is k = ap (λ (x : Result Head Answer). moved_by head x run) (sym is) ∙ k
+
+pub made_off : (head : Head) {r : Result Head Answer} (run : Head → Run) {m : Moved} {why : Answer} → r ≡ Err why → moved_by head r run ≡ m → moved (Err why) (run head) ≡ m
+made_off head run is k = ap (λ (x : Result Head Answer). moved_by head x run) (sym is) ∙ k
 
 -- At the input's end a line that is not empty is played.
 not_empty : (line : Line) → (line ≡ Empty → ⊥) → is_empty line ≡ false

@@ -69,10 +69,15 @@ fn play_line(s: Session, block: &[u8], run: &mut Buffers<'_>, out: &mut [u8], fr
             length: refused_line(out, from, s.number, 0),
         };
     };
-    let made = apply_move(s.head, block, run, m);
-    Played {
-        session: next_line(s, made.unwrap_or(s.head)),
-        length: answer_line(out, from, s.number, made.map(|_| ())),
+    match apply_move(s.head, block, run, m) {
+        Ok(head) => Played {
+            session: next_line(s, head),
+            length: answer_line(out, from, s.number, Ok(())),
+        },
+        Err(why) => Played {
+            session: next_line(s, s.head),
+            length: answer_line(out, from, s.number, Err(why)),
+        },
     }
 }
 
