@@ -1,4 +1,4 @@
-// The head of a lent run as words, and answers as numbers.
+// The head of a lent run as words, and the fixed sizes by number.
 #![tactic(auto)]
 
 pub mod answers;

@@ -12,7 +12,7 @@ use moves::Buffers;
 use opening::{clear_prepared, clear_states, open};
 use serial::serial_run;
 
-// The opening of a block, 20 if the head has too few words. The head and the buffers are zero if it is refused.
+// The opening of a block, 20 if the head has too few words: the head of its run, or the refusal, and then the buffers are zero.
 pub fn open_for(
     head_words: usize,
     file: &[u8],
