@@ -2,7 +2,7 @@
 use mathlib.Core.Path.{◌≡◌, refl, sym, ap, ◌∙◌}
 use mathlib.Core.Bool.{Bool, true, false, ◌&&◌}
 use mathlib.Core.List.{List}
-use Prim.Native.Nat.{ℕ, zero, suc, ◌+◌}
+use Prim.Native.Nat.{ℕ, zero, suc, ◌+◌, ◌-◌, ◌<◌, ◌≤◌}
 use Rattle.std.specs.List.{list_all, range_with_len}
 use native.Mathlib.Omega.{arith}
 use lib.Dec.{eqb, leb}
@@ -30,6 +30,29 @@ module _ (f p : ℕ → Bool) (none : f 0 ≡ true) (turn : (n : ℕ) → f (suc
       last : (x : Bool) → (x && true) ≡ x
       last true = refl
       last false = refl
+
+-- The same for a loop that counts down: the first `left` of them answer as all do, and the others hold.
+pub record Down (f : ℕ → Bool) (all left : ℕ) : Type 0 where
+  pub within : left ≤ all
+  pub same : f all ≡ f left
+
+module _ (f p : ℕ → Bool) (turn : (n : ℕ) → f (suc n) ≡ (p n && f n)) (all : ℕ) where
+  pub down_none : Down f all all
+  down_none = record { within = omega arith; same = refl }
+
+  here : (left : ℕ) → Down f all left → 0 < left → f all ≡ (p (left - 1) && f (left - 1))
+  here left d h = let e : left ≡ suc (left - 1) = omega arith in d.same ∙ ap f e ∙ turn (left - 1)
+
+  pub down_more : (left : ℕ) → Down f all left → 0 < left → p (left - 1) ≡ true → Down f all (left - 1)
+  down_more left d h t =
+      let w : left ≤ all = d.within in
+      record { within = omega arith; same = here left d h ∙ ap (λ (b : Bool). b && f (left - 1)) t }
+
+  pub down_stop : (left : ℕ) → Down f all left → 0 < left → p (left - 1) ≡ false → false ≡ f all
+  down_stop left d h t = sym (here left d h ∙ ap (λ (b : Bool). b && f (left - 1)) t)
+
+  pub down_all : f 0 ≡ true → (left : ℕ) → Down f all left → left ≤ 0 → true ≡ f all
+  down_all z left d h = let e : left ≡ 0 = omega arith in sym (d.same ∙ ap f e ∙ z)
 
 -- ---- the three tests
 

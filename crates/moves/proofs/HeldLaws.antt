@@ -21,10 +21,11 @@ and_right false b e = let z : ◌≡◌ {A = ℕ} 0 1 = cc in absurd (omega arit
 -- ---- the sizes
 
 module _ (s : Sizes) (large : true ≡ large_enough s) where
-  sizes : (true ≡ room_enough (room_in s)) × (true ≡ leb fixed_sizes.frames s.frames)
+  sizes : (true ≡ room_enough (room_in s)) × (true ≡ leb fixed_sizes.seats s.seats) × (true ≡ leb fixed_sizes.frames s.frames)
   unfolding large_enough
   sizes = (
     and_left (room_enough (room_in s)) (leb fixed_sizes.status s.status) (and_left (room_enough (room_in s) && leb fixed_sizes.status s.status) (leb fixed_sizes.seats s.seats) (and_left (room_enough (room_in s) && leb fixed_sizes.status s.status && leb fixed_sizes.seats s.seats) (leb fixed_sizes.frames s.frames) large)),
+    and_right (room_enough (room_in s) && leb fixed_sizes.status s.status) (leb fixed_sizes.seats s.seats) (and_left (room_enough (room_in s) && leb fixed_sizes.status s.status && leb fixed_sizes.seats s.seats) (leb fixed_sizes.frames s.frames) large),
     and_right (room_enough (room_in s) && leb fixed_sizes.status s.status && leb fixed_sizes.seats s.seats) (leb fixed_sizes.frames s.frames) large,
   )
 
@@ -36,7 +37,10 @@ module _ (s : Sizes) (large : true ≡ large_enough s) where
   unfolding room_enough
   large_keys = leb-true _ _ (sym (and_right (leb fixed_sizes.plan s.plan) _ (and_left _ _ sizes.0)))
 
-  pub large_frames : fixed_sizes.frames ≤ s.frames
-  large_frames = leb-true _ _ (sym sizes.1)
+  pub large_seats : fixed_sizes.seats ≤ s.seats
+  large_seats = leb-true _ _ (sym sizes.1)
 
-pub ruleset sizes_known = (large_plan, large_keys, large_frames)
+  pub large_frames : fixed_sizes.frames ≤ s.frames
+  large_frames = leb-true _ _ (sym sizes.2)
+
+pub ruleset sizes_known = (large_plan, large_keys, large_seats, large_frames)

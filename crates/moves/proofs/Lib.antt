@@ -1,5 +1,6 @@
--- The mathematics of the code, in the order of a move: the sizes, the entries, the waits; the lookup, an action, a step. BufferLaws is what callers cite.
+-- The mathematics of the code, in the order of a move: sizes, tests of BEGIN, entries, waits; lookup, action, step. BufferLaws is what callers cite.
 mod HeldLaws
+mod BeginLaws
 mod EntryLaws
 mod WaitCodeLaws
 mod LookupCodeLaws

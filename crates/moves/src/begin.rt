@@ -99,6 +99,7 @@ fn begin_call(
     frames: &mut [i64],
 ) -> Result<u16, Answer>
     requires plan_in_bounds { fixed_sizes.plan ≤ length plan.now }
+    requires seats_in_bounds { fixed_sizes.seats ≤ length seats.old }
     requires frames_in_bounds { fixed_sizes.frames ≤ length frames.old }
     ensures { (head : Head) (keys : List ℕ)
         → moved_by head (head_left head hold.worker result)

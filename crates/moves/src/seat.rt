@@ -7,28 +7,31 @@ use machine::layout::{FRAME_VALUES, REGISTERS, SEAT_COUNT, SEAT_WORDS};
 
 // The place of a worker's call.
 pub(crate) fn place_of(seats: &[u64], worker: usize) -> u64
-    requires { worker < max_workers }
+    requires worker_lt_max_workers { worker < max_workers }
+    requires seats_in_bounds { fixed_sizes.seats ≤ length seats.now }
     ensures { result ≡ place_in seats.now worker }
 {
-    wire::get_or(seats, SEAT_WORDS * worker, 0)
+    seats[SEAT_WORDS * worker]
 }
 
 // Its count.
 pub(crate) fn count_of(seats: &[u64], worker: usize) -> u64
-    requires { worker < max_workers }
+    requires worker_lt_max_workers { worker < max_workers }
+    requires seats_in_bounds { fixed_sizes.seats ≤ length seats.now }
     ensures { result ≡ count_in seats.now worker }
 {
-    wire::get_or(seats, SEAT_WORDS * worker + SEAT_COUNT, 0)
+    seats[SEAT_WORDS * worker + SEAT_COUNT]
 }
 
 // The place and the count, stored.
 pub(crate) fn put_seat(seats: &mut [u64], worker: usize, place: u64, count: u64)
-    requires { worker < max_workers }
+    requires worker_lt_max_workers { worker < max_workers }
+    requires seats_in_bounds { fixed_sizes.seats ≤ length seats.old }
     ensures { seats.new ≡ with_seat seats.old worker place count }
 {
     let at = SEAT_WORDS * worker;
-    wire::put(seats, at, place);
-    wire::put(seats, at + SEAT_COUNT, count);
+    seats[at] = place;
+    seats[at + SEAT_COUNT] = count;
 }
 
 // The registers of a worker's call.
@@ -38,10 +41,10 @@ pub(crate) fn regs_of(frames: &[i64], worker: usize) -> [i64; REGISTERS]
     ensures { result ≡ regs_in frames.now worker }
 {
     let at = FRAME_VALUES * worker;
-    // Stays: with copy_from_slice here and in put_regs a move takes 46 instructions more (callgrind, the block `all conflict`), 796 for 750.
+    // Stays: by index (b). With copy_from_slice here and in put_regs a move took 46 instructions more (callgrind, the block `all conflict`).
     let mut regs = [0; REGISTERS];
     for k in 0..REGISTERS {
-        regs[k] = wire::get_or(frames, at + k, 0);
+        regs[k] = frames[at + k];
     }
     regs
 }
@@ -54,6 +57,6 @@ pub(crate) fn put_regs(frames: &mut [i64], worker: usize, regs: [i64; REGISTERS]
 {
     let at = FRAME_VALUES * worker;
     for k in 0..REGISTERS {
-        wire::put(frames, at + k, regs[k]);
+        frames[at + k] = regs[k];
     }
 }

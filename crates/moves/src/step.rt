@@ -91,6 +91,7 @@ fn step_held(
     frames: &[i64],
 ) -> Option<Turn>
     requires entries_ready { EntriesReady plan.now keys.now hold.call }
+    requires seats_in_bounds { fixed_sizes.seats ≤ length seats.now }
     requires frames_in_bounds { fixed_sizes.frames ≤ length frames.now }
     ensures { (head : Head) (status : List ℕ) → start ≡ head.first_call
         → turn_settled head plan.now keys.now cells.new status seats.now frames.now hold.worker
@@ -169,6 +170,7 @@ fn settle(
     turn: Option<Turn>,
 ) -> Result<u16, Answer>
     requires plan_in_bounds { fixed_sizes.plan ≤ length plan.now }
+    requires seats_in_bounds { fixed_sizes.seats ≤ length seats.old }
     requires frames_in_bounds { fixed_sizes.frames ≤ length frames.old }
     ensures { (head : Head) (keys : List ℕ) → HoldOf head hold
         → moved_by head (head_left head hold.worker result)
@@ -189,7 +191,7 @@ fn settle(
     }
 }
 
-// STEP(worker) on a lent run and block: the answer and the head, with the cells, the status, the seats and the frames changed in place.
+// STEP(worker) on a lent run and block: the head that it leaves, or why it is refused; the cells, the status, the seats and the frames change in place.
 #[tactic(auto, using(crate::proofs::HeldLaws::sizes_known), unfolding(machine::specs::Moves::held_by, machine::specs::Moves::step_for))]
 pub fn step(
     head: Head,

@@ -1,7 +1,7 @@
 -- A whole line played, its answer written, over plain variables.
 use Rattle.std.specs.Prelude.{None, Option, Some, Result, Ok, Err}
 use mathlib.Core.Path.{◌≡◌, refl, sym, ap, ◌∙◌}
-use mathlib.Core.Bool.{false, false≢true}
+use mathlib.Core.Bool.{false}
 use mathlib.Core.List.{List, [], ◌∷◌}
 use Prim.Native.Nat.{ℕ}
 use Rattle.wire.specs.Bytes.{stored}
@@ -12,7 +12,6 @@ use Rattle.machine.specs.Moves.{Moved, move_of}
 use Rattle.machine.specs.declared.Answer.{Answer}
 use Rattle.machine.specs.declared.Answer.TheVariants.{Damaged, NoWorker, NoCall, WorkerBusy, NotWaiting, EarlierUnfinished, WorkerIdle, CallUnfinished, SheetTooLong}
 use Rattle.moves.specs.Lent.{moved, moved_by}
-use Rattle.std.specs.Result.{is_ok, result_unwrap_or}
 use Rattle.machine.specs.declared.Head.{Head}
 use Rattle.wire.specs.Decimal.{line_feed}
 use Rattle.text.specs.Lines.{refused_text}

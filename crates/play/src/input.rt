@@ -43,41 +43,33 @@ fn next_number(n: u64) -> u64
     if n < MAX_LINES { n + 1 } else { n }
 }
 
-// The next line, of which nothing is read, on a run of this head.
-fn next_line(s: Session, head: Head) -> Session
-    ensures { result ≡ record { number = next_number s.number; line = Empty; head = head } }
-{
-    Session {
-        number: next_number(s.number),
-        line: Line::Empty,
-        head,
-    }
-}
-
-// A whole line: its move, or, in no such form, nothing moved and 0 answered.
-fn play_line(s: Session, block: &[u8], run: &mut Buffers<'_>, out: &mut [u8], from: u32) -> Played
+// A whole line: its move, or, in no such form, nothing moved and 0 answered. Answers where the text ends.
+fn play_line(
+    s: &mut Session,
+    block: &[u8],
+    run: &mut Buffers<'_>,
+    out: &mut [u8],
+    from: u32,
+) -> usize
     ensures same { SameBuffers run.old run.new }
-    ensures played { shown_from result.session.number result.session.line
-        (run_of result.session.head run.new) out.new result.length
+    ensures played { shown_from s.new.number s.new.line (run_of s.new.head run.new) out.new result
         ≡ shown out.old from
         (play_line block.now
-        (fresh_session s.number s.line (run_of s.head run.old))) }
+        (fresh_session s.old.number s.old.line (run_of s.old.head run.old))) }
 {
-    let Some(m) = line_move(s.line) else {
-        return Played {
-            session: next_line(s, s.head),
-            length: refused_line(out, from, s.number, 0),
-        };
+    let number = s.number;
+    let named = line_move(s.line);
+    s.number = next_number(number);
+    s.line = Line::Empty;
+    let Some(m) = named else {
+        return refused_line(out, from, number, 0);
     };
     match apply_move(s.head, block, run, m) {
-        Ok(head) => Played {
-            session: next_line(s, head),
-            length: answer_line(out, from, s.number, Ok(())),
-        },
-        Err(why) => Played {
-            session: next_line(s, s.head),
-            length: answer_line(out, from, s.number, Err(why)),
-        },
+        Ok(head) => {
+            s.head = head;
+            answer_line(out, from, number, Ok(()))
+        }
+        Err(why) => answer_line(out, from, number, Err(why)),
     }
 }
 
@@ -101,18 +93,25 @@ pub fn play_chunk(
         (take n chunk.now)) }
 {
     let end = chunk.len().min(usize::from(n));
-    let mut played = Played {
-        session: s,
-        length: 0,
+    // Lent on as a struct of this function's own, of which the compiler knows that nothing else changes it: so each move finds the buffers where they were.
+    let mut lent = Buffers {
+        plan: run.plan,
+        keys: run.keys,
+        cells: &mut *run.cells,
+        status: &mut *run.status,
+        seats: &mut *run.seats,
+        frames: &mut *run.frames,
     };
+    let mut session = s;
+    let mut length = 0;
     for &x in &chunk[..end] {
         if x == LINE_FEED {
-            played = play_line(played.session, block, run, out, played.length as u32);
+            length = play_line(&mut session, block, &mut lent, out, length as u32);
         } else {
-            played.session.line = read_byte(played.session.line, x);
+            session.line = read_byte(session.line, x);
         }
     }
-    played
+    Played { session, length }
 }
 
 // The rest of the input, which is a line unless it is empty; a line feed ends it.

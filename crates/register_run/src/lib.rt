@@ -160,7 +160,7 @@ fn play_input(
     let mut exchange = x;
     let mut left = limit;
     // Stays: the count. A turn takes as many bytes of the limit as came, so their number is no number of turns.
-    while 0 < left && exchange.ok {
+    while 0 < left {
         let most = CHUNK.min(left as usize);
         let piece = play_some(
             rt, output, s, block, run, exchange, most, chunk, answers, transcript,
@@ -173,6 +173,9 @@ fn play_input(
                 exchange,
                 ended: true,
             };
+        }
+        if !exchange.ok {
+            break;
         }
         left -= piece.taken as u32;
     }

@@ -1,7 +1,7 @@
 -- `moves::seat::put_regs` meets its contract: each turn stores one register more.
 use borrow.Author.Rules.{rules}
 use native.Mathlib.Omega.{arith}
-use mathlib.Core.Path.{◌≡◌}
+use mathlib.Core.Path.{◌≡◌, refl}
 use lib.IntN.{pos}
 use lib.ListN.{length, get_or}
 use mir.Syntax.{w64}
@@ -20,7 +20,7 @@ loop-k-init c = stored_none _ _ _
 
 pub loop-k-preserved : goal.loop-k-preserved
 loop-k-preserved c =
-    stored_more _ _ _ _ c.loop-k.invariant (omega (arith, c.loop-k-test.true, full (goal.at.loop-k-preserved c).Start)) (pos 0) c.put.ensures
+    stored_more _ _ _ _ c.loop-k.invariant (omega (arith, c.loop-k-test.true, full (goal.at.loop-k-preserved c).Start)) (pos 0) refl
     (to_z-of_z {w = w64} {z = get_or c.args.regs c.loop-k.k (pos 0)} (search rules))
 
 pub returns : goal.returns

@@ -16,16 +16,16 @@ loop-x-preserved c =
     let l = c.loop-x in
     elim c.if-x-eq-LINE_FEED.branch [
       | then-x-eq-LINE_FEED w ↦ (
-        rw w.run-is (same_on l.invariant.0 w.play_line-played.ensures.same),
+        rw w.lent-is (same_on l.invariant.0 w.play_line-length.ensures.same),
         playing_on l.invariant.1 c.loop-x-test.true
-            ((λ i. shown_from (w.played-is i).session.number (w.played-is i).session.line (run_of (w.played-is i).session.head (w.run-is i)) (w.out-is i) (w.played-is i).length)
-            ∙ byte_feed a.block.now l.played.session.number l.played.session.line _ _ l.played.length _ w.if-x-eq-LINE_FEED.true w.play_line-played.ensures.played),
+            ((λ i. shown_from (w.session-is i).number (w.session-is i).line (run_of (w.session-is i).head (w.lent-is i)) (w.out-is i) (w.length-is i))
+            ∙ byte_feed a.block.now l.session.number l.session.line _ _ l.length _ w.if-x-eq-LINE_FEED.true w.play_line-length.ensures.played),
       )
       | else-x-eq-LINE_FEED w ↦ (
-        rw w.run-is l.invariant.0,
+        rw w.lent-is l.invariant.0,
         playing_on l.invariant.1 c.loop-x-test.true
-            ((λ i. shown_from (w.played-is i).session.number (w.played-is i).session.line (run_of (w.played-is i).session.head (w.run-is i)) (w.out-is i) (w.played-is i).length)
-            ∙ byte_read a.block.now l.played.session.number l.played.session.line _ _ l.played.length _ w.if-x-eq-LINE_FEED.false w.read_byte-played.ensures),
+            ((λ i. shown_from (w.session-is i).number (w.session-is i).line (run_of (w.session-is i).head (w.lent-is i)) (w.out-is i) (w.length-is i))
+            ∙ byte_read a.block.now l.session.number l.session.line _ _ l.length _ w.if-x-eq-LINE_FEED.false w.read_byte-session.ensures),
       )
     ]
 
@@ -33,4 +33,6 @@ pub returns-clause-played : goal.returns-clause-played
 returns-clause-played c =
     let a = c.args in
     let e : c.min-end.result ≡ min a.n (length a.chunk.now) = search rules in
-    playing_all a.block.now a.chunk.now a.n e c.loop-x-test.false c.loop-x.invariant.1
+    let h = playing_all a.block.now a.chunk.now a.n e c.loop-x-test.false c.loop-x.invariant.1 in
+    let s = c.loop-x.invariant.0 in
+    search (rules, h, s)

@@ -5,5 +5,5 @@ use Rattle.play.proofs.input.play_chunk.Given as goal
 
 abbrev pub invariant-loop-x : goal.invariant-loop-x
 invariant-loop-x l =
-    SameBuffers l.initial.run l.run
-    × Playing l.block l.x-items (shown_from l.initial.played.session.number l.initial.played.session.line (run_of l.initial.played.session.head l.initial.run) l.initial.out l.initial.played.length) l.x-index (shown_from l.played.session.number l.played.session.line (run_of l.played.session.head l.run) l.out l.played.length)
+    SameBuffers l.initial.lent l.lent
+    × Playing l.block l.x-items (shown_from l.initial.session.number l.initial.session.line (run_of l.initial.session.head l.initial.lent) l.initial.out l.initial.length) l.x-index (shown_from l.session.number l.session.line (run_of l.session.head l.lent) l.out l.length)
