@@ -56,10 +56,12 @@ fn run_next(rt: &(impl Input + Print + Eprint)) -> bool {
     let mut title = [0u8; TITLE_BYTES];
     let mut file = [0u8; FILE_BYTES];
     let mut moves = [0u8; MOVES_BYTES];
-    match print_title(rt, &mut title) {
-        Some(titled) => run_in(rt, titled, &mut file, &mut moves),
-        None => false,
-    }
+    // Where there is no title, what stands behind it is read all the same, and nothing is printed.
+    let titled = print_title(rt, &mut title).unwrap_or(Exchange {
+        ok: false,
+        ..Exchange::new()
+    });
+    run_in(rt, titled, &mut file, &mut moves)
 }
 
 fn main(rt: HostRuntime) {

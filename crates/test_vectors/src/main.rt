@@ -14,17 +14,20 @@ const MOVES_BYTES: usize = 131072;
 // Runs the next block with its moves in these buffers. Answers whether there was one and nothing failed.
 fn run_in(rt: &(impl Input + Print + Eprint), file: &mut [u8], moves: &mut [u8]) -> bool {
     let mut transcript = [0u8; 0];
-    let Ok(part) = host::read_part(rt, file) else {
-        return false;
+    let part = host::read_part(rt, file).ok();
+    let told = host::next_length(rt);
+    // What is missing is read as empty, and nothing is printed of it.
+    let x = Exchange {
+        ok: part.is_some() && told.is_some(),
+        ..Exchange::new()
     };
-    let Some(length) = host::next_length(rt) else {
-        return false;
-    };
+    let size = part.map_or(0, |part| part.length);
+    let length = told.unwrap_or(0);
     let ran = register_run::run(
         rt,
         Output::Text,
-        &file[..part.length],
-        Exchange::new(),
+        &file[..size],
+        x,
         length as u32,
         &mut transcript,
     );
